@@ -1,0 +1,125 @@
+//! The proved code, linked from its static library, beside the Rust that it must equal, in one process.
+//!
+//! A slice is two arguments here, a pointer and a count; declared as one it would pass wrongly where one register is left.
+
+use line::cases::Rng;
+
+use crate::lists::first_character;
+
+#[repr(C)]
+#[derive(Clone, Copy, Debug, PartialEq, Eq)]
+struct Decoding {
+    found: bool,
+    character: u32,
+    size: u32,
+}
+
+#[link(name = "exports", kind = "static")]
+extern "C" {
+    fn silverpoise_utf8_valid(s: *const u8, length: usize) -> bool;
+    fn silverpoise_utf8_decode(s: *const u8, length: usize, at: usize) -> Decoding;
+}
+
+fn valid(s: &[u8]) -> bool {
+    unsafe { silverpoise_utf8_valid(s.as_ptr(), s.len()) }
+}
+
+fn decode(s: &[u8], at: usize) -> Decoding {
+    unsafe { silverpoise_utf8_decode(s.as_ptr(), s.len(), at) }
+}
+
+/// What the standard library says of the character at a place.
+fn expected(s: &[u8], at: usize) -> Decoding {
+    let character = s.get(at..).and_then(first_character);
+    let (code, size) = character.map_or((0, 0), |c| (c as u32, c.len_utf8() as u32));
+    Decoding { found: character.is_some(), character: code, size }
+}
+
+/// Each of this program's own arguments: its characters, or the byte where it stops being UTF-8.
+pub fn show_arguments() -> bool {
+    for argument in std::env::args_os().skip(2) {
+        let bytes = argument.as_encoded_bytes();
+        let (mut at, mut shown) = (0, String::new());
+        loop {
+            let decoding = decode(bytes, at);
+            if !decoding.found {
+                break;
+            }
+            shown.push_str(&format!(" U+{:04X}", decoding.character));
+            at += decoding.size as usize;
+        }
+        match valid(bytes) {
+            true => println!("utf-8{shown}"),
+            false => println!("not utf-8 at byte {at}:{shown}"),
+        }
+    }
+    true
+}
+
+/// Differences found and cases tried.
+#[derive(Default)]
+pub struct Compared {
+    pub cases: u64,
+    pub differ: u64,
+}
+
+impl Compared {
+    fn differs(&mut self, what: &str, input: &[u8], ours: String, theirs: String) {
+        self.differ += 1;
+        if self.differ <= 10 {
+            println!("DIFFER {what} on {input:02x?}: ours {ours}, the Rust's {theirs}");
+        }
+    }
+
+    fn utf8(&mut self, s: &[u8], places: std::ops::RangeInclusive<usize>) {
+        self.cases += 1;
+        let theirs = std::str::from_utf8(s).is_ok();
+        if valid(s) != theirs {
+            self.differs("utf8 valid", s, valid(s).to_string(), theirs.to_string());
+        }
+        for at in places {
+            let (ours, theirs) = (decode(s, at), expected(s, at));
+            if ours != theirs {
+                self.differs("utf8 decode", s, format!("{ours:?}"), format!("{theirs:?}"));
+            }
+        }
+    }
+}
+
+/// UTF-8 against `str::from_utf8`: all sequences of up to three bytes, and `count` of four or more.
+pub fn utf8(seed: u64, count: u64) -> Compared {
+    let mut compared = Compared::default();
+    compared.utf8(&[], 0..=2);
+    for first in 0..=255u8 {
+        compared.utf8(&[first], 0..=2);
+        for second in 0..=255u8 {
+            compared.utf8(&[first, second], 0..=3);
+            for third in 0..=255u8 {
+                compared.utf8(&[first, second, third], 0..=0);
+            }
+        }
+    }
+    let mut rng = Rng::new(seed);
+    let mut bytes = [0u8; 12];
+    for k in 0..count {
+        // four bytes mostly; sometimes up to twelve, so that characters follow one another
+        let length = if k % 8 == 0 { 4 + rng.below(9) } else { 4 };
+        bytes[..length].iter_mut().for_each(|b| *b = likely_byte(&mut rng));
+        compared.utf8(&bytes[..length], 0..=length);
+    }
+    compared.utf8(&bytes, usize::MAX..=usize::MAX);
+    compared
+}
+
+/// Any byte, or one near an edge of the table, so that well-formed and nearly well-formed sequences are common.
+fn likely_byte(rng: &mut Rng) -> u8 {
+    const EDGES: [u8; 22] = [
+        0x00, 0x41, 0x7f, 0x80, 0x8f, 0x90, 0x9f, 0xa0, 0xbf, 0xc0, 0xc1, 0xc2, 0xdf, 0xe0, 0xec, 0xed, 0xef, 0xf0, 0xf1, 0xf4,
+        0xf5, 0xff,
+    ];
+    match rng.below(3) {
+        0 => rng.below(256) as u8,
+        1 => 0x80 + rng.below(0x40) as u8,
+        _ => EDGES[rng.below(EDGES.len())],
+    }
+}

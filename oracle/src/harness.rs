@@ -1,0 +1,662 @@
+//! The real bpaf on forms and sheets. Compiled as a module inside the bpaf crate, so that it sees `State` and its calls.
+//!
+//! Each node becomes the bpaf parser that it stands for. A leaf is wrapped so that tries are counted and the place of a
+//! text is known; in a probed run every node is wrapped by `Visit`, which looks at the states and the value.
+
+use std::{
+    cell::{Cell, RefCell},
+    collections::HashSet,
+    ffi::OsString,
+    marker::PhantomData,
+    ops::Range,
+    os::unix::ffi::{OsStrExt, OsStringExt},
+    rc::Rc,
+};
+
+use line::format::*;
+
+use crate::{
+    args::{Arg, Args, State},
+    error::Message,
+    meta_help::Metavar,
+    params::NamedArg,
+    positional,
+    structs::{
+        ParseCount, ParseFallback, ParseGuard, ParseLast, ParseMany, ParseOptional, ParseOrElse, ParseSome,
+    },
+    Error, Meta, Parser,
+};
+
+/// `only_once` is private to error.rs, so the file is compiled once more, beside one function that hands it out.
+#[allow(dead_code)]
+mod error_again {
+    include!("error.rs");
+
+    pub(super) fn first_of_two(args: &State, cur: usize) -> Option<usize> {
+        only_once(args, cur)
+    }
+}
+
+type Node = Box<dyn Parser<Value>>;
+
+/// The state as numbers: marks are 0 unparsed, 1 parsed, 2 + w conflict with winner w.
+#[derive(Clone, Debug, PartialEq, Eq)]
+pub struct View {
+    pub marks: Vec<u32>,
+    pub remaining: usize,
+    pub current: Option<usize>,
+    pub scope: Range<usize>,
+}
+
+impl View {
+    pub fn empty() -> View {
+        View { marks: Vec::new(), remaining: 0, current: None, scope: 0..0 }
+    }
+
+    /// Places in scope that are not parsed, counted.
+    pub fn unused(&self) -> usize {
+        self.scope.clone().filter(|k| self.marks[*k] != 1).count()
+    }
+}
+
+fn view(state: &State) -> View {
+    // marks are private: a conflict shows by the crate's own `conflict` in a scope of one place
+    let mut narrow = state.clone();
+    let mark = |place: usize| {
+        if state.present(place) == Some(false) {
+            return 1;
+        }
+        narrow.set_scope(place..place + 1);
+        narrow.conflict().map_or(0, |(_, winner)| 2 + winner as u32)
+    };
+    View {
+        marks: (0..state.items.len()).map(mark).collect(),
+        remaining: state.len(),
+        current: state.current,
+        scope: state.scope(),
+    }
+}
+
+/// What is shared by all nodes of one run: the count of tries and, if probed, the facts found broken.
+#[derive(Default)]
+struct Watch {
+    tries: Cell<u64>,
+    visits: Cell<u64>,
+    longest: Cell<usize>,
+    broken: RefCell<Vec<String>>,
+}
+
+impl Watch {
+    fn must(&self, holds: bool, what: impl FnOnce() -> String) {
+        if !holds {
+            self.broken.borrow_mut().push(what());
+        }
+    }
+
+    /// What holds of every state that a node is given or leaves.
+    fn state(&self, node: usize, state: &View) {
+        self.must(state.remaining == state.unused(), || format!("node {node}: remaining in {state:?}"));
+        let current = state.current.map_or(true, |c| state.marks.get(c) == Some(&1));
+        self.must(current, || format!("node {node}: current is no used place in {state:?}"));
+        for (place, mark) in state.marks.iter().enumerate().filter(|(_, m)| **m >= 2) {
+            let winner = *mark as usize - 2;
+            let left = winner < place && state.marks[winner] == 1;
+            self.must(left, || format!("node {node}: winner of place {place} in {state:?}"));
+        }
+    }
+
+    /// What holds of one evaluation.
+    fn evaluation(&self, node: usize, kind: Kind, given: &View, left: &View, result: &Result<Value, Error>) {
+        self.visits.set(self.visits.get() + 1);
+        self.state(node, given);
+        self.state(node, left);
+        self.must(given.scope == left.scope, || format!("node {node}: scope changed"));
+        match result {
+            Ok(value) => {
+                self.must(value.has_kind(kind), || format!("node {node}: {value:?} is not of kind {kind:?}"));
+                let idle = given.remaining == left.remaining;
+                self.must(!idle || given == left, || format!("node {node}: {given:?} became {left:?}, nothing used"));
+                self.longest.set(self.longest.get().max(value.longest_list()));
+            }
+            Err(Error(message)) => {
+                let missing = matches!(message, Message::Missing(_));
+                let used = given.remaining != left.remaining;
+                self.must(!(missing && used), || format!("node {node}: missing with something used"));
+            }
+        }
+    }
+}
+
+/// Looks at one node's evaluations.
+struct Visit {
+    node: usize,
+    kind: Kind,
+    inner: Node,
+    watch: Rc<Watch>,
+}
+
+impl Parser<Value> for Visit {
+    fn eval(&self, args: &mut State) -> Result<Value, Error> {
+        let given = view(args);
+        let result = self.inner.eval(args);
+        self.watch.evaluation(self.node, self.kind, &given, &view(args), &result);
+        result
+    }
+
+    fn meta(&self) -> Meta {
+        self.inner.meta()
+    }
+}
+
+/// A flag, argument or positional: each evaluation is a try.
+struct Leaf<P, T> {
+    inner: P,
+    value: fn(T, &State) -> Value,
+    watch: Rc<Watch>,
+    ty: PhantomData<T>,
+}
+
+impl<P: Parser<T>, T> Parser<Value> for Leaf<P, T> {
+    fn eval(&self, args: &mut State) -> Result<Value, Error> {
+        self.watch.tries.set(self.watch.tries.get() + 1);
+        let value = self.inner.eval(args)?;
+        Ok((self.value)(value, args))
+    }
+
+    fn meta(&self) -> Meta {
+        self.inner.meta()
+    }
+}
+
+fn leaf<P: Parser<T> + 'static, T: 'static>(inner: P, value: fn(T, &State) -> Value, watch: &Rc<Watch>) -> Node {
+    Box::new(Leaf { inner, value, watch: watch.clone(), ty: PhantomData })
+}
+
+fn yes_no(value: bool, _: &State) -> Value {
+    Value::YesNo(value)
+}
+
+fn number(value: u32, _: &State) -> Value {
+    Value::Number(value)
+}
+
+/// A taken text is that of the item at `current`.
+fn text(value: OsString, args: &State) -> Value {
+    let place = args.current.expect("a taken text has a place");
+    assert_eq!(args.items[place].os_str(), value, "the text of the item at `current`");
+    Value::Text(Text::Item(place))
+}
+
+/// bpaf asks for names that live as long as the program; each is kept once.
+fn intern(name: &str) -> &'static str {
+    thread_local!(static NAMES: RefCell<HashSet<&'static str>> = RefCell::new(HashSet::new()));
+    NAMES.with(|names| {
+        let mut names = names.borrow_mut();
+        if let Some(known) = names.get(name) {
+            return *known;
+        }
+        let kept: &'static str = Box::leak(name.to_owned().into_boxed_str());
+        names.insert(kept);
+        kept
+    })
+}
+
+fn utf8(form: &Form, record: usize) -> &str {
+    std::str::from_utf8(form.name(record)).expect("a checked name")
+}
+
+/// The names of a flag or argument node.
+fn named(form: &Form, node: usize) -> NamedArg {
+    let node = form.nodes[node];
+    let mut named = NamedArg { short: Vec::new(), long: Vec::new(), env: Vec::new(), help: None };
+    for record in node.p as usize..node.p as usize + node.q as usize {
+        let name = utf8(form, record);
+        match form.names[record].ty {
+            SHORT => named.short.extend(name.chars()),
+            _ => named.long.push(intern(name)),
+        }
+    }
+    named
+}
+
+/// Builds the parser of a node out of those of its children.
+struct Builder<'a> {
+    form: &'a Form,
+    kinds: Vec<Kind>,
+    watch: Rc<Watch>,
+    probe: bool,
+}
+
+impl Builder<'_> {
+    fn new(form: &Form, probe: bool) -> Builder<'_> {
+        let kinds = form.kinds().expect("a checked form");
+        Builder { form, kinds, watch: Rc::new(Watch::default()), probe }
+    }
+
+    fn node(&self, k: usize) -> Node {
+        let inner = match self.form.nodes[k].kind {
+            FLAG | ARGUMENT | POSITIONAL => self.leaf(k),
+            _ => self.combinator(k),
+        };
+        if !self.probe {
+            return inner;
+        }
+        Box::new(Visit { node: k, kind: self.kinds[k], inner, watch: self.watch.clone() })
+    }
+
+    fn leaf(&self, k: usize) -> Node {
+        let node = self.form.nodes[k];
+        let watch = &self.watch;
+        match (node.kind, node.r) {
+            (FLAG, 0) => leaf(named(self.form, k).req_flag(true), yes_no, watch),
+            (FLAG, _) => leaf(named(self.form, k).switch(), yes_no, watch),
+            (ARGUMENT, 0) => leaf(named(self.form, k).argument("A"), text, watch),
+            (ARGUMENT, 1) => leaf(named(self.form, k).argument("A").adjacent(), text, watch),
+            (ARGUMENT, 2) => leaf(named(self.form, k).argument("A"), number, watch),
+            (ARGUMENT, _) => leaf(named(self.form, k).argument("A").adjacent(), number, watch),
+            (_, 0) => match node.p {
+                0 => leaf(positional("P"), text, watch),
+                1 => leaf(positional("P").strict(), text, watch),
+                _ => leaf(positional("P").non_strict(), text, watch),
+            },
+            _ => match node.p {
+                0 => leaf(positional("P"), number, watch),
+                1 => leaf(positional("P").strict(), number, watch),
+                _ => leaf(positional("P").non_strict(), number, watch),
+            },
+        }
+    }
+
+    fn combinator(&self, k: usize) -> Node {
+        let node = self.form.nodes[k];
+        let inner = self.node(node.p as usize);
+        let catch = node.r == 1;
+        match node.kind {
+            OPTIONAL => Box::new(ParseOptional { inner, catch }.map(optional)),
+            MANY => Box::new(ParseMany { inner, catch }.map(Value::List)),
+            SOME => Box::new(ParseSome { inner, message: "some", catch }.map(Value::List)),
+            COUNT => Box::new(ParseCount { inner, ctx: PhantomData::<Value> }.map(|n| Value::Number(n as u32))),
+            LAST => Box::new(ParseLast { inner }),
+            CHOICE => Box::new(ParseOrElse { this: inner, that: self.node(node.q as usize) }),
+            FALLBACK => Box::new(ParseFallback { inner, value: self.fallback(k), value_str: String::new() }),
+            _ => {
+                let check = move |value: &Value| match value {
+                    Value::Number(n) => (node.lo..=node.hi).contains(n),
+                    other => panic!("a guard on {other:?}"),
+                };
+                Box::new(ParseGuard { inner, check, message: "guard" })
+            }
+        }
+    }
+
+    fn fallback(&self, k: usize) -> Value {
+        let node = self.form.nodes[k];
+        match self.kinds[k] {
+            Kind::Base(Base::YesNo) => Value::YesNo(node.lo == 1),
+            Kind::Base(Base::Text) => Value::Text(Text::Name(node.r as usize)),
+            _ => Value::Number(node.lo),
+        }
+    }
+
+    fn fields(&self) -> Vec<Node> {
+        self.form.fields.iter().map(|k| self.node(*k as usize)).collect()
+    }
+}
+
+fn optional(value: Option<Value>) -> Value {
+    value.map_or(Value::Absent, |v| Value::Present(Box::new(v)))
+}
+
+/// The number and place of what bpaf refuses with.
+fn refusal(message: &Message) -> Refusal {
+    match message {
+        Message::Missing(_) => Refusal::new(20),
+        Message::ParseSome(_) => Refusal::new(21),
+        Message::NoArgument(key, _) => Refusal::at(22, *key),
+        Message::StrictPos(place, _) => Refusal::at(23, *place),
+        Message::NonStrictPos(place, _) => Refusal::at(24, *place),
+        Message::ParseFailed(place, _) => Refusal { number: 25, place: *place },
+        Message::GuardFailed(place, _) => Refusal { number: 26, place: *place },
+        Message::Unconsumed(place) => Refusal::at(27, *place),
+        Message::Ambiguity(place, _) => Refusal::at(9, *place),
+        other => panic!("a message that no node gives: {other:?}"),
+    }
+}
+
+/// The message of a refusal number, for the calls on refusals.
+fn message(of: Refusal) -> Option<Message> {
+    let place = of.place.unwrap_or(0);
+    Some(match of.number {
+        9 => Message::Ambiguity(place, String::new()),
+        20 => Message::Missing(Vec::new()),
+        21 => Message::ParseSome("some"),
+        22 => Message::NoArgument(place, Metavar("A")),
+        23 => Message::StrictPos(place, Metavar("P")),
+        24 => Message::NonStrictPos(place, Metavar("P")),
+        25 => Message::ParseFailed(of.place, String::new()),
+        26 => Message::GuardFailed(of.place, "guard"),
+        27 => Message::Unconsumed(place),
+        _ => return None,
+    })
+}
+
+pub fn can_catch(of: Refusal) -> Option<bool> {
+    message(of).map(|m| m.can_catch())
+}
+
+pub fn wrong_input(of: Refusal) -> Option<bool> {
+    message(of).map(|m| m.wrong_input())
+}
+
+pub fn combine_with(first: Refusal, second: Refusal) -> Option<Refusal> {
+    Some(refusal(&message(first)?.combine_with(message(second)?)))
+}
+
+/// The letters that bpaf itself collects for the fields: of flags, of arguments.
+fn letters(fields: &[Node]) -> (Vec<char>, Vec<char>) {
+    let (mut flags, mut args) = (Vec::new(), Vec::new());
+    fields.iter().for_each(|f| f.meta().collect_shorts(&mut flags, &mut args));
+    (flags, args)
+}
+
+/// The real `construct`, and refusal 8 or 9.
+fn construct(sheet: &[Vec<u8>], flags: &[char], args: &[char]) -> (State, Option<Refusal>) {
+    let os: Vec<OsString> = sheet.iter().map(|a| OsString::from_vec(a.clone())).collect();
+    let mut err = None;
+    let state = State::construct(Args::from(&os[..]), flags, args, &mut err);
+    let refused = if state.items.len() > ITEMS { Some(Refusal::new(8)) } else { err.as_ref().map(refusal) };
+    (state, refused)
+}
+
+/// An item record: kind, adjacent, character, name offset and length, text offset and length.
+pub type Record = [u32; 7];
+
+/// Item records with offsets. bpaf's items hold copies, so each argument is split by itself once more: its items must be
+/// those of the whole, a text is the end of its argument, and a long name stands behind two dashes.
+fn records(sheet: &Sheet, state: &State, flags: &[char], args: &[char]) -> Vec<Record> {
+    let (mut out, mut start, mut operands) = (Vec::new(), 0, false);
+    for argument in &sheet.arguments {
+        if out.len() == state.items.len() {
+            break;
+        }
+        let alone: Vec<Arg> = if operands {
+            vec![Arg::PosWord(OsString::from_vec(argument.clone()))]
+        } else {
+            construct(std::slice::from_ref(argument), flags, args).0.items.to_vec()
+        };
+        operands |= argument == b"--";
+        for arg in alone {
+            assert_eq!(arg, state.items[out.len()], "an argument split by itself");
+            out.push(record(&arg, argument, start));
+        }
+        start += argument.len();
+    }
+    assert_eq!(out.len(), state.items.len(), "the items of all arguments");
+    out
+}
+
+fn record(arg: &Arg, argument: &[u8], start: usize) -> Record {
+    let bytes = arg.os_str().as_bytes();
+    assert!(argument.ends_with(bytes), "a text is the end of its argument");
+    let part = |offset: usize, length: usize| if length == 0 { (0, 0) } else { (offset as u32, length as u32) };
+    let (at, length) = part(start + argument.len() - bytes.len(), bytes.len());
+    match arg {
+        Arg::Short(c, adjacent, _) => [1, u32::from(*adjacent), *c as u32, 0, 0, at, length],
+        Arg::Long(name, adjacent, _) => {
+            assert!(argument[2..].starts_with(name.as_bytes()), "a long name stands behind two dashes");
+            let (name_at, name_length) = part(start + 2, name.len());
+            [2, u32::from(*adjacent), 0, name_at, name_length, at, length]
+        }
+        Arg::ArgWord(_) => [3, 0, 0, 0, 0, at, length],
+        Arg::Word(_) => [4, 0, 0, 0, 0, at, length],
+        Arg::PosWord(_) => [5, 0, 0, 0, 0, at, length],
+    }
+}
+
+/// All that a run shows.
+#[derive(Clone, Debug, PartialEq, Eq)]
+pub struct Run {
+    pub answer: Answer,
+    pub records: Vec<Record>,
+    pub state: View,
+    /// evaluations looked at, and the facts found broken, in a probed run
+    pub visits: u64,
+    pub broken: Vec<String>,
+}
+
+/// How much of a run is wanted besides the answer.
+#[derive(Clone, Copy, Default)]
+pub struct Wanted {
+    pub items: bool,
+    pub probe: bool,
+}
+
+/// A form and a sheet in bytes, run by the real bpaf; refusals 1 to 6 are those of `line::format`.
+pub fn run_bytes(form: &[u8], sheet: &[u8], wanted: Wanted) -> Run {
+    let checked = Form::check(form).and_then(|f| Sheet::check(sheet).map(|s| (f, s)));
+    match checked {
+        Ok((form, sheet)) => run(&form, &sheet, wanted),
+        Err(refused) => refused_run(refused),
+    }
+}
+
+fn refused_run(refused: Refusal) -> Run {
+    Run {
+        answer: Answer::refused(refused, 0),
+        records: Vec::new(),
+        state: View::empty(),
+        visits: 0,
+        broken: Vec::new(),
+    }
+}
+
+/// An accepted form on a sheet.
+pub fn run(form: &Form, sheet: &Sheet, wanted: Wanted) -> Run {
+    let builder = Builder::new(form, wanted.probe);
+    let fields = builder.fields();
+    let (flags, args) = letters(&fields);
+    let (mut state, refused) = construct(&sheet.arguments, &flags, &args);
+    if refused.is_some_and(|r| r.number == 8) {
+        return refused_run(Refusal::new(8));
+    }
+    let records = if wanted.items { records(sheet, &state, &flags, &args) } else { Vec::new() };
+    let ran = match refused {
+        Some(r) => Err(r),
+        None => run_fields(&fields, &mut state),
+    };
+    let watch = &builder.watch;
+    if wanted.probe {
+        probe_run(form, sheet, &flags, &args, watch, &state, refused.is_none());
+    }
+    Run {
+        answer: match ran {
+            Ok(words) => Answer { number: 0, place: None, tries: watch.tries.get(), words },
+            Err(r) => Answer::refused(r, watch.tries.get()),
+        },
+        records,
+        state: view(&state),
+        visits: watch.visits.get(),
+        broken: watch.broken.take(),
+    }
+}
+
+/// Each field's `eval` on one state, then `items_iter`.
+fn run_fields(fields: &[Node], state: &mut State) -> Result<Vec<u32>, Refusal> {
+    let mut words = Vec::new();
+    for field in fields {
+        match field.eval(state) {
+            Ok(value) => value.words(&mut words),
+            Err(Error(message)) => return Err(refusal(&message)),
+        }
+    }
+    match state.items_iter().next() {
+        Some((place, _)) => Err(Refusal::at(27, place)),
+        None => Ok(words),
+    }
+}
+
+/// What holds of a whole run: the letters, R, the bounds on tries and on lists.
+fn probe_run(form: &Form, sheet: &Sheet, flags: &[char], args: &[char], watch: &Watch, state: &State, split: bool) {
+    let set = |letters: &[char]| letters.iter().copied().collect::<HashSet<char>>();
+    watch.must(set(flags) == set(&form.letters(FLAG)), || "letters of flags".to_string());
+    watch.must(set(args) == set(&form.letters(ARGUMENT)), || "letters of arguments".to_string());
+    if !split {
+        return;
+    }
+    let dashes = sheet.arguments.iter().any(|a| a == b"--");
+    let r = state.items.len() - usize::from(dashes);
+    let (tries, leaves) = (watch.tries.get() as usize, form.leaves());
+    watch.must(tries <= (r + 2) * leaves, || format!("{tries} tries, R {r}, L {leaves}"));
+    watch.must(tries <= (r + 1).max(2) * leaves, || format!("{tries} tries, R {r}, L {leaves}: the sharper bound"));
+    let longest = watch.longest.get();
+    watch.must(longest <= r.max(1), || format!("a list of {longest} elements, R {r}"));
+}
+
+/// What `run_inner` makes of a line, for the findings about it in docs/DIFFERENCES.md; a run is never compared with it.
+#[derive(Debug, PartialEq, Eq)]
+pub enum Whole {
+    Words(Vec<u32>),
+    Printed,
+    Refused,
+}
+
+pub fn run_inner(form: &Form, sheet: &Sheet) -> Whole {
+    struct Fields(Vec<Node>);
+    impl Parser<Vec<u32>> for Fields {
+        fn eval(&self, args: &mut State) -> Result<Vec<u32>, Error> {
+            let mut words = Vec::new();
+            self.0.iter().try_for_each(|f| f.eval(args).map(|v| v.words(&mut words)))?;
+            Ok(words)
+        }
+        fn meta(&self) -> Meta {
+            Meta::And(self.0.iter().map(|f| f.meta()).collect())
+        }
+    }
+    let os: Vec<OsString> = sheet.arguments.iter().map(|a| OsString::from_vec(a.clone())).collect();
+    match Fields(Builder::new(form, false).fields()).to_options().run_inner(&os[..]) {
+        Ok(words) => Whole::Words(words),
+        Err(crate::ParseFailure::Stdout(..)) => Whole::Printed,
+        Err(_) => Whole::Refused,
+    }
+}
+
+/// A state by itself, for single calls.
+#[derive(Clone)]
+pub struct Held {
+    state: State,
+}
+
+impl Held {
+    /// The state and item records after splitting; 8 or 9 beside it.
+    pub fn split(form: &Form, sheet: &Sheet) -> (Held, Vec<Record>, Option<Refusal>) {
+        let builder = Builder::new(form, false);
+        let (flags, args) = letters(&builder.fields());
+        let (state, refused) = construct(&sheet.arguments, &flags, &args);
+        if refused.is_some_and(|r| r.number == 8) {
+            let none = construct(&[], &flags, &args).0;
+            return (Held { state: none }, Vec::new(), refused);
+        }
+        let records = records(sheet, &state, &flags, &args);
+        (Held { state }, records, refused)
+    }
+
+    pub fn view(&self) -> View {
+        view(&self.state)
+    }
+
+    pub fn remove(&mut self, place: usize) {
+        self.state.remove(place);
+    }
+
+    /// Whether `get` gives the item at the place.
+    pub fn get(&self, place: usize) -> bool {
+        let got = self.state.get(place);
+        assert!(got.is_none() || got == self.state.items.get(place), "`get` gives the item at its place");
+        got.is_some()
+    }
+
+    pub fn conflict(&self) -> Option<(usize, usize)> {
+        self.state.conflict()
+    }
+
+    pub fn pick_winner(&self, other: &Held) -> (bool, Option<usize>) {
+        self.state.pick_winner(&other.state)
+    }
+
+    pub fn save_conflicts(&mut self, loser: &Held, winner: usize) {
+        self.state.save_conflicts(&loser.state, winner);
+    }
+
+    pub fn set_scope(&mut self, scope: Range<usize>) {
+        self.state.set_scope(scope);
+    }
+
+    pub fn adjacent_scope(&self, original: &Held) -> Option<Range<usize>> {
+        self.state.adjacent_scope(&original.state)
+    }
+
+    pub fn adjacently_available_from(&self, start: usize) -> Range<usize> {
+        self.state.adjacently_available_from(start)
+    }
+
+    pub fn only_once(&self, place: usize) -> Option<usize> {
+        error_again::first_of_two(&self.state, place)
+    }
+
+    /// Whether the item at the place is one of the node's names.
+    pub fn matches_arg(&self, form: &Form, node: usize, place: usize) -> Option<bool> {
+        let item = self.state.items.get(place)?;
+        Some(named(form, node).matches_arg(item, adjacent(form, node)))
+    }
+
+    pub fn take_flag(&mut self, form: &Form, node: usize) -> bool {
+        self.state.take_flag(&named(form, node))
+    }
+
+    /// The place of the value, or nothing, or 22 at the key.
+    pub fn take_arg(&mut self, form: &Form, node: usize) -> Result<Option<usize>, Refusal> {
+        let taken = self.state.take_arg(&named(form, node), adjacent(form, node), Metavar("A"));
+        match taken {
+            Ok(value) => Ok(value.map(|v| {
+                let place = self.state.current.expect("a taken value has a place");
+                assert_eq!(self.state.items[place].os_str(), v, "the text of the item at `current`");
+                place
+            })),
+            Err(Error(m)) => Err(refusal(&m)),
+        }
+    }
+
+    /// The place and whether it is a PosWord, or 20.
+    pub fn take_positional_word(&mut self) -> Result<(usize, bool), Refusal> {
+        match self.state.take_positional_word(Metavar("P")) {
+            Ok((place, strict, _)) => Ok((place, strict)),
+            Err(Error(m)) => Err(refusal(&m)),
+        }
+    }
+
+    /// `word` is a name record of type 0 or 1.
+    pub fn take_cmd(&mut self, form: &Form, record: usize) -> bool {
+        self.state.take_cmd(utf8(form, record))
+    }
+
+    /// One node's `eval` on this state: its words or its refusal, and the tries.
+    pub fn eval(&mut self, form: &Form, node: usize) -> Answer {
+        let builder = Builder::new(form, false);
+        let result = builder.node(node).eval(&mut self.state);
+        let tries = builder.watch.tries.get();
+        match result {
+            Ok(value) => {
+                let mut words = Vec::new();
+                value.words(&mut words);
+                Answer { number: 0, place: None, tries, words }
+            }
+            Err(Error(m)) => Answer::refused(refusal(&m), tries),
+        }
+    }
+}
+
+/// Whether an argument node takes only items marked adjacent; a flag takes any.
+fn adjacent(form: &Form, node: usize) -> bool {
+    let node = form.nodes[node];
+    node.kind == ARGUMENT && node.r % 2 == 1
+}

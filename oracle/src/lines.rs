@@ -1,0 +1,236 @@
+//! Lines with known answers, as tests of the oracle: those of the bench and its hex example first, then one for each
+//! doubtful word of the rules (docs/DECISIONS.md has the readings).
+
+use bpaf::doc::harness::{run_bytes, run_inner, Record, Run, Wanted, Whole};
+use line::{format::*, notation};
+
+/// Flags v, q; number argument w; letter b both.
+const LETTERS: &str = "switch(-v); switch(-q); optional(number(-w)); switch(-b); optional(text(-b)); many(operand)";
+
+pub struct Tests {
+    pub passed: usize,
+    pub failed: usize,
+}
+
+fn run(form: &str, arguments: &[&[u8]]) -> Run {
+    let form = notation::parse(form).expect("a form of the tests").write();
+    let sheet = Sheet { arguments: arguments.iter().map(|a| a.to_vec()).collect() }.write();
+    run_bytes(&form, &sheet, Wanted { items: true, probe: true })
+}
+
+/// An item in words: `Short v adjacent "-vq"`.
+fn show_item(record: &Record, area: &[u8]) -> String {
+    let part = |at: u32, length: u32| String::from_utf8_lossy(&area[at as usize..(at + length) as usize]).into_owned();
+    let adjacent = if record[1] == 1 { " adjacent" } else { "" };
+    let text = part(record[5], record[6]);
+    match record[0] {
+        1 => format!("Short {}{} {:?}", char::from_u32(record[2]).unwrap_or('?'), adjacent, text),
+        2 => format!("Long {:?}{} {:?}", part(record[3], record[4]), adjacent, text),
+        3 => format!("ArgWord {text:?}"),
+        4 => format!("Word {text:?}"),
+        _ => format!("PosWord {text:?}"),
+    }
+}
+
+impl Tests {
+    fn equal<T: PartialEq + std::fmt::Debug>(&mut self, name: &str, got: T, want: T) {
+        if got == want {
+            self.passed += 1;
+        } else {
+            self.failed += 1;
+            println!("FAILED {name}\n  got  {got:?}\n  want {want:?}");
+        }
+    }
+
+    /// The items of a line under the letters above.
+    fn items(&mut self, arguments: &[&[u8]], want: &[&str]) {
+        let ran = run(LETTERS, arguments);
+        let area = arguments.concat();
+        let got: Vec<String> = ran.records.iter().map(|r| show_item(r, &area)).collect();
+        self.equal(&format!("items of {:?}", String::from_utf8_lossy(&area)), got, owned(want));
+    }
+
+    /// Number, place, tries and words of a run.
+    fn answer(&mut self, form: &str, arguments: &[&[u8]], number: u32, place: Option<usize>, tries: u64, words: &[u32]) {
+        let ran = run(form, arguments);
+        let want = Answer { number, place, tries, words: words.to_vec() };
+        self.equal(&format!("{form} on {} arguments", arguments.len()), ran.answer, want);
+        self.equal(&format!("{form}: probed facts"), ran.broken, Vec::new());
+    }
+
+    /// Number and place alone.
+    fn refused(&mut self, form: &str, arguments: &[&[u8]], number: u32, place: Option<usize>) {
+        let ran = run(form, arguments).answer;
+        self.equal(&format!("{form} refused"), (ran.number, ran.place), (number, place));
+    }
+}
+
+fn owned(texts: &[&str]) -> Vec<String> {
+    texts.iter().map(|t| t.to_string()).collect()
+}
+
+pub fn all() -> Tests {
+    let mut tests = Tests { passed: 0, failed: 0 };
+    split_lines(&mut tests);
+    run_lines(&mut tests);
+    hex_example(&mut tests);
+    doubtful_splits(&mut tests);
+    doubtful_runs(&mut tests);
+    doubtful_inputs(&mut tests);
+    run_inner_findings(&mut tests);
+    tests
+}
+
+fn split_lines(t: &mut Tests) {
+    t.items(&[b""], &["Word \"\""]);
+    t.items(&[b"-"], &["Word \"-\""]);
+    t.items(&[b"---"], &["Long \"-\" \"---\""]);
+    t.items(&[b"--=7"], &["Long \"\" adjacent \"--=7\"", "ArgWord \"7\""]);
+    t.items(&[b"--", b"-v"], &["PosWord \"--\"", "PosWord \"-v\""]);
+    let dashes = run("many(operand)", &[b"--", b"-v"]);
+    t.equal("`--` is used, one place remains", dashes.answer.words, vec![1, 1]);
+    let unread = run("switch(-v)", &[b"--", b"-v"]);
+    t.equal("the state after `--` `-v`", (unread.state.marks, unread.state.remaining), (vec![1, 0], 1));
+    t.items(&[b"-x"], &["Short x \"-x\""]);
+    t.items(&[b"-vx"], &["Word \"-vx\""]);
+    t.items(&[b"-vq"], &["Short v \"-vq\"", "Short q \"\""]);
+    t.items(&[b"-vw7"], &["Short v \"-vw7\"", "Short w adjacent \"-vw7\"", "Word \"7\""]);
+    t.items(&[b"-vw"], &["Short v \"-vw\"", "Short w \"-vw\""]);
+    t.items(&[b"-vw=7"], &["Short v adjacent \"-vw=7\"", "ArgWord \"w=7\""]);
+    t.items(&[b"-vb"], &["Short v \"-vb\"", "Word \"-vb\""]);
+    t.refused(LETTERS, &[b"-vb"], 9, Some(1));
+    t.items(&[b"-b"], &["Short b \"-b\""]);
+}
+
+fn run_lines(t: &mut Tests) {
+    t.answer("count(switch(-v))", &[], 0, None, 1, &[1]);
+    t.answer("count(flag(-v))", &[], 0, None, 1, &[0]);
+    t.answer("many(optional(flag(-v)))", &[], 0, None, 2, &[1, 0]);
+    let choice = "choice(flag(-v), flag(-q))";
+    t.answer(choice, &[b"-q", b"-v"], 27, Some(1), 2, &[]);
+    t.equal("the loser's mark", run(choice, &[b"-q", b"-v"]).state.marks, vec![1, 2]);
+    t.answer("operand; guard(fallback(number(-w), 9), 1..5)", &[b"a"], 26, Some(0), 2, &[]);
+    t.refused("number(-w)", &[b"-w", b"-7"], 22, Some(0));
+    t.refused("number(-w)", &[b"-w=-7"], 25, Some(1));
+    t.refused("number(-w)", &[b"-w", b"4294967296"], 25, Some(1));
+    t.answer("number(-w)", &[b"-w", b"4294967295"], 0, None, 1, &[u32::MAX]);
+    let most: Vec<&[u8]> = vec![b"a"; 256];
+    t.equal("256 arguments run", run("many(operand)", &most).answer.words[0], 256);
+    let more: Vec<&[u8]> = vec![b"a"; 257];
+    t.refused("many(operand)", &more, 6, None);
+}
+
+fn hex_example(t: &mut Tests) {
+    let mut joined = vec![2, 0, 1, 0, 1, 0, 1, 0, 1, 0, 1, 0, 0, 0, 1, 0];
+    joined.extend([0; 10]);
+    joined.extend([7, 0]);
+    joined.extend([0; 14]);
+    joined.extend([0, 0, 0, 0, 1, 0, 0x76, 1, 0, 0, 0, 3, 0, 0x2d, 0x76, 0x76]);
+    let (form, sheet) = split_joined(&joined);
+    let ran = run_bytes(form, sheet, Wanted::default());
+    t.equal("the hex example", ran.answer.to_string(), "answer 0 place - tries 3 words 1\n2\n".to_string());
+}
+
+fn doubtful_splits(t: &mut Tests) {
+    // the name is cut to one byte before it is asked to be UTF-8
+    t.items(&["-é".as_bytes()], &["Short é \"-é\""]);
+    t.items(&["-é=7".as_bytes()], &["Word \"-é=7\""]);
+    t.items(&[b"-v\xff=7"], &["Short v adjacent \"-v\u{fffd}=7\"", "ArgWord \"\u{fffd}=7\""]);
+    t.items(&[b"--\xff"], &["Word \"--\u{fffd}\""]);
+    t.items(&[b"--", b"--", b""], &["PosWord \"--\"", "PosWord \"--\"", "PosWord \"\""]);
+    t.items(&[b"-=", b"-=7"], &["Short = \"-=\"", "Word \"-=7\""]);
+    t.items(&[b"-v="], &["Short v adjacent \"-v=\"", "ArgWord \"\""]);
+    // refusals 8 and 9 near the limit of 256 items
+    let mut line: Vec<&[u8]> = vec![b"a"; 254];
+    line.push(b"-vb");
+    t.refused(LETTERS, &line, 9, Some(255));
+    line.insert(0, b"a");
+    t.refused(LETTERS, &line, 8, None);
+    // a long cluster that is withdrawn is one Word, whatever room is left
+    let mut cluster = vec![b'v'; 1000];
+    cluster[0] = b'-';
+    cluster.push(b'x');
+    let mut line: Vec<&[u8]> = vec![b"a"; 255];
+    line.push(&cluster);
+    t.equal("a withdrawn cluster", run("many(operand); switch(-v)", &line).answer.words[0], 256);
+    // empty parts have offset 0
+    let ran = run(LETTERS, &[b"a", b"", b"-vq", b"-w="]);
+    t.equal("an empty word", ran.records[1], [4, 0, 0, 0, 0, 0, 0]);
+    t.equal("a later letter of a cluster", ran.records[3], [1, 0, 'q' as u32, 0, 0, 0, 0]);
+    t.equal("an empty value", ran.records[5], [3, 0, 0, 0, 0, 0, 0]);
+}
+
+fn doubtful_runs(t: &mut Tests) {
+    // a refused number behind a fallback leaves the state that the fallback was given
+    let ran = run("fallback(operand#, 9)", &[b"a"]);
+    t.equal("a fallback puts the word back", (ran.answer.number, ran.answer.place), (25, Some(0)));
+    t.equal("its state", (ran.state.marks, ran.state.current), (vec![0], None));
+    let ran = run("operand#", &[b"a"]);
+    t.equal("a refused word is used up", (ran.state.marks, ran.state.current), (vec![1], Some(0)));
+    // one success that used nothing loses to 22, 23 and 24, and to nothing else
+    t.refused("choice(switch(-v), choice(switch(-q), fallback(flag(-x), yes)))", &[], 0, None);
+    t.refused("choice(fallback(operand, \"d\"), strict)", &[b"--", b"a"], 0, None);
+    t.refused("choice(fallback(text(-w), \"d\"), strict)", &[b"-v", b"a"], 23, Some(1));
+    t.refused("choice(fallback(text(-l), \"d\"), text(-w))", &[b"-w"], 22, Some(0));
+    t.refused("choice(fallback(number(-l), 3), operand#)", &[b"a"], 27, Some(0));
+    // of two refusals the second, if the first can be caught
+    t.refused("choice(text(-w), text(-l))", &[b"-w"], 22, Some(0));
+    t.refused("choice(text(-l), text(-w))", &[b"-w"], 22, Some(0));
+    t.refused("choice(text(-l), strict)", &[b"a"], 23, Some(0));
+    t.refused("choice(strict, text(-l))", &[b"a"], 23, Some(0));
+    t.refused("choice(non-strict#, strict#)", &[b"--", b"a"], 25, Some(1));
+    // an adjacent argument takes only adjacent items; a flag takes them too
+    t.refused("number=(-w)", &[b"-w", b"7"], 20, None);
+    t.answer("number=(-w)", &[b"-w7"], 0, None, 1, &[7]);
+    t.refused("switch(-v)", &[b"-v=7"], 27, Some(1));
+    // catch swallows 25 and 26 but not 22, 23, 24; 24 is swallowed without it
+    t.refused("optional(operand#)", &[b"a"], 25, Some(0));
+    t.refused("optional!(operand#)", &[b"a"], 27, Some(0));
+    t.refused("optional!(number(-w))", &[b"-w"], 22, Some(0));
+    t.refused("optional!(strict)", &[b"a"], 23, Some(0));
+    t.refused("optional(non-strict)", &[b"--", b"a"], 27, Some(1));
+    t.refused("some(operand)", &[], 21, None);
+    // `last` with no value tries its child once more
+    t.answer("last(flag(-v))", &[], 20, None, 2, &[]);
+    t.answer("last(switch(-v))", &[b"-v", b"-v"], 0, None, 3, &[1]);
+    for (text, want) in [("+7", Some(7)), ("007", Some(7)), ("+", None), ("++7", None), ("", None), ("7 ", None)] {
+        let number = run("operand#", &[text.as_bytes()]).answer;
+        t.equal(&format!("the number {text:?}"), number.words.first().copied(), want);
+    }
+}
+
+fn doubtful_inputs(t: &mut Tests) {
+    let number = |sheet: &[u8]| Sheet::check(sheet).err().map(|r| r.number);
+    t.equal("a sheet of no bytes", number(&[]), Some(5));
+    t.equal("a sheet of one byte", number(&[0]), Some(5));
+    t.equal("257 arguments need only the count", number(&[1, 1]), Some(6));
+    t.equal("an empty sheet", number(&[0, 0, 0, 0]), None);
+    let flag = Node { kind: FLAG, q: 1, r: 1, ..Node::default() };
+    let v = Name { ty: SHORT, offset: 0, length: 1 };
+    let form = |nodes: Vec<Node>, fields: Vec<u16>| {
+        Form::check(&Form { fields, nodes, names: vec![v], area: b"v".to_vec() }.write()).err()
+    };
+    let choice = |k: u16| Node { kind: CHOICE, p: k, q: k, ..Node::default() };
+    t.equal("a shared child", form(vec![flag, choice(0)], vec![1]), Some(Refusal::at(4, 0)));
+    let above = Node { kind: OPTIONAL, p: 1, ..Node::default() };
+    t.equal("a child above its node", form(vec![above, flag], vec![0]), Some(Refusal::at(3, 0)));
+    let chain: Vec<Node> = std::iter::once(flag).chain((0..63).map(choice)).collect();
+    t.equal("a chain of 63 shared choices", form(chain, vec![63]), Some(Refusal::at(4, 0)));
+    t.equal("a field number past the nodes", form(vec![flag], vec![1]), Some(Refusal::new(4)));
+}
+
+/// Why a run is compared with `construct`, `eval` and `items_iter`, and never with `run_inner`.
+fn run_inner_findings(t: &mut Tests) {
+    let whole = |form: &str, arguments: &[&[u8]]| {
+        let sheet = Sheet { arguments: arguments.iter().map(|a| a.to_vec()).collect() };
+        run_inner(&notation::parse(form).expect("a form of the tests"), &sheet)
+    };
+    // an ambiguous letter is passed over, and every later argument is lost
+    let both = "switch(-b); optional(text(-b)); optional(operand)";
+    t.equal("run_inner drops `x`", whole(both, &[b"-bb", b"x"]), Whole::Words(vec![0, 0, 1, 0]));
+    t.refused(both, &[b"-bb", b"x"], 9, Some(0));
+    // h and V are letters there, so that a cluster with one of them is no Word
+    let plain = "switch(-v); optional(operand)";
+    t.equal("run_inner reads h as a letter", whole(plain, &[b"-vh"]), Whole::Printed);
+    t.answer(plain, &[b"-vh"], 0, None, 2, &[0, 1, 0]);
+}

@@ -1,0 +1,131 @@
+//! The oracle: the real bpaf on forms and sheets, its generator of cases, and the comparison with the proved code.
+//!
+//! Built without bpaf's source (no `live`), it keeps what needs none of it: the checks of forms and sheets, the lists of
+//! those layers, and the comparison of UTF-8 with the standard library.
+
+#[cfg(live)]
+mod batch;
+mod compare;
+#[cfg(live)]
+mod lines;
+mod lists;
+#[cfg(live)]
+mod script;
+
+use std::process::ExitCode;
+
+const USAGE: &str = "\
+oracle compare utf8 [SEED COUNT]   the proved UTF-8 against the standard library, in this process
+oracle utf8 [ARGUMENT..]           each argument's characters, by the proved code
+oracle list LAYER SEED COUNT       a fixed list of a layer: utf8, check, and live: split, run, calls
+oracle lists FILE..                make each list again by its first line and compare
+live, with bpaf's source:
+oracle bench                       form and sheet joined on standard input; prints what bench prints
+oracle show                        the same, then item records and the state
+oracle line FORM [ARGUMENT..]      a form in the notation of notation.rs on a command line; prints as show
+oracle form FORM                   writes the form's bytes
+oracle script FORM [ARGUMENT..]    single calls on the state after the split, one a line of standard input
+oracle cases SEED COUNT            writes joined cases, each behind its u32 length
+oracle batch                       answers such cases from standard input, in one process
+oracle probe SEED COUNT            generated cases, every state and value looked at
+oracle short ARGUMENTS BYTES       the same for every short line over a small alphabet
+oracle calls SEED COUNT            generated single calls, no panic and states that hold together
+oracle test                        lines with known answers
+";
+
+fn number(words: &[String], at: usize, default: u64) -> u64 {
+    words.get(at).map_or(default, |w| w.parse().unwrap_or_else(|_| panic!("not a number: {w}")))
+}
+
+fn main() -> ExitCode {
+    let words: Vec<String> = std::env::args_os().skip(1).map(|w| w.to_string_lossy().into_owned()).collect();
+    let first = words.first().map_or("", String::as_str);
+    let good = match first {
+        "compare" if words.get(1).is_some_and(|w| w == "utf8") => {
+            let compared = compare::utf8(number(&words, 2, 1), number(&words, 3, 1_000_000));
+            println!("utf8: {} cases, {} differ", compared.cases, compared.differ);
+            compared.differ == 0
+        }
+        "utf8" => compare::show_arguments(),
+        "list" if words.len() == 4 => print_list(&words),
+        "lists" => words[1..].iter().map(|file| same_list(file)).fold(true, |a, b| a && b),
+        _ => live(first, &words),
+    };
+    if good { ExitCode::SUCCESS } else { ExitCode::FAILURE }
+}
+
+fn print_list(words: &[String]) -> bool {
+    match lists::list(&words[1], number(words, 2, 1), number(words, 3, 1) as usize) {
+        Some(text) => print!("{text}"),
+        None => {
+            println!("this build has no layer {}", words[1]);
+            return false;
+        }
+    }
+    true
+}
+
+/// Whether a committed list is the one that its first line makes. A layer that this build lacks is left out, and said so.
+fn same_list(file: &str) -> bool {
+    let text = std::fs::read_to_string(file).unwrap_or_else(|e| panic!("{file}: {e}"));
+    let head: Vec<&str> = text.lines().next().unwrap_or("").split(' ').collect();
+    let ["#", "oracle", "list", layer, seed, count] = head[..] else {
+        println!("{file}: the first line is no command");
+        return false;
+    };
+    let numbers = (seed.parse::<u64>(), count.parse::<usize>());
+    let (Ok(seed), Ok(count)) = numbers else {
+        println!("{file}: the first line is no command");
+        return false;
+    };
+    match lists::list(layer, seed, count) {
+        None => {
+            println!("{file}: left out, this build has no layer {layer}");
+            true
+        }
+        Some(made) if made == text => {
+            println!("{file}: {count} cases, the same");
+            true
+        }
+        Some(made) => {
+            let differs = made.lines().zip(text.lines()).position(|(a, b)| a != b);
+            println!("{file}: DIFFERS at line {}", differs.map_or("the end".to_string(), |n| (n + 1).to_string()));
+            false
+        }
+    }
+}
+
+#[cfg(not(live))]
+fn live(first: &str, _words: &[String]) -> bool {
+    if !first.is_empty() {
+        println!("built without bpaf's source: no `{first}`");
+    }
+    print!("{USAGE}");
+    false
+}
+
+#[cfg(live)]
+fn live(first: &str, words: &[String]) -> bool {
+    batch::quiet_panics();
+    match first {
+        "bench" => batch::bench(false),
+        "show" => batch::bench(true),
+        "line" if words.len() >= 2 => batch::line(&words[1]),
+        "form" if words.len() == 2 => batch::form(&words[1]),
+        "script" if words.len() >= 2 => batch::script(&words[1]),
+        "cases" => batch::cases(number(words, 1, 1), number(words, 2, 1000)),
+        "batch" => batch::batch(),
+        "probe" => batch::probe(number(words, 1, 1), number(words, 2, 500_000)),
+        "short" => batch::short(number(words, 1, 2) as usize, number(words, 2, 3) as usize),
+        "calls" => batch::calls(number(words, 1, 1), number(words, 2, 200_000)),
+        "test" => {
+            let tests = lines::all();
+            println!("oracle: {} passed, {} failed", tests.passed, tests.failed);
+            tests.failed == 0
+        }
+        _ => {
+            print!("{USAGE}");
+            false
+        }
+    }
+}
