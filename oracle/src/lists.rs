@@ -9,7 +9,7 @@ use crate::script::{or_dash, Script};
 use bpaf::doc::harness::{run_bytes, Held, View, Wanted};
 
 /// Forms and sheets of a list stay short, so that a list is a page and not a book.
-const LONGEST: usize = 220;
+pub const LONGEST: usize = 220;
 
 pub fn hex(bytes: &[u8]) -> String {
     if bytes.is_empty() {
@@ -45,7 +45,7 @@ pub fn list(layer: &str, seed: u64, count: usize) -> Option<String> {
 }
 
 /// A case that fits a list: damaged ones among the well-made, as asked.
-fn short_case(rng: &mut Rng, damaged_in: usize) -> Case {
+pub fn short_case(rng: &mut Rng, damaged_in: usize) -> Case {
     loop {
         let damaged = damaged_in > 0 && rng.below(damaged_in) == 0;
         let case = if damaged { cases::damaged(rng) } else { cases::well_made(rng) };

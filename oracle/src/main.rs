@@ -7,6 +7,8 @@
 mod batch;
 mod compare;
 #[cfg(live)]
+mod equations;
+#[cfg(live)]
 mod lines;
 mod lists;
 #[cfg(live)]
@@ -30,6 +32,7 @@ oracle batch                       answers such cases from standard input, in on
 oracle probe SEED COUNT            generated cases, every state and value looked at
 oracle short ARGUMENTS BYTES       the same for every short line over a small alphabet
 oracle calls SEED COUNT            generated single calls, no panic and states that hold together
+oracle equations SEED COUNT        cases as equations about the definitions (see oracle/equations)
 oracle test                        lines with known answers
 ";
 
@@ -118,6 +121,10 @@ fn live(first: &str, words: &[String]) -> bool {
         "probe" => batch::probe(number(words, 1, 1), number(words, 2, 500_000)),
         "short" => batch::short(number(words, 1, 2) as usize, number(words, 2, 3) as usize),
         "calls" => batch::calls(number(words, 1, 1), number(words, 2, 200_000)),
+        "equations" => {
+            equations::print(number(words, 1, 1), number(words, 2, 220) as usize);
+            true
+        }
         "test" => {
             let tests = lines::all();
             println!("oracle: {} passed, {} failed", tests.passed, tests.failed);

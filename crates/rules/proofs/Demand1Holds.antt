@@ -1,0 +1,243 @@
+-- Demand 1: every input is answered; it is run exactly if it is ready.
+use mathlib.Core.Bool.{Bool, true, false, _||_, true≢false}
+use mathlib.Core.List.{List, [], _∷_, _++_}
+use mathlib.Core.Logic.{_⊎_, inl, inr, ⊎-elim}
+use mathlib.Core.Option.{Option, some, none}
+use mathlib.Core.Path.{_≡_, refl, sym, ap, _∙_}
+use Prim.Native.Nat.{ℕ, zero, suc, _+_, _-_, _*_, _≤_, _<_}
+use native.Mathlib.Omega.{arith}
+use borrow.Author.Tests.{ltb-true, ltb-false, le-ltb, lt-ltb}
+use lib.Dec.{ltb}
+use lib.ListN.{length, length-append, replicate, length-replicate, length-map}
+use Rattle.utf8.specs.Utf8.{if_then_else_}
+use Rattle.rules.specs.Base.{numbers}
+use Rattle.rules.specs.Outcome.{Outcome, ok, refused, fault, Refusal, _>>=_}
+use Rattle.rules.specs.Value.{Value, answerWords}
+use Rattle.rules.specs.Sheet.{sheetFault, sheetGood, argumentCount, arguments}
+use Rattle.rules.specs.Form.{Form, readForm, fieldCount}
+use Rattle.rules.specs.Accept.{Checked, accepted, refusedAt, Accepted, checkForm}
+use Rattle.rules.specs.Outcome.{refuseAt}
+use Rattle.rules.specs.State.{emptyState}
+use Rattle.rules.specs.Eval.{Ran, ended}
+use Rattle.rules.specs.Run.{Line, Report, tooMany, padded, refusedInput, report, shortSlices, split, runLine, runChecked, run}
+use Rattle.rules.specs.Demands.{Ends}
+use Rattle.rules.specs.WellMade.{WellMade}
+use Rattle.rules.specs.Answered.{Ready, RunNumber, InputNumber, Demand1}
+use Rattle.rules.proofs.Acceptance.{accepted-form, accepted-fields}
+use Rattle.rules.proofs.WellMadeLaws.{well-made, refused-not-made, check-numbers}
+use Rattle.rules.proofs.SplitLaws.{some≢none, ok-injective, LineGood, split-line, line-law, line-refusal}
+use Rattle.rules.proofs.Fields.{RunsAll}
+use Rattle.rules.proofs.Demand3Holds.{line-good, line-runs}
+
+-- ---- slices
+pub padded-length : (n : ℕ) (l : List ℕ) → length l ≤ n → length (padded n l) ≡ n
+unfolding padded
+padded-length n l h = length-append l (replicate (n - length l) 0) ∙ ap (λ (k : ℕ). length l + k) (length-replicate (n - length l) 0) ∙ omega arith
+
+numbers-length : (n k : ℕ) → length (numbers n k) ≡ n
+unfolding numbers
+numbers-length zero k = refl
+numbers-length (suc n) k = ap suc (numbers-length n (suc k))
+
+few-fields : (b : List ℕ) (a : Accepted) → checkForm b ≡ accepted a → length (a .fields) ≤ 16
+unfolding readForm
+few-fields b a e =
+    let w = well-made b a e in
+    let h = accepted-fields b a e ∙ ap (λ (f : Form). length (f .fields)) (accepted-form b a e) ∙ length-map (numbers (fieldCount b) 0) _ ∙ numbers-length (fieldCount b) 0 in
+    omega (arith, h, w .fields .1)
+
+-- ---- reports of a run
+abbrev valuesReport : ℕ → ℕ → Line → Ran (List Value) → List Value → Report
+valuesReport ni na l r vs = record {
+  number = 0;
+  place = none;
+  tries = r .tries;
+  words = answerWords vs;
+  state = r .state;
+  items = padded ni (l .records);
+  answers = padded na (answerWords vs);
+}
+
+abbrev refusalReport : ℕ → ℕ → Line → Ran (List Value) → Refusal → Report
+refusalReport ni na l r e = record {
+  number = e .number;
+  place = e .place;
+  tries = r .tries;
+  words = [];
+  state = r .state;
+  items = padded ni (l .records);
+  answers = padded na [];
+}
+
+-- ---- refused because of the input
+-- the report of a refusal from 1 to 7
+input-refused : (b s : List ℕ) (ni na n : ℕ) (k : Option ℕ) → run b s ni na ≡ ok (refusedInput ni na n k) → InputNumber n → (Ready b s ni na → ⊥) → Demand1 b s ni na
+unfolding refusedInput
+input-refused b s ni na n k e h unready = record {
+  report = refusedInput ni na n k;
+  answered = e;
+  number = inr (unready, h, record { tries = refl; words = refl; answers = refl; cleared = λ _. (refl, refl) });
+  items = padded-length ni [] (omega arith);
+  answers = padded-length na [] (omega arith);
+}
+
+sheet-numbers : (s : List ℕ) → 0 < sheetFault s → InputNumber (sheetFault s)
+unfolding sheetFault if_then_else_
+sheet-numbers s = go (ltb (length s) 2) (ltb 256 (argumentCount s)) (sheetGood s)
+  where
+    Says : ℕ → Type 0
+    Says n = 0 < n → InputNumber n
+
+    go : (a b c : Bool) → Says (if a then 5 else (if b then 6 else (if c then 0 else 5)))
+    go true b c h = (omega arith, omega arith)
+    go false true c h = (omega arith, omega arith)
+    go false false true h = (omega arith, omega arith)
+    go false false false h = (omega arith, omega arith)
+
+long-slices : (ni na : ℕ) → shortSlices ni na ≡ false → (1792 ≤ ni) × (8240 ≤ na)
+unfolding shortSlices
+long-slices ni na = go (ltb ni 1792) refl
+  where
+    go : (t : Bool) → ltb ni 1792 ≡ t → (t || ltb na 8240) ≡ false → (1792 ≤ ni) × (8240 ≤ na)
+    go true h e = absurd (true≢false e)
+    go false h e = (ltb-false ni 1792 h, ltb-false na 8240 e)
+
+short-not-ready : (b s : List ℕ) (ni na : ℕ) → shortSlices ni na ≡ true → Ready b s ni na → ⊥
+unfolding shortSlices
+short-not-ready b s ni na e r = true≢false (sym e ∙ rw (le-ltb ni 1792 (r .items), le-ltb na 8240 (r .answers)))
+
+nine-large : (n : ℕ) → n ≡ 9 → n ≤ 8 → ⊥
+nine-large n e h = omega arith
+
+-- ---- the ways of a run
+module _ (b s : List ℕ) (ni na : ℕ) (a : Accepted) (form : checkForm b ≡ accepted a) where
+  run-checked : run b s ni na ≡ runChecked ni na s a
+  unfolding run
+  run-checked = rw (form, run)
+
+  -- 5 and 6
+  sheet-refused : 0 < sheetFault s → Demand1 b s ni na
+  unfolding runChecked if_then_else_
+  sheet-refused h =
+      input-refused b s ni na (sheetFault s) none (run-checked ∙ rw (lt-ltb 0 (sheetFault s) h)) (sheet-numbers s h)
+      (λ (r : Ready b s ni na). omega (arith, h, r .sheet))
+
+  -- 7
+  slices-refused : sheetFault s ≡ 0 → shortSlices ni na ≡ true → Demand1 b s ni na
+  unfolding runChecked if_then_else_
+  slices-refused z e =
+      input-refused b s ni na 7 none (run-checked ∙ rw (z, e)) (omega arith, omega arith) (short-not-ready b s ni na e)
+
+  module _ (l : Line) (sheet : sheetFault s ≡ 0) (slices : shortSlices ni na ≡ false) (splits : split (a .form) s ≡ ok l) where
+    run-reports : run b s ni na ≡ report ni na l (runLine (a .fields) l)
+    unfolding runChecked if_then_else_ _>>=_
+    run-reports = run-checked ∙ rw (sheet, slices, splits)
+
+    records-fit : length (l .records) ≤ ni
+    unfolding tooMany
+    records-fit =
+        ⊎-elim
+        (λ (t : l ≡ tooMany). rw t (omega arith))
+        (λ (g : LineGood (arguments s) l). omega (arith, g .records, g .few, long-slices ni na slices .0))
+        (line-law (a .form) s l splits)
+
+    -- 8 keeps no item
+    split-cleared : (e : Refusal) → l .refusal ≡ some e → e .number ≤ 8 → (padded ni (l .records) ≡ padded ni []) × (l .state ≡ emptyState)
+    unfolding tooMany refuseAt
+    split-cleared e u h =
+        ⊎-elim
+        (λ (t : l ≡ tooMany). (ap (λ (x : Line). padded ni (x .records)) t, ap (λ (x : Line). x .state) t))
+        (λ (g : LineGood (arguments s) l). let n = ap (λ (x : Refusal). x .number) (g .refusal e u .1) in absurd (nine-large (e .number) n h))
+        (line-law (a .form) s l splits)
+
+    -- 8 and 9
+    split-refused : (e : Refusal) → l .refusal ≡ some e → Demand1 b s ni na
+    unfolding report runLine ended
+    split-refused e u = record {
+      report = refusalReport ni na l (ended (refused e) (l .state)) e;
+      answered = run-reports ∙ rw (u, runLine);
+      number = inr (
+        (λ (r : Ready b s ni na). let same = ok-injective (sym (r .splits) ∙ ap (λ (f : Form). split f s) (sym (accepted-form b a form)) ∙ splits) in
+            some≢none (sym u ∙ ap (λ (x : Line). x .refusal) (sym same) ∙ r .unrefused)),
+        ⊎-elim (λ (h : e .number ≡ 8). (omega arith, omega arith)) (λ (h : e .number ≡ 9). (omega arith, omega arith)) (line-refusal (a .form) s l e splits u),
+        record { tries = refl; words = refl; answers = refl; cleared = split-cleared e u },
+      );
+      items = padded-length ni (l .records) records-fit;
+      answers = padded-length na [] (omega arith);
+    }
+
+    -- accepted, or 20 to 27
+    module _ (u : l .refusal ≡ none) where
+      ready : Ready b s ni na
+      ready = record {
+        form = well-made b a form;
+        sheet = sheet;
+        items = long-slices ni na slices .0;
+        answers = long-slices ni na slices .1;
+        line = l;
+        splits = ap (λ (f : Form). split f s) (sym (accepted-form b a form)) ∙ splits;
+        unrefused = u;
+      }
+
+      runs : RunsAll (length (l .items)) (a .fields) (l .state) (runLine (a .fields) l)
+      runs = line-runs b s a l form splits u
+
+      few-items : length (l .items) ≤ 256
+      few-items = line-good a s l splits u .few
+
+      values-reported : (vs : List Value) → runLine (a .fields) l .outcome ≡ ok vs → Demand1 b s ni na
+      unfolding report
+      values-reported vs e = record {
+        report = valuesReport ni na l (runLine (a .fields) l) vs;
+        answered = run-reports ∙ rw (e, report);
+        number = inl (ready, inl refl);
+        items = padded-length ni (l .records) records-fit;
+        answers = padded-length na (answerWords vs)
+            (omega (arith, runs .words vs e few-items, few-fields b a form, long-slices ni na slices .1));
+      }
+
+      refusal-reported : (x : Refusal) → runLine (a .fields) l .outcome ≡ refused x → Demand1 b s ni na
+      unfolding report
+      refusal-reported x e = record {
+        report = refusalReport ni na l (runLine (a .fields) l) x;
+        answered = run-reports ∙ rw (e, report);
+        number = inl (ready, inr (rw e at (runs .ends)));
+        items = padded-length ni (l .records) records-fit;
+        answers = padded-length na [] (omega arith);
+      }
+
+      run-answered : Demand1 b s ni na
+      run-answered = go (runLine (a .fields) l .outcome) refl
+        where
+          go : (o : Outcome (List Value)) → runLine (a .fields) l .outcome ≡ o → Demand1 b s ni na
+          go (ok vs) e = values-reported vs e
+          go (refused x) e = refusal-reported x e
+          go (fault x) e = absurd (rw e at (runs .ends))
+
+    line-answered : Demand1 b s ni na
+    line-answered = go (l .refusal) refl
+      where
+        go : (o : Option Refusal) → l .refusal ≡ o → Demand1 b s ni na
+        go none u = run-answered u
+        go (some e) u = split-refused e u
+
+  accepted-answered : Demand1 b s ni na
+  accepted-answered = go (ltb 0 (sheetFault s)) refl
+    where
+      sliced : sheetFault s ≡ 0 → (t : Bool) → shortSlices ni na ≡ t → Demand1 b s ni na
+      sliced z true e = slices-refused z e
+      sliced z false e = let (l, h) = split-line (a .form) s in line-answered l z e h
+
+      go : (t : Bool) → ltb 0 (sheetFault s) ≡ t → Demand1 b s ni na
+      go true h = sheet-refused (ltb-true 0 (sheetFault s) h)
+      go false h = let z = ltb-false 0 (sheetFault s) h in sliced (omega arith) (shortSlices ni na) refl
+
+pub demand1 : (b s : List ℕ) (ni na : ℕ) → Demand1 b s ni na
+unfolding run
+demand1 b s ni na = go (checkForm b) refl
+  where
+    go : (c : Checked Accepted) → checkForm b ≡ c → Demand1 b s ni na
+    go (accepted a) e = accepted-answered b s ni na a e
+    go (refusedAt n k) e =
+        let h = check-numbers b n k e in
+        input-refused b s ni na n k (rw (e, run)) (h .0, omega arith) (λ (r : Ready b s ni na). refused-not-made b n k e (r .form))

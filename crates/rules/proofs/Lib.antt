@@ -1,0 +1,28 @@
+-- Lines and spots, by computing
+pub mod LinesHold
+pub mod Witnesses
+-- What the proofs hand on
+pub mod Steps
+-- States and takes
+pub mod Places
+pub mod StepLaws
+-- Evaluation
+pub mod KindLaws
+pub mod Went
+pub mod Nodes
+pub mod Repeats
+pub mod Choices
+pub mod EvalSound
+pub mod ThenLaws
+pub mod ValueWords
+pub mod Fields
+-- Splitting and formats
+pub mod SplitLaws
+pub mod Formats
+-- Forms
+pub mod Acceptance
+pub mod Uses
+pub mod WellMadeLaws
+-- The demands
+pub mod Demand3Holds
+pub mod Demand1Holds

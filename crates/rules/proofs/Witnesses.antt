@@ -1,0 +1,158 @@
+-- What the definitions give where the Rust would panic, and which states a run passes through: computed.
+use mathlib.Core.Bool.{true, false, xor}
+use mathlib.Core.List.{List, [], _∷_}
+use mathlib.Core.Option.{some, none}
+use mathlib.Core.Path.{_≡_, refl}
+use Prim.Native.Nat.{ℕ}
+use Rattle.rules.specs.Outcome.{refused, fault, panic, wrongKind, endless, disambiguateShort207, construct361, construct390, remove431, remove433}
+use Rattle.rules.specs.Outcome.{adjacentScope506, adjacentScope508, setScope561, argsIter635, onlyOnce282, onlyOnce288}
+use Rattle.rules.specs.Outcome.{parseFlag559, takeArgument679}
+use Rattle.rules.specs.Value.{text, number, isNumber}
+use Rattle.rules.specs.Tree.{Named, unrestricted, Flag, Argument, Positional, Optional, Last, Choice, Fallback, Guard}
+use Rattle.rules.specs.Accept.{Letters}
+use Rattle.rules.specs.Split.{Item, Short, Word}
+use Rattle.rules.specs.State.{State}
+use Rattle.rules.specs.Eval.{Visit}
+use Rattle.utf8.specs.Utf8.{if_then_else_, table, holds, fits, leadBits, continued, scalar, decodeBy, decode, decodeAt, wellFormedAfter}
+use Rattle.utf8.specs.Utf8.{wellFormed}
+use Rattle.rules.specs.Base.{null, all, contains, same, occurrences, numbers, concatMap, firstFault, isSome, _>>?_, minus, write}
+use Rattle.rules.specs.Base.{sliceFrom, slice}
+use Rattle.rules.specs.Outcome.{_>>=_, at, refuse, refuseAt, isMissing, canCatch, wrongInput, combineWith}
+use Rattle.rules.specs.Value.{listOf, baseNumber, sameBase, baseOf, isBase, isOptional, isList, hasKind, word, size, answerWords, words}
+use Rattle.rules.specs.Value.{elements}
+use Rattle.rules.specs.Tree.{optionalKind, listKind, countKind, lastKind, shapeOf, innerBase, sameKind, choiceKind, baseKind, kindOf}
+use Rattle.rules.specs.Tree.{hasRepeat, zeros, namesOf, shortOf, longOf, namedBy, namedOf, flagOf, argumentOf, positionOf, positionalOf}
+use Rattle.rules.specs.Tree.{fitting, repeatOf, fallbackValue, fallbackOf, guardOf, childOf, caughtOf, choiceOf, treeOf}
+use Rattle.rules.specs.Split.{dash, equals, beforeEquals, behindEquals, parts, splitLong, splitShort, behindDash, splitOsArgument}
+use Rattle.rules.specs.Split.{clusterFrom, pickLetter, lookUp, disambiguateShort, flagItems, argumentItems, clusterItems, ambiguousAt}
+use Rattle.rules.specs.Split.{plain, clusterGroup, shortGroup, longGroup, partsGroup, wordGroup, splitArgument, positionals, joined}
+use Rattle.rules.specs.Split.{splitFrom, itemsOf, bit, partWords, textWords, itemRecord, recordsFrom}
+use Rattle.rules.specs.State.{parsed, present, winner, construct, emptyState, inScope, presentAt, presentFrom, unused, get, findIn, find}
+use Rattle.rules.specs.State.{first, used, remove, withCurrent, pickFrom, pickWinner, conflicts, saveConflicts, conflictAt, conflict}
+use Rattle.rules.specs.State.{countPresent, setScope, untilPresent, proposed, adjacentScope, span, adjacentlyAvailableFrom, matchShort}
+use Rattle.rules.specs.State.{matchLong, position, sameName, before, onlyOnce, markGood, currentGood, stateGood}
+use Rattle.rules.specs.Take.{took, containsName, matchesArg, takeFlag, valueText, takeValue, takeArg, isOperand, isPosWord, textOf}
+use Rattle.rules.specs.Take.{operand, takePositionalWord, commandText, isCommand, takeCommand, takeCmd}
+use Rattle.rules.specs.Eval.{ended, after, _then_, ofKind, checked, visit, statesOf, tried, missed, shownName, missing, answer, flagValue}
+use Rattle.rules.specs.Eval.{evalFlag, isDigit, digits, unsigned, numberOf, parsedText, failedAt, parseText, argumentValue, evalArgument}
+use Rattle.rules.specs.Eval.{wrongPosition, placedValue, positionalValue, evalPositional, fewer, swallowed, parseOption, evalOptional}
+use Rattle.rules.specs.Eval.{idle, repeat, repeated, evalMany, evalSome, evalCount, lastOf, evalLast, errorOf, valueOf, side, picksFirst}
+use Rattle.rules.specs.Eval.{won, chosen, evalChoice, evalFallback, guarded, evalGuard, eval}
+
+-- ---- what the lines below run on
+unfoldable named-v : Named
+named-v = record { shorts = 118 ∷ []; longs = [] }
+
+unfoldable named-q : Named
+named-q = record { shorts = 113 ∷ []; longs = [] }
+
+-- `-v`; `-q` `-v`; `a`
+unfoldable flagItem : List Item
+flagItem = Short 118 false (45 ∷ 118 ∷ []) ∷ []
+
+unfoldable twoItems : List Item
+twoItems = Short 113 false (45 ∷ 113 ∷ []) ∷ Short 118 false (45 ∷ 118 ∷ []) ∷ []
+
+unfoldable wordItem : List Item
+wordItem = Word (97 ∷ []) ∷ []
+
+unfoldable fresh : State
+fresh = record { marks = 0 ∷ 0 ∷ []; remaining = 2; current = none; start = 0; end = 2 }
+
+unfoldable after-one : State
+after-one = record { marks = 0 ∷ 1 ∷ []; remaining = 1; current = some 1; start = 0; end = 2 }
+
+unfoldable after-zero : State
+after-zero = record { marks = 1 ∷ 0 ∷ []; remaining = 1; current = some 0; start = 0; end = 2 }
+
+-- place 1 is in conflict with place 0
+unfoldable after-choice : State
+after-choice = record { marks = 1 ∷ 2 ∷ []; remaining = 1; current = some 0; start = 0; end = 2 }
+
+unfoldable one-word : State
+one-word = record { marks = 0 ∷ []; remaining = 1; current = none; start = 0; end = 1 }
+
+unfoldable word-used : State
+word-used = record { marks = 1 ∷ []; remaining = 0; current = some 0; start = 0; end = 1 }
+
+unfoldable nothing : State
+nothing = record { marks = []; remaining = 0; current = none; start = 0; end = 0 }
+
+-- states that no run gives: marks, remaining and a scope that do not fit one another
+unfoldable forged : List ℕ → ℕ → ℕ → ℕ → State
+forged marks left a b = record { marks = marks; remaining = left; current = none; start = a; end = b }
+
+unfoldable noNames : Named
+noNames = record { shorts = []; longs = [] }
+
+unfoldable noLetters : Letters
+noLetters = record { flags = []; arguments = [] }
+
+unfoldable visited : State → State → Visit
+visited s t = record { given = s; left = t }
+
+-- ---- spots where the Rust would panic: an ill-made tree or a forged state on which the definition gives that outcome.
+-- 391 and 434 come right after a write at the same place has succeeded, so there is an item and the place is there; 125 to 127 look up
+-- the first of a list that was found not empty; 305 and 307 unwrap the value of a side that was found to have no error. Neither the
+-- Rust nor the definition can reach these. The last three are the other faults
+spots :
+    -- a cluster that is not UTF-8
+    (clusterFrom 0 0 (0xFF ∷ []) ≡ fault (panic disambiguateShort207))
+    -- a short name of no byte
+    × (shortGroup noLetters [] [] (some []) ≡ fault (panic construct361))
+    -- a `--` at a place that is not there
+    × (construct 1 0 (some 0) ≡ fault (panic construct390))
+    -- a scope past the marks; a present place with nothing remaining
+    × (remove 1 (forged [] 0 0 1) 0 ≡ fault (panic remove431))
+    × (remove 1 (forged (0 ∷ []) 0 0 1) 0 ≡ fault (panic remove433))
+    -- a scope that starts past the marks of the one state, and of the other
+    × (adjacentScope (forged (0 ∷ []) 0 2 2) (forged (0 ∷ 0 ∷ []) 0 0 2) ≡ fault (panic adjacentScope506))
+    × (adjacentScope (forged (0 ∷ []) 0 1 1) (forged [] 0 0 0) ≡ fault (panic adjacentScope508))
+    -- a scope that falls
+    × (setScope (forged (0 ∷ []) 1 0 1) 1 0 ≡ fault (panic setScope561))
+    -- more marks than items
+    × (first [] (forged (0 ∷ []) 1 0 1) ≡ fault (panic argsIter635))
+    -- a place past the items; an earlier place that is not earlier
+    × (onlyOnce [] 1 ≡ fault (panic onlyOnce282))
+    × (before 0 (some 0) ≡ fault (panic onlyOnce288))
+    -- a required flag, and an argument, that have no name
+    × (eval 1 [] (Flag 0 noNames false) (forged [] 0 0 0) .outcome ≡ fault (panic parseFlag559))
+    × (eval 1 [] (Argument 0 noNames text false) (forged [] 0 0 0) .outcome ≡ fault (panic takeArgument679))
+    -- a guard on a flag
+    × (eval 1 flagItem (Guard 1 5 (Flag 0 named-v false)) (forged (0 ∷ []) 1 0 1) .outcome ≡ fault wrongKind)
+    -- an optional of an optional: its value is of no kind
+    × (eval 1 [] (Optional false (Optional false (Flag 0 named-v false))) nothing .outcome ≡ fault wrongKind)
+    -- a repeat with one turn's fuel
+    × (repeat false false 1 none (eval 1 flagItem (Flag 0 named-v true)) (forged (0 ∷ []) 1 0 1) .outcome ≡ fault endless)
+unfolding xor if_then_else_ table holds fits leadBits continued scalar decodeBy decode decodeAt wellFormedAfter wellFormed null all contains same occurrences numbers concatMap firstFault isSome _>>?_ minus write sliceFrom slice _>>=_ at refuse refuseAt isMissing canCatch wrongInput combineWith listOf baseNumber sameBase baseOf isBase isOptional isList hasKind word size answerWords words elements optionalKind listKind countKind lastKind shapeOf innerBase sameKind choiceKind baseKind kindOf hasRepeat zeros namesOf shortOf longOf namedBy namedOf flagOf argumentOf positionOf positionalOf fitting repeatOf fallbackValue fallbackOf guardOf childOf caughtOf choiceOf treeOf dash equals beforeEquals behindEquals parts splitLong splitShort behindDash splitOsArgument clusterFrom pickLetter lookUp disambiguateShort flagItems argumentItems clusterItems ambiguousAt plain clusterGroup shortGroup longGroup partsGroup wordGroup splitArgument positionals joined splitFrom itemsOf bit partWords textWords itemRecord recordsFrom parsed present winner construct emptyState inScope presentAt presentFrom unused get findIn find first used remove withCurrent pickFrom pickWinner conflicts saveConflicts conflictAt conflict countPresent setScope untilPresent proposed adjacentScope span adjacentlyAvailableFrom matchShort matchLong position sameName before onlyOnce markGood currentGood stateGood took containsName matchesArg takeFlag valueText takeValue takeArg isOperand isPosWord textOf operand takePositionalWord commandText isCommand takeCommand takeCmd ended after _then_ ofKind checked visit statesOf tried missed shownName missing answer flagValue evalFlag isDigit digits unsigned numberOf parsedText failedAt parseText argumentValue evalArgument wrongPosition placedValue positionalValue evalPositional fewer swallowed parseOption evalOptional idle repeat repeated evalMany evalSome evalCount lastOf evalLast errorOf valueOf side picksFirst won chosen evalChoice evalFallback guarded evalGuard eval named-v named-q flagItem twoItems wordItem fresh after-one after-zero after-choice one-word word-used nothing forged noNames noLetters visited
+spots = (refl, refl, refl, refl, refl, refl, refl, refl, refl, refl, refl, refl, refl, refl, refl, refl)
+
+-- ---- states passed through
+passed-through :
+    -- the loser of a choice: v, q on `-q` `-v`; the first evaluation is v's, which loses
+    (eval 1 twoItems (Choice (Flag 0 named-v false) (Flag 1 named-q false)) fresh .trace
+    ≡ (visited fresh after-one ∷ visited fresh after-zero ∷ visited fresh after-choice ∷ []))
+    -- an optional that is put back: its child has used the word
+    × (eval 1 wordItem (Optional true (Positional 0 unrestricted number)) one-word .trace
+    ≡ (visited one-word word-used ∷ visited one-word one-word ∷ []))
+    -- a fallback that refuses: its child has used the word, on the copy
+    × (eval 1 wordItem (Fallback (isNumber 9) (Positional 0 unrestricted number)) one-word .trace
+    ≡ (visited one-word word-used ∷ visited one-word one-word ∷ []))
+    -- `last` with no value tries its child once more: two evaluations of the child, one of its own
+    × (eval 1 [] (Last (Flag 0 named-v false)) nothing .trace
+    ≡ (visited nothing nothing ∷ visited nothing nothing ∷ visited nothing nothing ∷ []))
+unfolding xor if_then_else_ table holds fits leadBits continued scalar decodeBy decode decodeAt wellFormedAfter wellFormed null all contains same occurrences numbers concatMap firstFault isSome _>>?_ minus write sliceFrom slice _>>=_ at refuse refuseAt isMissing canCatch wrongInput combineWith listOf baseNumber sameBase baseOf isBase isOptional isList hasKind word size answerWords words elements optionalKind listKind countKind lastKind shapeOf innerBase sameKind choiceKind baseKind kindOf hasRepeat zeros namesOf shortOf longOf namedBy namedOf flagOf argumentOf positionOf positionalOf fitting repeatOf fallbackValue fallbackOf guardOf childOf caughtOf choiceOf treeOf dash equals beforeEquals behindEquals parts splitLong splitShort behindDash splitOsArgument clusterFrom pickLetter lookUp disambiguateShort flagItems argumentItems clusterItems ambiguousAt plain clusterGroup shortGroup longGroup partsGroup wordGroup splitArgument positionals joined splitFrom itemsOf bit partWords textWords itemRecord recordsFrom parsed present winner construct emptyState inScope presentAt presentFrom unused get findIn find first used remove withCurrent pickFrom pickWinner conflicts saveConflicts conflictAt conflict countPresent setScope untilPresent proposed adjacentScope span adjacentlyAvailableFrom matchShort matchLong position sameName before onlyOnce markGood currentGood stateGood took containsName matchesArg takeFlag valueText takeValue takeArg isOperand isPosWord textOf operand takePositionalWord commandText isCommand takeCommand takeCmd ended after _then_ ofKind checked visit statesOf tried missed shownName missing answer flagValue evalFlag isDigit digits unsigned numberOf parsedText failedAt parseText argumentValue evalArgument wrongPosition placedValue positionalValue evalPositional fewer swallowed parseOption evalOptional idle repeat repeated evalMany evalSome evalCount lastOf evalLast errorOf valueOf side picksFirst won chosen evalChoice evalFallback guarded evalGuard eval named-v named-q flagItem twoItems wordItem fresh after-one after-zero after-choice one-word word-used nothing forged noNames noLetters visited
+passed-through = (refl, refl, refl, refl)
+
+-- ---- decisions that are easily made otherwise
+decided :
+    -- `last` with no value: both tries count
+    (eval 1 [] (Last (Flag 0 named-v false)) nothing .tries ≡ 2)
+    -- a success that used nothing gives way to 22: argument v, or 9 where q is missing, on `-v`
+    × (eval 1 flagItem (Choice (Argument 0 named-v number false) (Fallback (isNumber 9) (Argument 1 named-q number false))) one-word .outcome
+    ≡ refused (refuseAt 22 0))
+    -- and so does one on the other side
+    × (eval 1 flagItem (Choice (Fallback (isNumber 9) (Argument 1 named-q number false)) (Argument 0 named-v number false)) one-word .outcome
+    ≡ refused (refuseAt 22 0))
+unfolding xor if_then_else_ table holds fits leadBits continued scalar decodeBy decode decodeAt wellFormedAfter wellFormed null all contains same occurrences numbers concatMap firstFault isSome _>>?_ minus write sliceFrom slice _>>=_ at refuse refuseAt isMissing canCatch wrongInput combineWith listOf baseNumber sameBase baseOf isBase isOptional isList hasKind word size answerWords words elements optionalKind listKind countKind lastKind shapeOf innerBase sameKind choiceKind baseKind kindOf hasRepeat zeros namesOf shortOf longOf namedBy namedOf flagOf argumentOf positionOf positionalOf fitting repeatOf fallbackValue fallbackOf guardOf childOf caughtOf choiceOf treeOf dash equals beforeEquals behindEquals parts splitLong splitShort behindDash splitOsArgument clusterFrom pickLetter lookUp disambiguateShort flagItems argumentItems clusterItems ambiguousAt plain clusterGroup shortGroup longGroup partsGroup wordGroup splitArgument positionals joined splitFrom itemsOf bit partWords textWords itemRecord recordsFrom parsed present winner construct emptyState inScope presentAt presentFrom unused get findIn find first used remove withCurrent pickFrom pickWinner conflicts saveConflicts conflictAt conflict countPresent setScope untilPresent proposed adjacentScope span adjacentlyAvailableFrom matchShort matchLong position sameName before onlyOnce markGood currentGood stateGood took containsName matchesArg takeFlag valueText takeValue takeArg isOperand isPosWord textOf operand takePositionalWord commandText isCommand takeCommand takeCmd ended after _then_ ofKind checked visit statesOf tried missed shownName missing answer flagValue evalFlag isDigit digits unsigned numberOf parsedText failedAt parseText argumentValue evalArgument wrongPosition placedValue positionalValue evalPositional fewer swallowed parseOption evalOptional idle repeat repeated evalMany evalSome evalCount lastOf evalLast errorOf valueOf side picksFirst won chosen evalChoice evalFallback guarded evalGuard eval named-v named-q flagItem twoItems wordItem fresh after-one after-zero after-choice one-word word-used nothing forged noNames noLetters visited
+decided = (refl, refl, refl)

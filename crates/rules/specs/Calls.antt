@@ -1,0 +1,295 @@
+-- Single calls: what they are refused with (1 to 7, then 30, 29, 28, in this order) and what they hand back.
+use mathlib.Core.Bool.{Bool, true, false, not, _&&_}
+use mathlib.Core.List.{List, [], _∷_, _++_}
+use mathlib.Core.Option.{Option, some, none}
+use Prim.Native.Nat.{ℕ, zero, suc, _+_, _-_, pred}
+use lib.Dec.{leb, eqb, ltb}
+use lib.ListN.{length, getD, take, drop, getElem?}
+use Rattle.utf8.specs.Utf8.{if_then_else_}
+use Rattle.rules.specs.Base.{_>>?_, isSome}
+use Rattle.rules.specs.Outcome.{Outcome, ok, refused, fault, _>>=_, Refusal, refuse}
+use Rattle.rules.specs.Value.{Kind, Value, words}
+use Rattle.rules.specs.Sheet.{sheetFault, sheetArea}
+use Rattle.rules.specs.Form.{Form, Name, nameBytes, portable}
+use Rattle.rules.specs.Tree.{Named, Tree, Flag, Argument, Positional, Optional, Many, Some, Count, Last, Choice, Fallback, Guard, zeros, kindOf}
+use Rattle.rules.specs.Accept.{Accepted, accepted, refusedAt, checkForm}
+use Rattle.rules.specs.Split.{Item, Short, Long, ArgWord, Word, PosWord}
+use Rattle.rules.specs.State.{State, parsed, stateGood, get, remove, Conflict, conflict, Picked, pickWinner, saveConflicts, Scope, setScope, adjacentScope, adjacentlyAvailableFrom, onlyOnce}
+use Rattle.rules.specs.Take.{Took, took, Taken, Operand, matchesArg, textOf, takeFlag, takeArg, takePositionalWord, takeCmd}
+use Rattle.rules.specs.Eval.{Ran, eval}
+use Rattle.rules.specs.Run.{padded, parsedMark}
+
+-- ---- what a call is given
+-- 1 to 4
+unfoldable pub formIn : List ℕ → Outcome Accepted
+formIn b = elim (checkForm b)
+    [ refusedAt n k ↦ refused (record { number = n; place = k; missing = [] }) | accepted a ↦ ok a ]
+
+-- 6 and 5; the sheet's area
+unfoldable pub sheetIn : List ℕ → Outcome (List ℕ)
+sheetIn s = if eqb (sheetFault s) 0 then ok (sheetArea s) else refused (refuse (sheetFault s))
+
+-- 7, for the one slice that the call has
+unfoldable pub sliceIn : ℕ → List ℕ → Outcome (List ℕ)
+sliceIn least l = if leb least (length l) then ok l else refused (refuse 7)
+
+-- 30: an item record of unknown kind, with adjacent above 1, a non-zero unused word or a part outside the area
+unfoldable pub partIn : List ℕ → ℕ → ℕ → Option (List ℕ)
+partIn area offset size = if leb (offset + size) (length area) then some (take size (drop offset area)) else none
+
+unfoldable pub shortFrom : List ℕ → List ℕ → Option Item
+shortFrom area r =
+    if leb (getD r 1 0) 1 && zeros (getD r 3 0 ∷ getD r 4 0 ∷ [])
+    then (partIn area (getD r 5 0) (getD r 6 0) >>? λ t. some (Short (getD r 2 0) (eqb (getD r 1 0) 1) t))
+    else none
+
+unfoldable pub longFrom : List ℕ → List ℕ → Option Item
+longFrom area r =
+    if leb (getD r 1 0) 1 && zeros (getD r 2 0 ∷ [])
+    then (partIn area (getD r 3 0) (getD r 4 0) >>? λ n.
+    partIn area (getD r 5 0) (getD r 6 0) >>? λ t. some (Long n (eqb (getD r 1 0) 1) t))
+    else none
+
+unfoldable pub wordFrom : (List ℕ → Item) → List ℕ → List ℕ → Option Item
+wordFrom make area r =
+    if zeros (getD r 1 0 ∷ getD r 2 0 ∷ getD r 3 0 ∷ getD r 4 0 ∷ [])
+    then (partIn area (getD r 5 0) (getD r 6 0) >>? λ t. some (make t))
+    else none
+
+unfoldable pub itemFrom : List ℕ → List ℕ → Option Item
+itemFrom area r =
+    if eqb (getD r 0 0) 1 then shortFrom area r else
+    (if eqb (getD r 0 0) 2 then longFrom area r else
+    (if eqb (getD r 0 0) 3 then wordFrom ArgWord area r else
+    (if eqb (getD r 0 0) 4 then wordFrom Word area r else
+    (if eqb (getD r 0 0) 5 then wordFrom PosWord area r else none))))
+
+-- The items of a slice are its first 256 records up to the last that is not all 0
+unfoldable pub recordsIn : ℕ → List ℕ → List (List ℕ)
+recordsIn zero l = []
+recordsIn (suc n) l = take 7 l ∷ recordsIn n (drop 7 l)
+
+unfoldable pub trimmed : List (List ℕ) → List (List ℕ)
+trimmed [] = []
+trimmed (r ∷ rs) = elim (trimmed rs) [ [] ↦ if zeros r then [] else r ∷ [] | x ∷ xs ↦ r ∷ x ∷ xs ]
+
+unfoldable pub itemsFrom : List ℕ → List (List ℕ) → Option (List Item)
+itemsFrom area [] = some []
+itemsFrom area (r ∷ rs) = itemFrom area r >>? λ x. itemsFrom area rs >>? λ xs. some (x ∷ xs)
+
+unfoldable pub itemsIn : List ℕ → List ℕ → Outcome (List Item)
+itemsIn area l = elim (itemsFrom area (trimmed (recordsIn 256 l))) [ none ↦ refused (refuse 30) | some is ↦ ok is ]
+
+-- A state as it is handed over: 256 marks, and `current` as the place plus 1, or 0 for none
+pub record Raw : Type 0 where
+  pub count : ℕ
+  pub marks : List ℕ
+  pub remaining : ℕ
+  pub current : ℕ
+  pub start : ℕ
+  pub end : ℕ
+
+unfoldable pub fromRaw : Raw → State
+fromRaw x = record {
+  marks = take (x .count) (x .marks);
+  remaining = x .remaining;
+  current = if eqb (x .current) 0 then none else some (x .current - 1);
+  start = x .start;
+  end = x .end;
+}
+
+unfoldable pub toRaw : State → Raw
+toRaw s = record {
+  count = length (s .marks);
+  marks = padded 256 (s .marks);
+  remaining = s .remaining;
+  current = elim (s .current) [ none ↦ 0 | some i ↦ suc i ];
+  start = s .start;
+  end = s .end;
+}
+
+-- 29: a state that is not good, or not over this many items; later marks are 0
+unfoldable pub stateIn : ℕ → Raw → Outcome State
+stateIn n x =
+    if eqb (x .count) n && zeros (drop (x .count) (x .marks)) && stateGood parsed n (fromRaw x)
+    then ok (fromRaw x)
+    else refused (refuse 29)
+
+-- 28: no such node or name of the kind asked for, no such place
+unfoldable pub asked : {A : Type 0} → Option A → Outcome A
+asked none = refused (refuse 28)
+asked (some a) = ok a
+
+unfoldable pub placeIn : ℕ → ℕ → Outcome ℕ
+placeIn n i = if ltb i n then ok i else refused (refuse 28)
+
+-- a scope that falls or leaves the items
+unfoldable pub scopeIn : ℕ → ℕ → ℕ → Outcome Scope
+scopeIn n a b = if leb a b && leb b n then ok (record { start = a; end = b }) else refused (refuse 28)
+
+-- a flag's names, an argument's with whether it is adjacent
+unfoldable pub flagNames : Tree → Option Named
+flagNames (Flag n m w) = some m
+flagNames (Argument n m b a) = none
+flagNames (Positional n p b) = none
+flagNames (Optional c t) = none
+flagNames (Many c t) = none
+flagNames (Some c t) = none
+flagNames (Count t) = none
+flagNames (Last t) = none
+flagNames (Choice t u) = none
+flagNames (Fallback v t) = none
+flagNames (Guard l h t) = none
+
+pub record Key : Type 0 where
+  pub named : Named
+  pub adjacent : Bool
+
+unfoldable pub argumentKey : Tree → Option Key
+argumentKey (Flag n m w) = none
+argumentKey (Argument n m b a) = some (record { named = m; adjacent = a })
+argumentKey (Positional n p b) = none
+argumentKey (Optional c t) = none
+argumentKey (Many c t) = none
+argumentKey (Some c t) = none
+argumentKey (Count t) = none
+argumentKey (Last t) = none
+argumentKey (Choice t u) = none
+argumentKey (Fallback v t) = none
+argumentKey (Guard l h t) = none
+
+-- a flag takes any item with its name
+unfoldable pub keyOf : Tree → Option Key
+keyOf t = elim (flagNames t) [ some m ↦ some (record { named = m; adjacent = false }) | none ↦ argumentKey t ]
+
+unfoldable pub commandName : Accepted → ℕ → Option (List ℕ)
+commandName a k =
+    getElem? (a .form .names) k >>? λ x. if leb (x .type) 1 then some (nameBytes (a .form .area) x) else none
+
+-- ---- what a call hands back
+-- a number and its place, the answer, and the state: refused, the one that was given
+pub record Called (A : Type 0) : Type 0 where
+  pub number : ℕ
+  pub place : Option ℕ
+  pub answer : Option A
+  pub state : Raw
+
+unfoldable pub handed : {A : Type 0} → Raw → Outcome (Took A) → Outcome (Called A)
+handed x (ok t) = ok (record { number = 0; place = none; answer = some (t .answer); state = toRaw (t .state) })
+handed x (refused e) = ok (record { number = e .number; place = e .place; answer = none; state = x })
+handed x (fault f) = fault f
+
+-- ---- calls on a state alone
+unfoldable pub callRemove : Raw → ℕ → Outcome (Called Bool)
+callRemove x i = handed x (stateIn (x .count) x >>= λ s. placeIn (x .count) i >>= λ _. remove parsedMark s i >>= took true)
+
+unfoldable pub callPickWinner : Raw → Raw → Outcome (Called Picked)
+callPickWinner x y = handed x (stateIn (x .count) x >>= λ s. stateIn (x .count) y >>= λ t. took (pickWinner s t) s)
+
+unfoldable pub callSaveConflicts : Raw → Raw → ℕ → Outcome (Called Bool)
+callSaveConflicts x y w = handed x (stateIn (x .count) x >>= λ s. stateIn (x .count) y >>= λ t.
+    placeIn (x .count) w >>= λ _. took true (saveConflicts s t w))
+
+unfoldable pub callSetScope : Raw → ℕ → ℕ → Outcome (Called Bool)
+callSetScope x a b = handed x (stateIn (x .count) x >>= λ s. scopeIn (x .count) a b >>= λ _. setScope s a b >>= took true)
+
+unfoldable pub callAdjacentScope : Raw → Raw → Outcome (Called (Option Scope))
+callAdjacentScope x y = handed x (stateIn (x .count) x >>= λ s. stateIn (x .count) y >>= λ t.
+    adjacentScope s t >>= λ c. took c s)
+
+unfoldable pub callAvailableFrom : Raw → ℕ → Outcome (Called Scope)
+callAvailableFrom x a = handed x (stateIn (x .count) x >>= λ s. placeIn (suc (x .count)) a >>= λ _.
+    took (adjacentlyAvailableFrom s a) s)
+
+-- ---- calls on items and a state: sheet, item slice, state
+unfoldable pub onItems : {A : Type 0} → List ℕ → List ℕ → Raw → (List Item → State → Outcome (Took A)) → Outcome (Called A)
+onItems sheet slice x f = handed x (sheetIn sheet >>= λ area. sliceIn 1792 slice >>= λ l. itemsIn area l >>= λ is.
+    stateIn (length is) x >>= f is)
+
+unfoldable pub callGet : List ℕ → List ℕ → Raw → ℕ → Outcome (Called (Option Item))
+callGet sheet slice x i = onItems sheet slice x (λ is s. placeIn (length is) i >>= λ _. took (get is s i) s)
+
+unfoldable pub callConflict : List ℕ → List ℕ → Raw → Outcome (Called (Option Conflict))
+callConflict sheet slice x = onItems sheet slice x (λ is s. conflict is s >>= λ c. took c s)
+
+unfoldable pub operandOr20 : Took (Option Operand) → Outcome (Took Operand)
+operandOr20 t = elim (t .answer) [ none ↦ refused (refuse 20) | some o ↦ took o (t .state) ]
+
+unfoldable pub callTakePositional : List ℕ → List ℕ → Raw → Outcome (Called Operand)
+callTakePositional sheet slice x = onItems sheet slice x (λ is s. takePositionalWord parsedMark is s >>= operandOr20)
+
+-- `only_once`: sheet, item slice and place; there is no state to hand back
+unfoldable pub callOnlyOnce : List ℕ → List ℕ → ℕ → Outcome (Option ℕ)
+callOnlyOnce sheet slice i = sheetIn sheet >>= λ area. sliceIn 1792 slice >>= λ l. itemsIn area l >>= λ is.
+    placeIn (length is) i >>= λ _. onlyOnce is i
+
+-- ---- calls with a form: what the form must have is asked for last
+unfoldable pub onForm : {A : Type 0} → List ℕ → List ℕ → List ℕ → Raw → (Accepted → List Item → State → Outcome (Took A)) → Outcome (Called A)
+onForm form sheet slice x f = handed x (formIn form >>= λ a. sheetIn sheet >>= λ area. sliceIn 1792 slice >>= λ l.
+    itemsIn area l >>= λ is. stateIn (length is) x >>= f a is)
+
+unfoldable pub callMatches : List ℕ → List ℕ → List ℕ → Raw → ℕ → ℕ → Outcome (Called Bool)
+callMatches form sheet slice x k i = onForm form sheet slice x (λ a is s.
+    asked (getElem? (a .trees) k >>? keyOf) >>= λ m. asked (getElem? is i) >>= λ y.
+    took (matchesArg (m .named) (m .adjacent) y) s)
+
+unfoldable pub callTakeFlag : List ℕ → List ℕ → List ℕ → Raw → ℕ → Outcome (Called Bool)
+callTakeFlag form sheet slice x k = onForm form sheet slice x (λ a is s.
+    asked (getElem? (a .trees) k >>? flagNames) >>= λ m. takeFlag parsedMark is m s)
+
+unfoldable pub callTakeArg : List ℕ → List ℕ → List ℕ → Raw → ℕ → Outcome (Called (Option Taken))
+callTakeArg form sheet slice x k = onForm form sheet slice x (λ a is s.
+    asked (getElem? (a .trees) k >>? argumentKey) >>= λ m. takeArg parsedMark is (m .named) (m .adjacent) s)
+
+unfoldable pub callTakeCmd : List ℕ → List ℕ → List ℕ → Raw → ℕ → Outcome (Called Bool)
+callTakeCmd form sheet slice x k = onForm form sheet slice x (λ a is s.
+    asked (commandName a k) >>= λ w. takeCmd parsedMark is w s)
+
+-- the kind of a node, and the portable mark, of a form
+unfoldable pub callKind : List ℕ → ℕ → Outcome Kind
+callKind form k = formIn form >>= λ a. asked (getElem? (a .trees) k >>? kindOf)
+
+unfoldable pub callPortable : List ℕ → Outcome Bool
+callPortable form = formIn form >>= λ a. ok (portable (a .form))
+
+-- ---- the text of an answer word: a part of the sheet or of the form
+unfoldable pub recordText : Accepted → ℕ → Option (List ℕ)
+recordText a k =
+    getElem? (a .form .names) k >>? λ x. if eqb (x .type) 2 then some (nameBytes (a .form .area) x) else none
+
+unfoldable pub callText : List ℕ → List ℕ → List ℕ → ℕ → Outcome (List ℕ)
+callText form sheet slice w = formIn form >>= λ a. sheetIn sheet >>= λ area. sliceIn 1792 slice >>= λ l.
+    itemsIn area l >>= λ is.
+    asked (if ltb w 256 then (getElem? is w >>? λ x. some (textOf x)) else recordText a (w - 256))
+
+-- ---- `eval` of a node: refused 20 to 26, answers 0 and the state that it left
+pub record Evaluated : Type 0 where
+  pub number : ℕ
+  pub place : Option ℕ
+  pub tries : ℕ
+  pub words : List ℕ
+  pub state : Raw
+  pub answers : List ℕ
+
+unfoldable pub evaluated : ℕ → Ran Value → Outcome Evaluated
+evaluated na r = elim (r .outcome) [
+  | ok v ↦ ok (record
+      { number = 0; place = none; tries = r .tries; words = words v; state = toRaw (r .state); answers = padded na (words v) })
+  | refused e ↦ ok (record
+      { number = e .number; place = e .place; tries = r .tries; words = []; state = toRaw (r .state); answers = padded na [] })
+  | fault f ↦ fault f
+]
+
+-- refused before that, nothing changes
+unfoldable pub unchanged : Raw → List ℕ → Refusal → Evaluated
+unchanged x answers e = record
+    { number = e .number; place = e .place; tries = 0; words = []; state = x; answers = answers }
+
+unfoldable pub evalIn : List ℕ → List ℕ → List ℕ → List ℕ → Raw → ℕ → Outcome (Ran Value)
+evalIn form sheet slice answers x k = formIn form >>= λ a. sheetIn sheet >>= λ area. sliceIn 1792 slice >>= λ l.
+    sliceIn 8240 answers >>= λ _. itemsIn area l >>= λ is. stateIn (length is) x >>= λ s.
+    asked (getElem? (a .trees) k) >>= λ t. ok (eval parsedMark is t s)
+
+unfoldable pub callEval : List ℕ → List ℕ → List ℕ → List ℕ → Raw → ℕ → Outcome Evaluated
+callEval form sheet slice answers x k = elim (evalIn form sheet slice answers x k)
+    [ ok r ↦ evaluated (length answers) r | refused e ↦ ok (unchanged x answers e) | fault f ↦ fault f ]

@@ -1,0 +1,128 @@
+-- The run: the whole answer to a form and a sheet, with what both slices hold.
+use mathlib.Core.Bool.{Bool, true, false, _||_}
+use mathlib.Core.List.{List, [], _∷_, _++_}
+use mathlib.Core.Option.{Option, some, none}
+use Prim.Native.Nat.{ℕ, _+_, _-_}
+use lib.Dec.{eqb, ltb}
+use lib.ListN.{length, replicate}
+use Rattle.utf8.specs.Utf8.{if_then_else_}
+use Rattle.rules.specs.Outcome.{Outcome, ok, refused, fault, _>>=_, Refusal, refuse, refuseAt}
+use Rattle.rules.specs.Value.{Value, answerWords}
+use Rattle.rules.specs.Sheet.{sheetFault, arguments}
+use Rattle.rules.specs.Form.{Form}
+use Rattle.rules.specs.Tree.{Tree}
+use Rattle.rules.specs.Accept.{Checked, accepted, refusedAt, Accepted, checkForm, lettersOf}
+use Rattle.rules.specs.Split.{Item, Split, splitFrom, itemsOf, recordsFrom}
+use Rattle.rules.specs.State.{State, Found, construct, emptyState, first}
+use Rattle.rules.specs.Eval.{Ran, ended, _then_, eval}
+
+-- ---- a sheet, split under a form
+-- the items, their records, the state, and 8 or 9 if splitting refuses
+pub record Line : Type 0 where
+  pub refusal : Option Refusal
+  pub items : List Item
+  pub records : List ℕ
+  pub state : State
+
+-- the mark of a used place
+unfoldable pub parsedMark : ℕ
+parsedMark = 1
+
+-- 8: more than 256 items
+unfoldable pub tooMany : Line
+tooMany = record { refusal = some (refuse 8); items = []; records = []; state = emptyState }
+
+-- 9: ambiguous letter; items kept and unparsed
+unfoldable pub ambiguity : Option ℕ → Option Refusal
+ambiguity none = none
+ambiguity (some i) = some (refuseAt 9 i)
+
+unfoldable pub lineOf : List (List ℕ) → Split → Outcome Line
+lineOf args x =
+    if ltb 256 (length (itemsOf x))
+    then ok tooMany
+    else (construct parsedMark (length (itemsOf x)) (x .marker) >>= λ s. ok (record {
+      refusal = ambiguity (x .ambiguous);
+      items = itemsOf x;
+      records = recordsFrom 0 args (x .groups);
+      state = s;
+    }))
+
+unfoldable pub split : Form → List ℕ → Outcome Line
+split f s = splitFrom (lettersOf f) 0 (arguments s) >>= lineOf (arguments s)
+
+-- ---- fields in order on one state, `current` carried on, stopping at the first refusal
+unfoldable pub runFields : ℕ → List Item → List Tree → State → Ran (List Value)
+runFields k is [] s = ended (ok []) s
+runFields k is (t ∷ ts) s = eval k is t s then λ v u. runFields k is ts u then λ vs w. ended (ok (v ∷ vs)) w
+
+-- then 27 if a present place is left in scope
+unfoldable pub leftOver : List Value → Option Found → Outcome (List Value)
+leftOver vs none = ok vs
+leftOver vs (some x) = refused (refuseAt 27 (x .place))
+
+unfoldable pub runAll : ℕ → List Item → List Tree → State → Ran (List Value)
+runAll k is ts s = runFields k is ts s then λ vs t. ended (first is t >>= leftOver vs) t
+
+-- splitting's refusal stands, or the fields run
+unfoldable pub runLine : List Tree → Line → Ran (List Value)
+runLine ts l = elim (l .refusal) [ some e ↦ ended (refused e) (l .state) | none ↦ runAll parsedMark (l .items) ts (l .state) ]
+
+-- ---- what is reported
+pub record Report : Type 0 where
+  pub number : ℕ
+  pub place : Option ℕ
+  pub tries : ℕ
+  pub words : List ℕ
+  pub state : State
+  pub items : List ℕ
+  pub answers : List ℕ
+
+-- a slice of n words: past the last word all is 0
+unfoldable pub padded : ℕ → List ℕ → List ℕ
+padded n l = l ++ replicate (n - length l) 0
+
+-- 1 to 7: both slices all 0, tries 0, an empty state
+unfoldable pub refusedInput : ℕ → ℕ → ℕ → Option ℕ → Report
+refusedInput ni na n k = record
+    { number = n; place = k; tries = 0; words = []; state = emptyState; items = padded ni []; answers = padded na [] }
+
+-- values, or a refusal with items kept, the state reached, answers 0, and the tries made so far
+unfoldable pub report : ℕ → ℕ → Line → Ran (List Value) → Outcome Report
+report ni na l r = elim (r .outcome) [
+  | ok vs ↦ ok (record {
+    number = 0;
+    place = none;
+    tries = r .tries;
+    words = answerWords vs;
+    state = r .state;
+    items = padded ni (l .records);
+    answers = padded na (answerWords vs);
+  })
+  | refused e ↦ ok (record {
+    number = e .number;
+    place = e .place;
+    tries = r .tries;
+    words = [];
+    state = r .state;
+    items = padded ni (l .records);
+    answers = padded na [];
+  })
+  | fault x ↦ fault x
+]
+
+-- 7: item slice under 1,792 words or answer slice under 8,240
+unfoldable pub shortSlices : ℕ → ℕ → Bool
+shortSlices ni na = ltb ni 1792 || ltb na 8240
+
+unfoldable pub runChecked : ℕ → ℕ → List ℕ → Accepted → Outcome Report
+runChecked ni na s a =
+    if ltb 0 (sheetFault s)
+    then ok (refusedInput ni na (sheetFault s) none)
+    else (if shortSlices ni na
+    then ok (refusedInput ni na 7 none)
+    else (split (a .form) s >>= λ l. report ni na l (runLine (a .fields) l)))
+
+-- form bytes, sheet bytes, and the lengths of the item slice and the answer slice
+unfoldable pub run : List ℕ → List ℕ → ℕ → ℕ → Outcome Report
+run b s ni na = elim (checkForm b) [ refusedAt n k ↦ ok (refusedInput ni na n k) | accepted a ↦ runChecked ni na s a ]
