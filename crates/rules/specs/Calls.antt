@@ -18,6 +18,8 @@ use Rattle.rules.specs.State.{State, parsed, stateGood, get, remove, Con
 use Rattle.rules.specs.Take.{Took, took, Taken, Operand, matchesArg, textOf, takeFlag, takeArg, takePositionalWord, takeCmd}
 use Rattle.rules.specs.Eval.{Ran, eval}
 use Rattle.rules.specs.Run.{padded, parsedMark}
+use Rattle.rules.specs.Codes.{placeCode}
+use Rattle.rules.specs.declared.State.{State as Raw}
 
 -- ---- what a call is given
 -- 1 to 4
@@ -80,15 +82,7 @@ itemsFrom area (r ∷ rs) = itemFrom area r >>? λ x. itemsFrom area rs >>? λ x
 unfoldable pub itemsIn : List ℕ → List ℕ → Outcome (List Item)
 itemsIn area l = elim (itemsFrom area (trimmed (recordsIn 256 l))) [ none ↦ refused (refuse 30) | some is ↦ ok is ]
 
--- A state as it is handed over: 256 marks, and `current` as the place plus 1, or 0 for none
-pub record Raw : Type 0 where
-  pub count : ℕ
-  pub marks : List ℕ
-  pub remaining : ℕ
-  pub current : ℕ
-  pub start : ℕ
-  pub end : ℕ
-
+-- A state as it is handed over has 256 marks, and `current` as the place plus 1, or 0 for none
 unfoldable pub fromRaw : Raw → State
 fromRaw x = record {
   marks = take (x .count) (x .marks);
@@ -103,7 +97,7 @@ toRaw s = record {
   count = length (s .marks);
   marks = padded 256 (s .marks);
   remaining = s .remaining;
-  current = elim (s .current) [ none ↦ 0 | some i ↦ suc i ];
+  current = placeCode (s .current);
   start = s .start;
   end = s .end;
 }

@@ -12,6 +12,7 @@ pub mod Take
 pub mod Eval
 pub mod Run
 pub mod Bench
+pub mod Codes
 pub mod Calls
 pub mod Encode
 -- What the theorems say
