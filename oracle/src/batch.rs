@@ -221,3 +221,38 @@ pub fn calls(seed: u64, count: u64) -> bool {
     println!("calls: {made} made, {broken} broken");
     broken == 0
 }
+
+/// The bytes of a word of the table of differences: `\\xHH` is a byte.
+fn unescaped(word: &str) -> Vec<u8> {
+    let mut out = Vec::new();
+    let mut rest = word;
+    while let Some((before, after)) = rest.split_once("\\x") {
+        out.extend(before.bytes());
+        out.push(u8::from_str_radix(&after[..2], 16).expect("two hexadecimal digits"));
+        rest = &after[2..];
+    }
+    out.extend(rest.bytes());
+    out
+}
+
+/// The table of differences with POSIX and GNU: what is said of this project's answers, by the real bpaf.
+pub fn differences(path: &str) -> bool {
+    const KINDS: [&str; 6] = ["", "Short", "Long", "ArgWord", "Word", "PosWord"];
+    let text = std::fs::read_to_string(path).unwrap_or_else(|e| panic!("{path}: {e}"));
+    let (mut rows, mut differ) = (0, 0);
+    for row in text.lines().filter(|l| !l.is_empty() && !l.starts_with('#')) {
+        let columns: Vec<&str> = row.split(" ; ").map(str::trim).collect();
+        let [name, _, _, line, _, form, ours] = columns[..] else { panic!("a row of seven columns: {row}") };
+        let sheet = Sheet { arguments: line.split(' ').map(unescaped).collect() };
+        let ran = run_bytes(&parsed(form).write(), &sheet.write(), Wanted { items: true, probe: false });
+        let kinds: Vec<&str> = ran.records.iter().map(|r| KINDS[r[0] as usize]).collect();
+        let answer = format!("{} {} {}", ran.answer.number, or_dash(ran.answer.place), kinds.join(" "));
+        rows += 1;
+        if answer != ours {
+            differ += 1;
+            println!("DIFFERS {name}: the answer is `{answer}`, the table says `{ours}`");
+        }
+    }
+    println!("differences: {rows} rows, {differ} differ");
+    rows > 0 && differ == 0
+}

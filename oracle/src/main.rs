@@ -33,6 +33,7 @@ oracle probe SEED COUNT            generated cases, every state and value looked
 oracle short ARGUMENTS BYTES       the same for every short line over a small alphabet
 oracle calls SEED COUNT            generated single calls, no panic and states that hold together
 oracle equations SEED COUNT        cases as equations about the definitions (see oracle/equations)
+oracle differences FILE            the table of differences with POSIX and GNU: this project's answers
 oracle test                        lines with known answers
 ";
 
@@ -125,6 +126,7 @@ fn live(first: &str, words: &[String]) -> bool {
             equations::print(number(words, 1, 1), number(words, 2, 220) as usize);
             true
         }
+        "differences" if words.len() == 2 => batch::differences(&words[1]),
         "test" => {
             let tests = lines::all();
             println!("oracle: {} passed, {} failed", tests.passed, tests.failed);
