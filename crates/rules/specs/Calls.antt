@@ -14,10 +14,10 @@ use Rattle.rules.specs.Form.{Form, Name, nameBytes, portable}
 use Rattle.rules.specs.Tree.{Named, Tree, Flag, Argument, Positional, Optional, Many, Some, Count, Last, Choice, Fallback, Guard, zeros, kindOf}
 use Rattle.rules.specs.Accept.{Accepted, accepted, refusedAt, checkForm}
 use Rattle.rules.specs.Split.{Item, Short, Long, ArgWord, Word, PosWord}
-use Rattle.rules.specs.State.{State, parsed, stateGood, get, remove, Conflict, conflict, Picked, pickWinner, saveConflicts, Scope, setScope, adjacentScope, adjacentlyAvailableFrom, onlyOnce}
+use Rattle.rules.specs.State.{State, emptyState, parsed, stateGood, get, remove, Conflict, conflict, Picked, pickWinner, saveConflicts, Scope, setScope, adjacentScope, adjacentlyAvailableFrom, onlyOnce}
 use Rattle.rules.specs.Take.{Took, took, Taken, Operand, matchesArg, textOf, takeFlag, takeArg, takePositionalWord, takeCmd}
 use Rattle.rules.specs.Eval.{Ran, eval}
-use Rattle.rules.specs.Run.{padded, parsedMark}
+use Rattle.rules.specs.Run.{padded, parsedMark, Line, split}
 use Rattle.rules.specs.Codes.{placeCode}
 use Rattle.rules.specs.declared.State.{State as Raw}
 
@@ -245,6 +245,36 @@ callKind form k = formIn form >>= λ a. asked (getElem? (a .trees) k >>? kindOf)
 
 unfoldable pub callPortable : List ℕ → Outcome Bool
 callPortable form = formIn form >>= λ a. ok (portable (a .form))
+
+-- ---- splitting: form, sheet, and the length of the item slice
+pub record Splitting : Type 0 where
+  pub number : ℕ
+  pub place : Option ℕ
+  pub state : Raw
+  pub items : List ℕ
+
+-- 1 to 7: all 0, an empty state
+unfoldable pub splitRefused : ℕ → ℕ → Option ℕ → Splitting
+splitRefused n number place = record { number = number; place = place; state = toRaw emptyState; items = padded n [] }
+
+-- 8 leaves the same; 9 keeps the items, unparsed
+unfoldable pub splitReport : ℕ → Line → Splitting
+splitReport n l = record {
+  number = elim (l .refusal) [ none ↦ 0 | some e ↦ e .number ];
+  place = elim (l .refusal) [ none ↦ none | some e ↦ e .place ];
+  state = toRaw (l .state);
+  items = padded n (l .records);
+}
+
+unfoldable pub splitChecked : ℕ → List ℕ → Form → Outcome Splitting
+splitChecked n s f =
+    if ltb 0 (sheetFault s)
+    then ok (splitRefused n (sheetFault s) none)
+    else (if ltb n 1792 then ok (splitRefused n 7 none) else (split f s >>= λ l. ok (splitReport n l)))
+
+unfoldable pub callSplit : List ℕ → List ℕ → ℕ → Outcome Splitting
+callSplit form sheet n = elim (checkForm form)
+    [ refusedAt m k ↦ ok (splitRefused n m k) | accepted a ↦ splitChecked n sheet (a .form) ]
 
 -- ---- the text of an answer word: a part of the sheet or of the form
 unfoldable pub recordText : Accepted → ℕ → Option (List ℕ)
