@@ -19,7 +19,7 @@ use Rattle.rules.specs.Accept.{Checked, accepted, refusedAt, Accepted, c
 use Rattle.rules.specs.Outcome.{refuseAt}
 use Rattle.rules.specs.State.{emptyState}
 use Rattle.rules.specs.Eval.{Ran, ended}
-use Rattle.rules.specs.Run.{Line, Report, tooMany, padded, refusedInput, report, shortSlices, split, runLine, runChecked, run}
+use Rattle.rules.specs.Run.{Line, Report, tooMany, padded, refusedInput, report, reportWith, shortSlices, split, runLine, runChecked, run}
 use Rattle.rules.specs.Demands.{Ends}
 use Rattle.rules.specs.WellMade.{WellMade}
 use Rattle.rules.specs.Answered.{Ready, RunNumber, InputNumber, Demand1}
@@ -45,29 +45,6 @@ few-fields b a e =
     let w = well-made b a e in
     let h = accepted-fields b a e ∙ ap (λ (f : Form). length (f .fields)) (accepted-form b a e) ∙ length-map (numbers (fieldCount b) 0) _ ∙ numbers-length (fieldCount b) 0 in
     omega (arith, h, w .fields .1)
-
--- ---- reports of a run
-abbrev valuesReport : ℕ → ℕ → Line → Ran (List Value) → List Value → Report
-valuesReport ni na l r vs = record {
-  number = 0;
-  place = none;
-  tries = r .tries;
-  words = answerWords vs;
-  state = r .state;
-  items = padded ni (l .records);
-  answers = padded na (answerWords vs);
-}
-
-abbrev refusalReport : ℕ → ℕ → Line → Ran (List Value) → Refusal → Report
-refusalReport ni na l r e = record {
-  number = e .number;
-  place = e .place;
-  tries = r .tries;
-  words = [];
-  state = r .state;
-  items = padded ni (l .records);
-  answers = padded na [];
-}
 
 -- ---- refused because of the input
 -- the report of a refusal from 1 to 7
@@ -152,9 +129,9 @@ module _ (b s : List ℕ) (ni na : ℕ) (a : Accepted) (form : checkForm b ≡ a
 
     -- 8 and 9
     split-refused : (e : Refusal) → l .refusal ≡ some e → Demand1 b s ni na
-    unfolding report runLine ended
+    unfolding report reportWith runLine ended
     split-refused e u = record {
-      report = refusalReport ni na l (ended (refused e) (l .state)) e;
+      report = reportWith ni na l (ended (refused e) (l .state)) (e .number) (e .place) [];
       answered = run-reports ∙ rw (u, runLine);
       number = inr (
         (λ (r : Ready b s ni na). let same = ok-injective (sym (r .splits) ∙ ap (λ (f : Form). split f s) (sym (accepted-form b a form)) ∙ splits) in
@@ -186,9 +163,9 @@ module _ (b s : List ℕ) (ni na : ℕ) (a : Accepted) (form : checkForm b ≡ a
       few-items = line-good a s l splits u .few
 
       values-reported : (vs : List Value) → runLine (a .fields) l .outcome ≡ ok vs → Demand1 b s ni na
-      unfolding report
+      unfolding report reportWith
       values-reported vs e = record {
-        report = valuesReport ni na l (runLine (a .fields) l) vs;
+        report = reportWith ni na l (runLine (a .fields) l) 0 none (answerWords vs);
         answered = run-reports ∙ rw (e, report);
         number = inl (ready, inl refl);
         items = padded-length ni (l .records) records-fit;
@@ -197,9 +174,9 @@ module _ (b s : List ℕ) (ni na : ℕ) (a : Accepted) (form : checkForm b ≡ a
       }
 
       refusal-reported : (x : Refusal) → runLine (a .fields) l .outcome ≡ refused x → Demand1 b s ni na
-      unfolding report
+      unfolding report reportWith
       refusal-reported x e = record {
-        report = refusalReport ni na l (runLine (a .fields) l) x;
+        report = reportWith ni na l (runLine (a .fields) l) (x .number) (x .place) [];
         answered = run-reports ∙ rw (e, report);
         number = inl (ready, inr (rw e at (runs .ends)));
         items = padded-length ni (l .records) records-fit;

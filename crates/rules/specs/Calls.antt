@@ -295,12 +295,20 @@ pub record Evaluated : Type 0 where
   pub state : Raw
   pub answers : List ℕ
 
+unfoldable pub evaluatedWith : ℕ → Ran Value → ℕ → Option ℕ → List ℕ → Evaluated
+evaluatedWith na r number place words = record {
+  number = number;
+  place = place;
+  tries = r .tries;
+  words = words;
+  state = toRaw (r .state);
+  answers = padded na words;
+}
+
 unfoldable pub evaluated : ℕ → Ran Value → Outcome Evaluated
 evaluated na r = elim (r .outcome) [
-  | ok v ↦ ok (record
-      { number = 0; place = none; tries = r .tries; words = words v; state = toRaw (r .state); answers = padded na (words v) })
-  | refused e ↦ ok (record
-      { number = e .number; place = e .place; tries = r .tries; words = []; state = toRaw (r .state); answers = padded na [] })
+  | ok v ↦ ok (evaluatedWith na r 0 none (words v))
+  | refused e ↦ ok (evaluatedWith na r (e .number) (e .place) [])
   | fault f ↦ fault f
 ]
 

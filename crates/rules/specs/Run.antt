@@ -87,27 +87,23 @@ unfoldable pub refusedInput : ℕ → ℕ → ℕ → Option ℕ → Report
 refusedInput ni na n k = record
     { number = n; place = k; tries = 0; words = []; state = emptyState; items = padded ni []; answers = padded na [] }
 
--- values, or a refusal with items kept, the state reached, answers 0, and the tries made so far
+-- items kept, the state reached, and the tries made so far
+unfoldable pub reportWith : ℕ → ℕ → Line → Ran (List Value) → ℕ → Option ℕ → List ℕ → Report
+reportWith ni na l r number place words = record {
+  number = number;
+  place = place;
+  tries = r .tries;
+  words = words;
+  state = r .state;
+  items = padded ni (l .records);
+  answers = padded na words;
+}
+
+-- values, or a refusal with answers 0
 unfoldable pub report : ℕ → ℕ → Line → Ran (List Value) → Outcome Report
 report ni na l r = elim (r .outcome) [
-  | ok vs ↦ ok (record {
-    number = 0;
-    place = none;
-    tries = r .tries;
-    words = answerWords vs;
-    state = r .state;
-    items = padded ni (l .records);
-    answers = padded na (answerWords vs);
-  })
-  | refused e ↦ ok (record {
-    number = e .number;
-    place = e .place;
-    tries = r .tries;
-    words = [];
-    state = r .state;
-    items = padded ni (l .records);
-    answers = padded na [];
-  })
+  | ok vs ↦ ok (reportWith ni na l r 0 none (answerWords vs))
+  | refused e ↦ ok (reportWith ni na l r (e .number) (e .place) [])
   | fault x ↦ fault x
 ]
 
