@@ -2,3 +2,4 @@
 pub mod format;
 pub mod notation;
 pub mod cases;
+pub mod forged;
