@@ -1,7 +1,10 @@
 // The library for C and Rust. A slice is passed as two arguments, the pointer and the count.
 ghost use mathlib.Core.Path.{_≡_};
 ghost use Rattle.utf8.specs.Utf8.{decodeAt, wellFormed};
+ghost use Rattle.rules.specs.Sheet.{sheetFault};
+ghost use Rattle.reader.specs.Reader.{sheetCode};
 ghost use Rattle.exports.specs.Exports.{decoding};
+use rules::Refused;
 use utf8::Decoded;
 
 // The character at a place. Where there is none, found is false and the numbers are 0.
@@ -36,4 +39,11 @@ pub extern "C" fn silverpoise_utf8_decode(s: &[u8], at: usize) -> Decoding
             size: 0,
         },
     }
+}
+
+#[no_mangle]
+pub extern "C" fn silverpoise_sheet_check(sheet: &[u8]) -> Refused
+    ensures { λ r. ⌜ r ≡ sheetCode (sheetFault (now (sheet .entry))) ⌝ }
+{
+    reader::sheet_check(sheet)
 }

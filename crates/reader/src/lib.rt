@@ -1,0 +1,13 @@
+// The entry points. None asks anything of its input: what is not well made is refused under its number.
+ghost use mathlib.Core.Path.{_≡_};
+ghost use Rattle.rules.specs.Sheet.{sheetFault};
+ghost use Rattle.reader.specs.Reader.{sheetCode};
+use rules::Refused;
+
+// Whether a sheet is well made: 5 or 6 if not.
+pub fn sheet_check(sheet: &[u8]) -> Refused
+    ensures { λ r. ⌜ r ≡ sheetCode (sheetFault (now (sheet .entry))) ⌝ }
+{
+    let number = sheet::check(sheet);
+    Refused { number, place: 0 }
+}
