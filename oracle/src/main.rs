@@ -17,7 +17,7 @@ mod script;
 use std::process::ExitCode;
 
 const USAGE: &str = "\
-oracle compare utf8 [SEED COUNT]   the proved UTF-8 against the standard library, in this process
+oracle compare LAYER [SEED COUNT]  the proved code against the Rust, in this process: utf8, checks
 oracle utf8 [ARGUMENT..]           each argument's characters, by the proved code
 oracle list LAYER SEED COUNT       a fixed list of a layer: utf8, check, and live: split, run, calls
 oracle lists FILE..                make each list again by its first line and compare
@@ -45,17 +45,27 @@ fn main() -> ExitCode {
     let words: Vec<String> = std::env::args_os().skip(1).map(|w| w.to_string_lossy().into_owned()).collect();
     let first = words.first().map_or("", String::as_str);
     let good = match first {
-        "compare" if words.get(1).is_some_and(|w| w == "utf8") => {
-            let compared = compare::utf8(number(&words, 2, 1), number(&words, 3, 1_000_000));
-            println!("utf8: {} cases, {} differ", compared.cases, compared.differ);
-            compared.differ == 0
-        }
+        "compare" if words.len() >= 2 => compare(&words),
         "utf8" => compare::show_arguments(),
         "list" if words.len() == 4 => print_list(&words),
         "lists" => words[1..].iter().map(|file| same_list(file)).fold(true, |a, b| a && b),
         _ => live(first, &words),
     };
     if good { ExitCode::SUCCESS } else { ExitCode::FAILURE }
+}
+
+fn compare(words: &[String]) -> bool {
+    let count = words.get(3).map(|_| number(words, 3, 0));
+    match compare::compare(&words[1], number(words, 2, 1), count) {
+        None => {
+            println!("this build has no layer {}", words[1]);
+            false
+        }
+        Some(compared) => {
+            println!("{}: {} cases, {} differ", words[1], compared.cases, compared.differ);
+            compared.differ == 0
+        }
+    }
 }
 
 fn print_list(words: &[String]) -> bool {

@@ -2,6 +2,8 @@
 ghost use mathlib.Core.Path.{_≡_};
 ghost use Rattle.utf8.specs.Utf8.{decodeAt, wellFormed};
 ghost use Rattle.rules.specs.Sheet.{sheetFault};
+ghost use Rattle.rules.specs.Accept.{checkForm};
+ghost use Rattle.rules.specs.Codes.{checkCode};
 ghost use Rattle.reader.specs.Reader.{sheetCode};
 ghost use Rattle.exports.specs.Exports.{decoding};
 use rules::Refused;
@@ -39,6 +41,13 @@ pub extern "C" fn silverpoise_utf8_decode(s: &[u8], at: usize) -> Decoding
             size: 0,
         },
     }
+}
+
+#[no_mangle]
+pub extern "C" fn silverpoise_form_check(form: &[u8]) -> Refused
+    ensures { λ r. ⌜ r ≡ checkCode (checkForm (now (form .entry))) ⌝ }
+{
+    reader::form_check(form)
 }
 
 #[no_mangle]

@@ -1,5 +1,4 @@
 -- What the entry points hand back, as numbers, for what the rules give.
-use mathlib.Core.Option.{Option, some, none}
 use Prim.Native.Nat.{ℕ}
 use Rattle.rules.specs.declared.Refused.{Refused}
 

@@ -23,6 +23,8 @@ pub mod Formats
 pub mod Acceptance
 pub mod Uses
 pub mod WellMadeLaws
+-- Single calls
+pub mod CallsAnswer
 -- The demands
 pub mod Demand3Holds
 pub mod Demand1Holds

@@ -1,9 +1,8 @@
-//! The proved code, linked from its static library, beside the Rust that it must equal, in one process.
-//!
-//! A slice is two arguments here, a pointer and a count; declared as one it would pass wrongly where one register is left.
+//! UTF-8 against `str::from_utf8`.
 
 use line::cases::Rng;
 
+use super::Compared;
 use crate::lists::first_character;
 
 #[repr(C)]
@@ -56,38 +55,19 @@ pub fn show_arguments() -> bool {
     true
 }
 
-/// Differences found and cases tried.
-#[derive(Default)]
-pub struct Compared {
-    pub cases: u64,
-    pub differ: u64,
-}
-
 impl Compared {
-    fn differs(&mut self, what: &str, input: &[u8], ours: String, theirs: String) {
-        self.differ += 1;
-        if self.differ <= 10 {
-            println!("DIFFER {what} on {input:02x?}: ours {ours}, the Rust's {theirs}");
-        }
-    }
-
     fn utf8(&mut self, s: &[u8], places: std::ops::RangeInclusive<usize>) {
         self.cases += 1;
-        let theirs = std::str::from_utf8(s).is_ok();
-        if valid(s) != theirs {
-            self.differs("utf8 valid", s, valid(s).to_string(), theirs.to_string());
-        }
+        let input = || format!("{s:02x?}");
+        self.same("utf8 valid", &input, valid(s), std::str::from_utf8(s).is_ok());
         for at in places {
-            let (ours, theirs) = (decode(s, at), expected(s, at));
-            if ours != theirs {
-                self.differs("utf8 decode", s, format!("{ours:?}"), format!("{theirs:?}"));
-            }
+            self.same("utf8 decode", &input, decode(s, at), expected(s, at));
         }
     }
 }
 
-/// UTF-8 against `str::from_utf8`: all sequences of up to three bytes, and `count` of four or more.
-pub fn utf8(seed: u64, count: u64) -> Compared {
+/// All sequences of up to three bytes, and `count` of four or more.
+pub fn compare(seed: u64, count: u64) -> Compared {
     let mut compared = Compared::default();
     compared.utf8(&[], 0..=2);
     for first in 0..=255u8 {

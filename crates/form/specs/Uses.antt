@@ -1,0 +1,21 @@
+-- How often each node is used, and the lowest name record at fault.
+use mathlib.Core.Bool.{_&&_}
+use mathlib.Core.List.{List, [], _∷_}
+use Prim.Native.Nat.{ℕ, _+_}
+use lib.Dec.{ltb}
+use lib.ListN.{length, getD, set}
+use Rattle.utf8.specs.Utf8.{if_then_else_}
+use Rattle.rules.specs.Base.{firstFault}
+use Rattle.rules.specs.Form.{Form, nameGood}
+use Rattle.names.specs.Names.{faultOr}
+
+-- one more use of node k, up to 2; there are at most 64 nodes
+unfoldable pub added : List ℕ → ℕ → List ℕ
+added c k = if ltb k 64 && ltb (getD c k 0) 2 then set c k (getD c k 0 + 1) else c
+
+unfoldable pub tally : List ℕ → List ℕ → List ℕ
+tally c [] = c
+tally c (k ∷ ks) = tally (added c k) ks
+
+unfoldable pub recordsFault : Form → ℕ
+recordsFault f = faultOr (length (f .names)) (firstFault (nameGood (f .area)) 0 (f .names))

@@ -1,0 +1,185 @@
+// The form check.
+ghost use mathlib.Core.Path.{_≡_};
+ghost use mathlib.Core.Bool.{true};
+ghost use mathlib.Core.List.{List, []};
+ghost use Prim.Native.Nat.{ℕ, _≤_};
+ghost use lib.Dec.{eqb, ltb};
+ghost use lib.ListN.{length, getD, replicate};
+ghost use Rattle.rules.specs.Base.{all, numbers, concatMap, firstFault};
+ghost use Rattle.rules.specs.Codes.{checkCode};
+ghost use Rattle.rules.specs.Form.{nodeCount, readForm};
+ghost use Rattle.rules.specs.Tree.{Tree};
+ghost use Rattle.rules.specs.Accept.{lengthGood, treesFrom, childrenOf, uses, checkUse, checkForm};
+ghost use Rattle.names.specs.Names.{faultOr};
+ghost use Rattle.layout.specs.Layout.{nodeOf};
+ghost use Rattle.form.specs.Uses.{added, tally, recordsFault};
+
+fn refused(number: u32, place: usize) -> rules::Refused
+    requires { ⌜ place ≤ 128 ⌝ }
+    ensures { λ r. ⌜ r ≡ record { number = number; place = place } ⌝ }
+{
+    rules::Refused {
+        number: number,
+        place: place as u32,
+    }
+}
+
+// The lowest node at fault.
+fn check_nodes(b: &[u8]) -> rules::Refused
+    requires { ⌜ lengthGood (now b) ≡ true ⌝ }
+    ensures { λ r. ⌜ r ≡ checkCode (treesFrom (readForm (now (b .entry))) [] (readForm (now (b .entry)) .nodes)) ⌝ }
+{
+    let n = layout::node_count(b);
+    let mut m = kinds::empty();
+    let mut k = 0;
+    while k < n {
+        m = kinds::fill(b, k, m);
+        if m.codes[k] == 32 {
+            return refused(3, k + 1);
+        }
+        k += 1;
+    }
+    refused(0, 0)
+}
+
+// Whether every field is a node.
+fn fields_good(b: &[u8]) -> bool
+    requires { ⌜ lengthGood (now b) ≡ true ⌝ }
+    ensures { λ r. ⌜ r ≡ all (λ k. ltb k (nodeCount (now (b .entry)))) (readForm (now (b .entry)) .fields) ⌝ }
+{
+    let n = layout::node_count(b);
+    let f = layout::field_count(b);
+    let mut i = 0;
+    while i < f {
+        if n <= layout::field_at(b, i) {
+            return false;
+        }
+        i += 1;
+    }
+    true
+}
+
+// One more use of node k: 0, 1, or 2 for more.
+fn add(counts: &mut [u8; 64], k: usize)
+    ensures { λ _. ⌜ now (counts .exit) ≡ added (now (counts .entry)) k ⌝ }
+{
+    if k < 64 {
+        if counts[k] < 2 {
+            counts[k] += 1;
+        }
+    }
+}
+
+fn count_fields(b: &[u8], counts: &mut [u8; 64])
+    requires { ⌜ lengthGood (now b) ≡ true ⌝ }
+    ensures { λ _. ⌜ now (counts .exit) ≡ tally (now (counts .entry)) (readForm (now (b .entry)) .fields) ⌝ }
+{
+    let f = layout::field_count(b);
+    let mut i = 0;
+    while i < f {
+        add(counts, layout::field_at(b, i));
+        i += 1;
+    }
+}
+
+fn add_children(x: layout::Node, counts: &mut [u8; 64])
+    ensures { λ _. ⌜ now (counts .exit) ≡ tally (now (counts .entry)) (childrenOf (nodeOf x)) ⌝ }
+{
+    if x.kind <= 3 {
+        return;
+    }
+    add(counts, x.p);
+    if x.kind == 9 {
+        add(counts, x.q);
+    }
+}
+
+fn count_children(b: &[u8], counts: &mut [u8; 64])
+    requires { ⌜ lengthGood (now b) ≡ true ⌝ }
+    ensures { λ _. ⌜ now (counts .exit) ≡ tally (now (counts .entry)) (concatMap childrenOf (readForm (now (b .entry)) .nodes)) ⌝ }
+{
+    let n = layout::node_count(b);
+    let mut k = 0;
+    while k < n {
+        let x = layout::node_at(b, k);
+        add_children(x, counts);
+        k += 1;
+    }
+}
+
+fn none() -> [u8; 64]
+    ensures { λ r. ⌜ r ≡ replicate 64 0 ⌝ }
+{
+    [0u8; 64]
+}
+
+// How often each node is used, as child or field.
+fn count_uses(b: &[u8]) -> [u8; 64]
+    requires { ⌜ lengthGood (now b) ≡ true ⌝ }
+    ensures { λ r. ⌜ r ≡ tally (replicate 64 0) (uses (readForm (now (b .entry)))) ⌝ }
+{
+    let mut counts = none();
+    count_fields(b, &mut counts);
+    count_children(b, &mut counts);
+    counts
+}
+
+// The lowest of n nodes that is not used once, or n.
+fn uses_fault(counts: &[u8; 64], n: usize) -> usize
+    requires { ⌜ n ≤ 64 ⌝ }
+    ensures { λ r. ⌜ r ≡ faultOr n (firstFault (λ k. eqb (getD (now (counts .entry)) k 0) 1) 0 (numbers n 0)) ⌝ }
+{
+    let mut k = 0;
+    while k < n {
+        if counts[k] != 1 {
+            return k;
+        }
+        k += 1;
+    }
+    n
+}
+
+// Of the trees, only their number counts here.
+fn check_uses(b: &[u8]) -> rules::Refused
+    requires { ⌜ lengthGood (now b) ≡ true ⌝ }
+    ensures { λ r. ⌜ ((ts : List Tree) → length ts ≡ nodeCount (now (b .entry)) → r ≡ checkCode (checkUse (readForm (now (b .entry))) ts)) ⌝ }
+{
+    if !fields_good(b) {
+        return refused(4, 0);
+    }
+    let counts = count_uses(b);
+    let n = layout::node_count(b);
+    let fault = uses_fault(&counts, n);
+    if fault < n {
+        return refused(4, fault + 1);
+    }
+    refused(0, 0)
+}
+
+// The lowest name record at fault, or their count.
+fn records_fault(b: &[u8]) -> usize
+    requires { ⌜ lengthGood (now b) ≡ true ⌝ }
+    ensures { λ r. ⌜ r ≡ recordsFault (readForm (now (b .entry))) ⌝ }
+{
+    let names = layout::names_at(b);
+    let area = layout::area_at(b);
+    names::names_fault(&b[names..], &b[area..], layout::name_count(b))
+}
+
+// The form check: whether the form is accepted, or its first fault.
+pub fn check(b: &[u8]) -> rules::Refused
+    ensures { λ r. ⌜ r ≡ checkCode (checkForm (now (b .entry))) ⌝ }
+{
+    if !layout::length_good(b) {
+        return refused(1, 0);
+    }
+    let fault = records_fault(b);
+    if fault < layout::name_count(b) {
+        return refused(2, fault + 1);
+    }
+    let nodes = check_nodes(b);
+    if nodes.number != 0 {
+        return nodes;
+    }
+    check_uses(b)
+}

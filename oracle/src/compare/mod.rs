@@ -1,0 +1,36 @@
+//! The proved code, linked from its static library, beside the Rust that it must equal, in one process.
+//!
+//! A slice is two arguments here, a pointer and a count; declared as one it would pass wrongly where one register is left.
+
+mod checks;
+mod utf8;
+
+pub use utf8::show_arguments;
+
+/// Cases tried and differences found.
+#[derive(Default)]
+pub struct Compared {
+    pub cases: u64,
+    pub differ: u64,
+}
+
+impl Compared {
+    /// One case: equal, or printed if it is among the first that differ.
+    fn same<T: PartialEq + std::fmt::Debug>(&mut self, what: &str, input: &dyn Fn() -> String, ours: T, theirs: T) {
+        if ours != theirs {
+            self.differ += 1;
+            if self.differ <= 10 {
+                println!("DIFFER {what} on {}: ours {ours:?}, the Rust's {theirs:?}", input());
+            }
+        }
+    }
+}
+
+/// A layer by name, with a seed and a count of random cases; none if this build has no such layer.
+pub fn compare(layer: &str, seed: u64, count: Option<u64>) -> Option<Compared> {
+    Some(match layer {
+        "utf8" => utf8::compare(seed, count.unwrap_or(1_000_000)),
+        "checks" => checks::compare(seed, count.unwrap_or(250_000)),
+        _ => return None,
+    })
+}
