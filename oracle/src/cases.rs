@@ -1683,7 +1683,7 @@ fn limit_forms() -> Vec<Form> {
 }
 
 /// A number, and a fallback above it again and again.
-fn chain(nodes: usize) -> Form {
+pub fn chain(nodes: usize) -> Form {
     let fallback = |k: usize| Node {
         kind: FALLBACK,
         p: k as u16 - 1,
@@ -1751,7 +1751,7 @@ fn long_name(area: usize) -> Form {
 
 /// A flag, and above it again and again a choice of the node below with itself: the paths double at every node. With
 /// `repeats`, the second node and the last count.
-fn shared(nodes: usize, repeats: bool) -> Form {
+pub fn shared(nodes: usize, repeats: bool) -> Form {
     let mut form = flags(1, 1);
     for k in 1..nodes as u16 {
         let kind = if repeats && (k == 1 || k as usize == nodes - 1) {

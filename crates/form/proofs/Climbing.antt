@@ -67,9 +67,14 @@ module _ (f : Form) (below : List Tree) (x : Node) where
   unfolding treesFrom
   next-tree xs t e = rw (e, treesFrom)
 
-grown : (f : Form) (k : ℕ) (ts : List Tree) (t : Tree) → codes f k ≡ map treeCode ts → treeCode t ≡ codeAt f k → codes f (suc k) ≡ map treeCode (ts ++ (t ∷ []))
+pub grown : (f : Form) (k : ℕ) (ts : List Tree) (t : Tree) → codes f k ≡ map treeCode ts → treeCode t ≡ codeAt f k → codes f (suc k) ≡ map treeCode (ts ++ (t ∷ []))
 unfolding codes codeAt
 grown f k ts t b e = rw (map-append ts (t ∷ []), e, ← b)
+
+-- the code of node k is that of its tree over the trees below
+pub code-by : (f : Form) (k : ℕ) (ts : List Tree) → codes f k ≡ map treeCode ts → (x : Node) → getElem? (f .nodes) k ≡ some x → codeAt f k ≡ codeOf (treeOf f ts x)
+unfolding codeAt codeBy
+code-by f k ts b x e = rw (e, codeBy, b) (sym (tree-code f ts x))
 
 -- the trees of the nodes below k, and a table that is right
 pub record Climbed (f : Form) (k : ℕ) (m : List ℕ) : Type 0 where
@@ -95,23 +100,19 @@ module _ (f : Form) (k : ℕ) (m : List ℕ) (c : Climbed f k m) where
     node : (x : Node) × (getElem? (f .nodes) k ≡ some x)
     node = lookup-some (f .nodes) k h
 
-    code-by : (x : Node) → getElem? (f .nodes) k ≡ some x → codeAt f k ≡ codeOf (treeOf f (c .trees) x)
-    unfolding codeAt codeBy
-    code-by x e = rw (e, codeBy, c .built) (sym (tree-code f (c .trees) x))
-
     step-from : (x : Node) → getElem? (f .nodes) k ≡ some x → treesFrom f [] (f .nodes) ≡ treesFrom f (c .trees) (x ∷ drop (suc k) (f .nodes))
     step-from x e = c .same ∙ rw (drop-there (f .nodes) k x e)
 
     pub climbed-bad : (r : Refused) → getD m′ k 0 ≡ 32 → r ≡ record { number = 3; place = k + 1 } → r ≡ checkCode (treesFrom f [] (f .nodes))
     climbed-bad r z e =
         let (x, s) = node in
-        let code : codeOf (treeOf f (c .trees) x) ≡ 32 = sym (code-by x s) ∙ sym (d .here) ∙ z in
+        let code : codeOf (treeOf f (c .trees) x) ≡ 32 = sym (code-by f k (c .trees) (c .built) x s) ∙ sym (d .here) ∙ z in
         e ∙ rw (add-one k) (sym (ap checkCode (step-from x s ∙ bad-tree f (c .trees) x (drop (suc k) (f .nodes)) code) ∙ rw count))
 
     pub climbed-next : length m′ ≡ 64 → (getD m′ k 0 ≡ 32 → ⊥) → Climbed f (k + 1) m′
     climbed-next l z =
         let (x, s) = node in
-        let code : codeOf (treeOf f (c .trees) x) ≡ codeAt f k = sym (code-by x s) in
+        let code : codeOf (treeOf f (c .trees) x) ≡ codeAt f k = sym (code-by f k (c .trees) (c .built) x s) in
         let (t, r) = good-tree f (c .trees) x (λ w. z (d .here ∙ sym code ∙ w)) in
         let tree : treeCode t ≡ codeAt f k = sym (tree-some f (c .trees) x t r) ∙ code in
         record {

@@ -207,7 +207,7 @@ number-with (some (optionalList text)) false = refl
 number-with (some (optionalList number)) true = refl
 number-with (some (optionalList number)) false = refl
 
-code-part : (κ : Kind) (r : Bool) → codeWith (some κ) r % 16 ≡ kindCode κ
+pub code-part : (κ : Kind) (r : Bool) → codeWith (some κ) r % 16 ≡ kindCode κ
 unfolding codeWith kindCode shapeOf innerBase baseNumber if_then_else_
 code-part (one yesNo) true = refl
 code-part (one yesNo) false = refl

@@ -34,3 +34,12 @@ pub fn compare(layer: &str, seed: u64, count: Option<u64>) -> Option<Compared> {
         _ => return None,
     })
 }
+
+/// What a layer costs.
+pub fn measure(layer: &str) -> bool {
+    match layer {
+        "checks" => checks::measure(),
+        _ => return false,
+    }
+    true
+}

@@ -1,0 +1,28 @@
+-- The code of a node is its tree's. Assumes nothing.
+use borrow.Author.Needs.{needs}
+use native.Mathlib.Omega.{arith}
+use mathlib.Core.Path.{refl}
+use Rattle.fields.proofs.Given.{kind-there}
+use Rattle.layout.proofs.Sizes.{sized}
+use Rattle.kinds.proofs.Table.{empty-sound}
+use Rattle.fields.proofs.kind.Statement.{statement}
+use Rattle.fields.proofs.kind.Tie as tie
+
+empty-requires : tie.Need-empty-requires
+empty-requires c κs = search needs
+
+fill-requires : tie.Need-fill-requires
+fill-requires c κs = record { good = c .before .before .pre .0; below = c .before .before .pre .1; sound = rw (c .empty .ensures) (empty-sound _ 64) }
+
+element-copy-out-c : tie.Need-element-copy-out-c
+element-copy-out-c c = omega (arith, sized _ (c .before .before .before .pre .0))
+
+cast-result : tie.Need-cast-result
+cast-result c = search needs
+
+returns : tie.Need-returns
+returns c = kind-there _ _ _ (c .before .fill .ensures) _ refl
+
+pub kind-spec : {M : Type 1} → statement M
+kind-spec =
+    tie.close (tie.spec empty-requires fill-requires element-copy-out-c cast-result returns)
