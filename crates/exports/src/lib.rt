@@ -1,11 +1,17 @@
 // The library for C and Rust. A slice is passed as two arguments, the pointer and the count.
 ghost use mathlib.Core.Path.{_≡_};
+ghost use mathlib.Core.Option.{some};
+ghost use lib.ListN.{length};
+ghost use Rattle.rules.specs.Outcome.{ok};
 ghost use Rattle.utf8.specs.Utf8.{decodeAt, wellFormed};
 ghost use Rattle.rules.specs.Sheet.{sheetFault};
 ghost use Rattle.rules.specs.Accept.{checkForm};
-ghost use Rattle.rules.specs.Codes.{checkCode};
-ghost use Rattle.reader.specs.Reader.{sheetCode};
+ghost use Rattle.rules.specs.Codes.{checkCode, kindCode};
+ghost use Rattle.rules.specs.Calls.{callKind, callPortable, callSplit};
+ghost use Rattle.reader.specs.Reader.{sheetCode, told, yesCode, splittingOf};
 ghost use Rattle.exports.specs.Exports.{decoding};
+use reader::SplitAnswer;
+use reader::Told;
 use rules::Refused;
 use utf8::Decoded;
 
@@ -55,4 +61,25 @@ pub extern "C" fn silverpoise_sheet_check(sheet: &[u8]) -> Refused
     ensures { λ r. ⌜ r ≡ sheetCode (sheetFault (now (sheet .entry))) ⌝ }
 {
     reader::sheet_check(sheet)
+}
+
+#[no_mangle]
+pub extern "C" fn silverpoise_kind(form: &[u8], node: usize) -> Told
+    ensures { λ r. ⌜ told kindCode (callKind (now (form .entry)) node) ≡ some r ⌝ }
+{
+    reader::kind(form, node)
+}
+
+#[no_mangle]
+pub extern "C" fn silverpoise_portable(form: &[u8]) -> Told
+    ensures { λ r. ⌜ told yesCode (callPortable (now (form .entry))) ≡ some r ⌝ }
+{
+    reader::portable(form)
+}
+
+#[no_mangle]
+pub extern "C" fn silverpoise_split(form: &[u8], sheet: &[u8], items: &mut [u32]) -> SplitAnswer
+    ensures { λ r. ⌜ callSplit (now (form .entry)) (now (sheet .entry)) (length (now (items .entry))) ≡ ok (splittingOf r (now (items .exit))) ⌝ }
+{
+    reader::split(form, sheet, items)
 }

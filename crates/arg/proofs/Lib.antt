@@ -1,0 +1,4 @@
+pub mod Equals
+pub mod Names
+pub mod LookUp
+pub mod Records

@@ -1,0 +1,146 @@
+// From the arguments of a sheet to items and a state: the Rust's `construct`.
+ghost use mathlib.Core.Path.{_≡_};
+ghost use Prim.Native.Nat.{_≤_};
+ghost use lib.ListN.{length, replicate};
+ghost use Rattle.arg.specs.Clusters.{letters};
+ghost use Rattle.groups.specs.Groups.{Fits, Makes};
+ghost use Rattle.args.specs.Construct.{groupAt, markerAfter, rawOf, Marked, Given, Cleared, Ends, Constructs};
+use groups::Group;
+use rules::State;
+
+// How splitting ended: 0, 8 or 9; the place of 9 plus 1; how many items there are; the place of the first `--` plus 1. A place
+// is 0 for none.
+pub struct Ended {
+    pub number: u32,
+    pub place: u32,
+    pub count: u32,
+    pub marker: u32,
+}
+
+// The same, with the state that the items start in.
+pub struct Split {
+    pub number: u32,
+    pub place: u32,
+    pub count: u32,
+    pub marker: u32,
+    pub state: State,
+}
+
+// The items of the next argument: behind the first `--` all is PosWord.
+fn next_group(
+    os: &[u8],
+    begin: usize,
+    marker: usize,
+    flags: &[u32],
+    arguments: &[u32],
+    items: &mut [u32],
+    at: usize,
+) -> Group
+    requires { ⌜ Fits (now os) begin at ⌝ }
+    ensures { λ r. ⌜ Makes (now (os .entry)) begin at (now (items .entry)) (now (items .exit)) r (groupAt (letters (now (flags .entry)) (now (arguments .entry))) marker (now (os .entry))) ⌝ }
+{
+    if marker == 0 {
+        return groups::split_argument(os, begin, flags, arguments, items, at);
+    }
+    groups::split_positional(os, begin, items, at)
+}
+
+fn marker_after(marker: usize, first: bool, at: usize) -> usize
+    requires { ⌜ at ≤ 256 ⌝ }
+    ensures { λ r. ⌜ r ≡ markerAfter marker first at ⌝ }
+{
+    if first { at + 1 } else { marker }
+}
+
+// The loop over the arguments, over a slice that is 0. `at` is the place of the next item.
+fn split_arguments(sheet: &[u8], flags: &[u32], arguments: &[u32], items: &mut [u32]) -> Ended
+    requires { ⌜ Cleared (now sheet) (now items) ⌝ }
+    ensures { λ r. ⌜ Ends (letters (now (flags .entry)) (now (arguments .entry))) (now (sheet .entry)) (length (now (items .entry))) (now (items .exit)) r ⌝ }
+{
+    let n = wire::u16_at(sheet, 0) as usize;
+    let mut k = 0;
+    let mut at = 0;
+    let mut marker = 0;
+    while k < n {
+        let begin = wire::offset_at(sheet, 2, k);
+        let os = wire::entry(sheet, 2, n, k);
+        let group = next_group(os, begin, marker, flags, arguments, items, at);
+        let count = group.count;
+        if 256 - at < count {
+            wire::fill(items, 0, 7 * at, 0);
+            return Ended {
+                number: 8,
+                place: 0,
+                count: 0,
+                marker: 0,
+            };
+        }
+        let ambiguous = group.ambiguous;
+        if 0 < ambiguous {
+            return Ended {
+                number: 9,
+                place: (at + ambiguous) as u32,
+                count: (at + count) as u32,
+                marker: 0,
+            };
+        }
+        marker = marker_after(marker, group.marker, at);
+        at += count;
+        k += 1;
+    }
+    Ended {
+        number: 0,
+        place: 0,
+        count: at as u32,
+        marker: marker as u32,
+    }
+}
+
+fn unparsed() -> [u16; 256]
+    ensures { λ r. ⌜ r ≡ replicate 256 0 ⌝ }
+{
+    [0u16; 256]
+}
+
+// The state after splitting: all unparsed but for the first `--`.
+fn state_of(count: u32, marker: u32) -> State
+    requires { ⌜ Marked count marker ⌝ }
+    ensures { λ r. ⌜ r ≡ rawOf count marker ⌝ }
+{
+    let mut marks = unparsed();
+    if marker == 0 {
+        return State {
+            marks,
+            count,
+            remaining: count,
+            current: 0,
+            start: 0,
+            end: count,
+        };
+    }
+    marks[(marker - 1) as usize] = 1;
+    State {
+        marks,
+        count,
+        remaining: count - 1,
+        current: 0,
+        start: 0,
+        end: count,
+    }
+}
+
+pub fn construct(sheet: &[u8], flags: &[u32], arguments: &[u32], items: &mut [u32]) -> Split
+    requires { ⌜ Given (now sheet) (now items) ⌝ }
+    ensures { λ r. ⌜ Constructs (letters (now (flags .entry)) (now (arguments .entry))) (now (sheet .entry)) (length (now (items .entry))) (now (items .exit)) r ⌝ }
+{
+    wire::fill(items, 0, items.len(), 0);
+    let ended = split_arguments(sheet, flags, arguments, items);
+    let state = state_of(ended.count, ended.marker);
+    Split {
+        number: ended.number,
+        place: ended.place,
+        count: ended.count,
+        marker: ended.marker,
+        state,
+    }
+}

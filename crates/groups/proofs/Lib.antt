@@ -1,0 +1,4 @@
+pub mod Stores
+pub mod Flags
+pub mod Records
+pub mod Groups

@@ -1,0 +1,122 @@
+-- What the takes ask for, and what they answer, in the rules' words.
+use mathlib.Core.Bool.{Bool, true, false, not, _&&_}
+use mathlib.Core.List.{List}
+use mathlib.Core.Option.{Option, some, none}
+use mathlib.Core.Path.{_≡_}
+use Prim.Native.Nat.{ℕ, suc}
+use lib.Dec.{ltb}
+use lib.ListN.{length, getD}
+use Rattle.rules.specs.Outcome.{Outcome, ok, refused, refuseAt, _>>=_}
+use Rattle.rules.specs.Tree.{Named}
+use Rattle.rules.specs.Split as rules
+use Rattle.rules.specs.State.{present, parsed, remove, withCurrent}
+use Rattle.rules.specs.Take.{Took, took, Taken, Operand as RulesOperand, takeFlag, takeArg, takePositionalWord, takeCmd}
+use Rattle.arg.specs.declared.Part.{Part}
+use Rattle.arg.specs.declared.Item.{Item}
+use Rattle.arg.specs.declared.Item.the-variants.{Short, Long, ArgWord, Word, PosWord}
+use Rattle.state.specs.declared.Numbers.{Numbers}
+use Rattle.state.specs.Lent.{stateOf, Fine}
+use Rattle.named.specs.Items.{Table, partBytes}
+use Rattle.take.specs.declared.Flag.{Flag}
+use Rattle.take.specs.declared.Value.{Value}
+use Rattle.take.specs.declared.Value.the-variants.{Missing, Taken as Value·Taken, NoArgument}
+use Rattle.take.specs.declared.Argument.{Argument}
+use Rattle.take.specs.declared.Operand.{Operand}
+use Rattle.take.specs.declared.Operand.the-variants.{Missing as Operand·Missing, Taken as Operand·Taken}
+use Rattle.take.specs.declared.Positional.{Positional}
+
+-- ---- what a take asks for: a state over the items of the words, and a parsed mark
+pub record Ready (area words m : List ℕ) (p : Numbers) (mark : ℕ) : Type 0 where
+  pub items : List rules.Item
+  pub table : Table area words items
+  pub same : length items ≡ p .count
+  pub fine : Fine m p
+  pub told : parsed mark ≡ true
+
+-- ---- small pieces
+-- `current` as a state holds it: the place plus 1, or 0
+abbrev pub setCurrent : ℕ → Numbers → Numbers
+setCurrent c p = record { count = p .count; remaining = p .remaining; current = c; start = p .start; end = p .end }
+
+-- a place below the end that is present
+unfoldable pub freeBelow : List ℕ → ℕ → ℕ → Bool
+freeBelow m end i = ltb i end && present (getD m i 0)
+
+abbrev pub textPart : Item → Part
+textPart (Short c a t) = t
+textPart (Long n a t) = t
+textPart (ArgWord t) = t
+textPart (Word t) = t
+textPart (PosWord t) = t
+
+abbrev pub strictItem : Item → Bool
+strictItem (Short c a t) = false
+strictItem (Long n a t) = false
+strictItem (ArgWord t) = false
+strictItem (Word t) = false
+strictItem (PosWord t) = true
+
+-- whether `take_cmd` compares the text
+abbrev pub comparedItem : Item → Bool
+comparedItem (Short c a t) = true
+comparedItem (Long n a t) = not a
+comparedItem (ArgWord t) = false
+comparedItem (Word t) = true
+comparedItem (PosWord t) = false
+
+-- ---- what is left: as many marks, and a good state over as many items
+pub record Left (m : List ℕ) (p : Numbers) (m′ : List ℕ) (q : Numbers) : Type 0 where
+  pub count : q .count ≡ p .count
+  pub long : length m′ ≡ length m
+  pub fine : Fine m′ q
+
+-- key and value are used, one after the other
+pub record UsesBoth (mark : ℕ) (m : List ℕ) (p : Numbers) (key : ℕ) (m′ : List ℕ) (q : Numbers) : Type 0 where
+  pub same : (remove mark (withCurrent (some (suc key)) (stateOf m p)) key >>= λ u. remove mark u (suc key)) ≡ ok (stateOf m′ q)
+  pub left : Left m p m′ q
+
+-- ---- answers
+abbrev pub valueOf : List ℕ → List ℕ → Numbers → Value → Outcome (Took (Option Taken))
+valueOf area m p Missing = took none (stateOf m p)
+valueOf area m p (Value·Taken i t) = took (some (record { place = i; text = partBytes area t })) (stateOf m p)
+valueOf area m p (NoArgument i) = refused (refuseAt 22 i)
+
+-- refusal 22
+abbrev pub refusedAt : ℕ → Numbers → Argument
+refusedAt key p = record { value = NoArgument key; numbers = p }
+
+-- refused, nothing is changed
+abbrev pub Unchanged : List ℕ → Numbers → List ℕ → Numbers → Value → Type 0
+Unchanged m p m′ q Missing = Unit {0}
+Unchanged m p m′ q (Value·Taken i t) = Unit {0}
+Unchanged m p m′ q (NoArgument i) = (m′ ≡ m) × (q ≡ p)
+
+abbrev pub operandOf : List ℕ → List ℕ → Numbers → Operand → Outcome (Took (Option RulesOperand))
+operandOf area m p Operand·Missing = took none (stateOf m p)
+operandOf area m p (Operand·Taken i strict t) =
+    took (some (record { place = i; strict = strict; text = partBytes area t })) (stateOf m p)
+
+-- ---- what the takes do, for the items that the words are
+abbrev pub Items : List ℕ → List ℕ → Numbers → List rules.Item → Type 0
+Items area words p is = Table area words is × (length is ≡ p .count)
+
+pub record TakesFlag (mark : ℕ) (area words : List ℕ) (n : Named) (m : List ℕ) (p : Numbers) (m′ : List ℕ) (r : Flag) : Type 0 where
+  pub same : (is : List rules.Item) → Items area words p is
+      → takeFlag mark is n (stateOf m p) ≡ took (r .found) (stateOf m′ (r .numbers))
+  pub left : Left m p m′ (r .numbers)
+
+pub record TakesArg (mark : ℕ) (area words : List ℕ) (n : Named) (adjacent : Bool) (m : List ℕ) (p : Numbers) (m′ : List ℕ) (r : Argument) : Type 0 where
+  pub same : (is : List rules.Item) → Items area words p is
+      → takeArg mark is n adjacent (stateOf m p) ≡ valueOf area m′ (r .numbers) (r .value)
+  pub unchanged : Unchanged m p m′ (r .numbers) (r .value)
+  pub left : Left m p m′ (r .numbers)
+
+pub record TakesPositional (mark : ℕ) (area words m : List ℕ) (p : Numbers) (m′ : List ℕ) (r : Positional) : Type 0 where
+  pub same : (is : List rules.Item) → Items area words p is
+      → takePositionalWord mark is (stateOf m p) ≡ operandOf area m′ (r .numbers) (r .operand)
+  pub left : Left m p m′ (r .numbers)
+
+pub record TakesCmd (mark : ℕ) (area words word m : List ℕ) (p : Numbers) (m′ : List ℕ) (r : Flag) : Type 0 where
+  pub same : (is : List rules.Item) → Items area words p is
+      → takeCmd mark is word (stateOf m p) ≡ took (r .found) (stateOf m′ (r .numbers))
+  pub left : Left m p m′ (r .numbers)

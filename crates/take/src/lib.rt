@@ -1,0 +1,293 @@
+// The takes: `take_flag`, `take_arg`, `take_positional_word`, `take_cmd`. Each is told the mark of what it uses.
+ghost use mathlib.Core.Path.{_≡_};
+ghost use mathlib.Core.Bool.{true};
+ghost use mathlib.Core.Option.{some};
+ghost use mathlib.Core.List.{List};
+ghost use Prim.Native.Nat.{ℕ, _+_, _≤_, _<_};
+ghost use lib.ListN.{length};
+ghost use Rattle.rules.specs.Sheet.{sheetArea, sheetFault};
+ghost use Rattle.rules.specs.Split.{Item as RulesItem};
+ghost use Rattle.rules.specs.State.{parsed};
+ghost use Rattle.rules.specs.Take.{isCommand};
+ghost use Rattle.rules.specs.Calls.{itemFrom};
+ghost use Rattle.arg.specs.Items.{recordAt};
+ghost use Rattle.state.specs.Lent.{Fine};
+ghost use Rattle.named.specs.Codes.{namedAt};
+ghost use Rattle.named.specs.Search.{HasNames, HasItem};
+ghost use Rattle.take.specs.Takes.{Ready, setCurrent, refusedAt, freeBelow, textPart, strictItem, comparedItem, UsesBoth, TakesFlag, TakesArg, TakesPositional, TakesCmd};
+use arg::Item;
+use arg::Part;
+use state::Numbers;
+
+// Whether it was taken.
+pub struct Flag {
+    pub found: bool,
+    pub numbers: Numbers,
+}
+
+// The value of an argument: its place and its text; or the place of a key that has none (refusal 22).
+pub enum Value {
+    Missing,
+    Taken(usize, Part),
+    NoArgument(usize),
+}
+
+pub struct Argument {
+    pub value: Value,
+    pub numbers: Numbers,
+}
+
+// A word that a positional takes: its place, whether it is a PosWord, and its text.
+pub enum Operand {
+    Missing,
+    Taken(usize, bool, Part),
+}
+
+pub struct Positional {
+    pub operand: Operand,
+    pub numbers: Numbers,
+}
+
+fn wide(x: u32) -> usize
+    ensures { λ r. ⌜ r ≡ x ⌝ }
+{
+    x as usize
+}
+
+fn set_current(p: Numbers, current: u32) -> Numbers
+    ensures { λ r. ⌜ r ≡ setCurrent current p ⌝ }
+{
+    Numbers {
+        count: p.count,
+        remaining: p.remaining,
+        current,
+        start: p.start,
+        end: p.end,
+    }
+}
+
+// A place that stands behind one in scope is in scope if it lies below the end.
+fn is_free(marks: &[u16], i: usize, end: usize) -> bool
+    requires { ⌜ end ≤ length (now marks) ⌝ }
+    ensures { λ r. ⌜ r ≡ freeBelow (now (marks .entry)) end i ⌝ }
+{
+    if end <= i {
+        return false;
+    }
+    marks[i] != 1
+}
+
+fn text_of(item: Item) -> Part
+    ensures { λ r. ⌜ r ≡ textPart item ⌝ }
+{
+    match item {
+        Item::Short(_, _, t) => t,
+        Item::Long(_, _, t) => t,
+        Item::ArgWord(t) => t,
+        Item::Word(t) => t,
+        Item::PosWord(t) => t,
+    }
+}
+
+fn is_pos_word(item: Item) -> bool
+    ensures { λ r. ⌜ r ≡ strictItem item ⌝ }
+{
+    match item {
+        Item::PosWord(_) => true,
+        _ => false,
+    }
+}
+
+// `take_cmd` compares the text of a Word, of a Short, and of a Long that is not adjacent.
+fn is_compared(item: Item) -> bool
+    ensures { λ r. ⌜ r ≡ comparedItem item ⌝ }
+{
+    match item {
+        Item::Short(_, _, _) => true,
+        Item::Long(_, own, _) => !own,
+        Item::Word(_) => true,
+        _ => false,
+    }
+}
+
+fn is_command(sheet: &[u8], items: &[u32], i: usize, word: &[u8]) -> bool
+    requires { ⌜ HasItem (now sheet) (now items) i ⌝ }
+    ensures { λ r. ⌜ ((x : RulesItem) → itemFrom (sheetArea (now (sheet .entry))) (recordAt (now (items .entry)) i) ≡ some x → r ≡ isCommand (now (word .entry)) (some (record { place = i; item = x }))) ⌝ }
+{
+    let item = arg::read_item(items, i);
+    if !is_compared(item) {
+        return false;
+    }
+    named::same_bytes(named::part_bytes(sheet, text_of(item)), word)
+}
+
+// A flag: the first present item in scope that has one of the names.
+pub fn take_flag(
+    form: &[u8],
+    codes: &[u32],
+    sheet: &[u8],
+    items: &[u32],
+    marks: &mut [u16; 256],
+    p: Numbers,
+    first: usize,
+    count: usize,
+    mark: u16,
+) -> Flag
+    requires { ⌜ HasNames (now form) (now codes) first count × (sheetFault (now sheet) ≡ 0) × Ready (sheetArea (now sheet)) (now items) (now marks) p mark ⌝ }
+    ensures { λ r. ⌜ TakesFlag mark (sheetArea (now (sheet .entry))) (now (items .entry)) (namedAt (now (form .entry)) first count) (now (marks .entry)) p (now (marks .exit)) r ⌝ }
+{
+    let start = wide(p.start);
+    let end = wide(p.end);
+    let place = named::find_named(
+        form,
+        codes,
+        sheet,
+        items,
+        marks,
+        start,
+        end,
+        first,
+        count,
+        false,
+    );
+    if end <= place {
+        return Flag {
+            found: false,
+            numbers: p,
+        };
+    }
+    let left = state::remove(marks, p, place, mark);
+    Flag {
+        found: true,
+        numbers: left,
+    }
+}
+
+// The key and the value behind it are used; `current` is the value's place.
+fn use_both(marks: &mut [u16; 256], p: Numbers, key: usize, mark: u16) -> Numbers
+    requires { ⌜ Fine (now marks) p × (parsed mark ≡ true) × (key + 1 < p .count) ⌝ }
+    ensures { λ r. ⌜ UsesBoth mark (now (marks .entry)) p key (now (marks .exit)) r ⌝ }
+{
+    let value = key + 1;
+    let at_value = set_current(p, value as u32 + 1);
+    let left = state::remove(marks, at_value, key, mark);
+    state::remove(marks, left, value, mark)
+}
+
+// Refusal 22 at the key, with the state as it was.
+fn no_argument(before: Numbers, key: usize) -> Argument
+    ensures { λ r. ⌜ r ≡ refusedAt key before ⌝ }
+{
+    Argument {
+        value: Value::NoArgument(key),
+        numbers: before,
+    }
+}
+
+// An argument: the first present item in scope that has one of the names is its key, and the next place its value.
+pub fn take_arg(
+    form: &[u8],
+    codes: &[u32],
+    sheet: &[u8],
+    items: &[u32],
+    marks: &mut [u16; 256],
+    p: Numbers,
+    first: usize,
+    count: usize,
+    adjacent: bool,
+    mark: u16,
+) -> Argument
+    requires { ⌜ HasNames (now form) (now codes) first count × (sheetFault (now sheet) ≡ 0) × Ready (sheetArea (now sheet)) (now items) (now marks) p mark ⌝ }
+    ensures { λ r. ⌜ TakesArg mark (sheetArea (now (sheet .entry))) (now (items .entry)) (namedAt (now (form .entry)) first count) adjacent (now (marks .entry)) p (now (marks .exit)) r ⌝ }
+{
+    let start = wide(p.start);
+    let end = wide(p.end);
+    let key = named::find_named(
+        form,
+        codes,
+        sheet,
+        items,
+        marks,
+        start,
+        end,
+        first,
+        count,
+        adjacent,
+    );
+    if end <= key {
+        return Argument {
+            value: Value::Missing,
+            numbers: p,
+        };
+    }
+    if !is_free(marks, key + 1, end) {
+        return no_argument(p, key);
+    }
+    let item = arg::read_item(items, key + 1);
+    let (Item::Word(t) | Item::ArgWord(t)) = item else {
+        return no_argument(p, key);
+    };
+    let left = use_both(marks, p, key, mark);
+    Argument {
+        value: Value::Taken(key + 1, t),
+        numbers: left,
+    }
+}
+
+// A positional: the first present Word or PosWord in scope.
+pub fn take_positional_word(
+    items: &[u32],
+    marks: &mut [u16; 256],
+    p: Numbers,
+    mark: u16,
+) -> Positional
+    requires { ⌜ ((area : List ℕ) × Ready area (now items) (now marks) p mark) ⌝ }
+    ensures { λ r. ⌜ ((area : List ℕ) → TakesPositional mark area (now (items .entry)) (now (marks .entry)) p (now (marks .exit)) r) ⌝ }
+{
+    let start = wide(p.start);
+    let end = wide(p.end);
+    let place = named::find_operand(items, marks, start, end);
+    if end <= place {
+        return Positional {
+            operand: Operand::Missing,
+            numbers: p,
+        };
+    }
+    let item = arg::read_item(items, place);
+    let here = set_current(p, place as u32 + 1);
+    let left = state::remove(marks, here, place, mark);
+    Positional {
+        operand: Operand::Taken(place, is_pos_word(item), text_of(item)),
+        numbers: left,
+    }
+}
+
+// A command: only the first present item in scope may be it. Refused, there is no current place.
+pub fn take_cmd(
+    sheet: &[u8],
+    items: &[u32],
+    marks: &mut [u16; 256],
+    p: Numbers,
+    word: &[u8],
+    mark: u16,
+) -> Flag
+    requires { ⌜ (sheetFault (now sheet) ≡ 0) × Ready (sheetArea (now sheet)) (now items) (now marks) p mark ⌝ }
+    ensures { λ r. ⌜ TakesCmd mark (sheetArea (now (sheet .entry))) (now (items .entry)) (now (word .entry)) (now (marks .entry)) p (now (marks .exit)) r ⌝ }
+{
+    let start = wide(p.start);
+    let end = wide(p.end);
+    let place = state::first_present(marks, start, end);
+    if place < end {
+        if is_command(sheet, items, place, word) {
+            let left = state::remove(marks, p, place, mark);
+            return Flag {
+                found: true,
+                numbers: set_current(left, place as u32 + 1),
+            };
+        }
+    }
+    Flag {
+        found: false,
+        numbers: set_current(p, 0),
+    }
+}
