@@ -17,7 +17,7 @@ mod script;
 use std::process::ExitCode;
 
 const USAGE: &str = "\
-oracle compare LAYER [SEED COUNT]  the proved code against the Rust, in this process: utf8, checks
+oracle compare LAYER [SEED COUNT]  the proved code against the Rust, in this process: utf8, checks, and live: split
 oracle measure LAYER               what the proved code costs: checks
 oracle utf8 [ARGUMENT..]           each argument's characters, by the proved code
 oracle list LAYER SEED COUNT       a fixed list of a layer: utf8, check, and live: split, run, calls

@@ -1,4 +1,4 @@
-//! The form check and the sheet check against the reading of them in `line::format`.
+//! The form check, the sheet check, kinds and the portable mark against the reading of them in `line::format`.
 
 use line::{cases, cases::Case, cases::Rng, format::*};
 
@@ -13,13 +13,23 @@ pub struct Refused {
     pub place: u32,
 }
 
+#[repr(C)]
+#[derive(Clone, Copy, Debug, PartialEq, Eq)]
+struct Told {
+    number: u32,
+    place: u32,
+    answer: u32,
+}
+
 #[link(name = "exports", kind = "static")]
 extern "C" {
     fn silverpoise_form_check(form: *const u8, length: usize) -> Refused;
     fn silverpoise_sheet_check(sheet: *const u8, length: usize) -> Refused;
+    fn silverpoise_kind(form: *const u8, length: usize, node: usize) -> Told;
+    fn silverpoise_portable(form: *const u8, length: usize) -> Told;
 }
 
-fn form_check(form: &[u8]) -> Refused {
+pub fn form_check(form: &[u8]) -> Refused {
     unsafe { silverpoise_form_check(form.as_ptr(), form.len()) }
 }
 
@@ -27,19 +37,67 @@ fn sheet_check(sheet: &[u8]) -> Refused {
     unsafe { silverpoise_sheet_check(sheet.as_ptr(), sheet.len()) }
 }
 
+fn kind(form: &[u8], node: usize) -> Told {
+    unsafe { silverpoise_kind(form.as_ptr(), form.len(), node) }
+}
+
+fn portable(form: &[u8]) -> Told {
+    unsafe { silverpoise_portable(form.as_ptr(), form.len()) }
+}
+
 /// The refusal of a check as the library hands it out.
-fn refused<T>(checked: &Result<T, Refusal>) -> Refused {
+pub fn refused<T>(checked: &Result<T, Refusal>) -> Refused {
     match checked {
         Ok(_) => Refused { number: 0, place: 0 },
         Err(r) => Refused { number: r.number, place: r.place.map_or(0, |p| p as u32 + 1) },
     }
 }
 
+/// 1 yes/no, 2 text, 3 number; 3 more for an optional, 6 for a list, 9 for a list of optionals, 12 for an optional list.
+fn kind_code(kind: Kind) -> u32 {
+    let base = |b| match b {
+        Base::YesNo => 1,
+        Base::Text => 2,
+        Base::Number => 3,
+    };
+    match kind {
+        Kind::Base(b) => base(b),
+        Kind::Optional(b) => 3 + base(b),
+        Kind::List(b) => 6 + base(b),
+        Kind::ListOfOptional(b) => 9 + base(b),
+        Kind::OptionalList(b) => 12 + base(b),
+    }
+}
+
+/// Whether every short name is one of A..Z, a..z.
+fn is_portable(form: &Form) -> bool {
+    let letter = |n: usize| form.name(n).iter().all(u8::is_ascii_alphabetic) && form.name(n).len() == 1;
+    (0..form.names.len()).all(|n| form.names[n].ty != SHORT || letter(n))
+}
+
 impl Compared {
     fn form(&mut self, bytes: &[u8]) {
         self.cases += 1;
-        let theirs = refused(&Form::check(bytes));
-        self.same("form check", &|| hex(bytes), form_check(bytes), theirs);
+        let input = || hex(bytes);
+        let checked = Form::check(bytes);
+        let theirs = refused(&checked);
+        self.same("form check", &input, form_check(bytes), theirs);
+        let told = |answer| Told { number: theirs.number, place: theirs.place, answer };
+        match &checked {
+            Err(_) => {
+                self.same("kind", &input, kind(bytes, 0), told(0));
+                self.same("portable", &input, portable(bytes), told(0));
+            }
+            Ok(form) => {
+                let kinds = form.kinds().expect("an accepted form");
+                for (node, theirs) in kinds.iter().enumerate() {
+                    self.same("kind", &input, kind(bytes, node), told(kind_code(*theirs)));
+                }
+                let past = Told { number: 28, place: 0, answer: 0 };
+                self.same("kind", &input, kind(bytes, kinds.len()), past);
+                self.same("portable", &input, portable(bytes), told(u32::from(is_portable(form))));
+            }
+        }
     }
 
     fn sheet(&mut self, bytes: &[u8]) {

@@ -3,6 +3,8 @@
 //! A slice is two arguments here, a pointer and a count; declared as one it would pass wrongly where one register is left.
 
 mod checks;
+#[cfg(live)]
+mod split;
 mod utf8;
 
 pub use utf8::show_arguments;
@@ -31,6 +33,8 @@ pub fn compare(layer: &str, seed: u64, count: Option<u64>) -> Option<Compared> {
     Some(match layer {
         "utf8" => utf8::compare(seed, count.unwrap_or(1_000_000)),
         "checks" => checks::compare(seed, count.unwrap_or(250_000)),
+        #[cfg(live)]
+        "split" => split::compare(seed, count.unwrap_or(300_000)),
         _ => return None,
     })
 }

@@ -1,0 +1,128 @@
+//! Splitting against the real `State::construct`.
+
+use bpaf::doc::harness::Held;
+use line::{cases, cases::Case, cases::Rng, forged::State, format::*, notation};
+
+use super::checks::refused;
+use super::Compared;
+use crate::lists::hex;
+
+#[repr(C)]
+#[derive(Clone, Copy, Debug, PartialEq, Eq)]
+struct Splitting {
+    number: u32,
+    place: u32,
+    state: State,
+}
+
+#[link(name = "exports", kind = "static")]
+extern "C" {
+    fn silverpoise_split(
+        form: *const u8,
+        form_length: usize,
+        sheet: *const u8,
+        sheet_length: usize,
+        items: *mut u32,
+        items_length: usize,
+    ) -> Splitting;
+}
+
+/// The state as the library hands it over.
+fn raw(held: &Held) -> State {
+    let view = held.view();
+    let mut marks = [0; 256];
+    view.marks.iter().enumerate().for_each(|(k, m)| marks[k] = *m as u16);
+    State {
+        marks,
+        count: view.marks.len() as u32,
+        remaining: view.remaining as u32,
+        current: view.current.map_or(0, |p| p as u32 + 1),
+        start: view.scope.start as u32,
+        end: view.scope.end as u32,
+    }
+}
+
+const EMPTY: State = State { marks: [0; 256], count: 0, remaining: 0, current: 0, start: 0, end: 0 };
+
+/// What a split must leave: number and place, the state, and every word of the item slice.
+fn expected(case: &Case, length: usize) -> (Splitting, Vec<u32>) {
+    let mut items = vec![0; length];
+    let checked = Form::check(&case.form).and_then(|f| Sheet::check(&case.sheet).map(|s| (f, s)));
+    let slices = checked.and_then(|both| if length < 1792 { Err(Refusal::new(7)) } else { Ok(both) });
+    let (form, sheet) = match slices {
+        Ok(both) => both,
+        Err(r) => {
+            let r = refused::<()>(&Err(r));
+            return (Splitting { number: r.number, place: r.place, state: EMPTY }, items);
+        }
+    };
+    let (held, records, refusal) = Held::split(&form, &sheet);
+    let r = refused(&refusal.map_or(Ok(()), Err));
+    records.iter().flatten().zip(&mut items).for_each(|(word, slot)| *slot = *word);
+    (Splitting { number: r.number, place: r.place, state: raw(&held) }, items)
+}
+
+impl Compared {
+    /// The slice is filled with a pattern before the call.
+    fn split(&mut self, case: &Case, length: usize) {
+        self.cases += 1;
+        let mut items: Vec<u32> = (0..length as u32).map(|k| 0xdead_0000 ^ k).collect();
+        let (form, sheet) = (&case.form, &case.sheet);
+        let ours = unsafe {
+            silverpoise_split(form.as_ptr(), form.len(), sheet.as_ptr(), sheet.len(), items.as_mut_ptr(), items.len())
+        };
+        let (theirs, words) = expected(case, length);
+        let input = || format!("{} {} {length}", hex(form), hex(sheet));
+        self.same("split", &input, ours, theirs);
+        if items != words {
+            let at = items.iter().zip(&words).position(|(a, b)| a != b).unwrap_or(0);
+            self.same("split items", &|| format!("{} at word {at}", input()), items[at], words[at]);
+        }
+    }
+}
+
+/// The stated length mostly, longer in a third of the cases, and the lengths about the limit now and then.
+fn length(k: u64) -> usize {
+    match k % 48 {
+        0 => 0,
+        16 => 1791,
+        k if k % 3 == 0 => 1792 + (k as usize % 11) * 7,
+        _ => 1792,
+    }
+}
+
+/// Every argument of up to `symbols` of the alphabet's symbols.
+fn arguments(symbols: usize) -> Vec<Vec<u8>> {
+    const ALPHABET: [&str; 7] = ["v", "w", "b", "x", "-", "=", "é"];
+    let mut all = vec![Vec::new()];
+    let mut last = all.clone();
+    for _ in 0..symbols {
+        let longer = |a: &Vec<u8>| ALPHABET.map(|s| [a, s.as_bytes()].concat());
+        last = last.iter().flat_map(longer).collect();
+        all.extend(last.iter().cloned());
+    }
+    all
+}
+
+/// All lines of one argument of up to five symbols, of two of up to three, of three of up to two; then `count` random ones.
+pub fn compare(seed: u64, count: u64) -> Compared {
+    let mut compared = Compared::default();
+    const FORM: &str = "switch(-v); switch(-\\xc3\\xa9); optional(number(-w)); optional(flag(-b)); optional(text(-b)); many(operand)";
+    let form = notation::parse(FORM).expect("a form").write();
+    let mut each = |arguments: &[&Vec<u8>]| {
+        let sheet = Sheet { arguments: arguments.iter().map(|a| a.to_vec()).collect() };
+        let k = compared.cases;
+        compared.split(&Case { form: form.clone(), sheet: sheet.write() }, length(k));
+    };
+    let (five, three, two) = (arguments(5), arguments(3), arguments(2));
+    five.iter().for_each(|a| each(&[a]));
+    three.iter().for_each(|a| three.iter().for_each(|b| each(&[a, b])));
+    two.iter().for_each(|a| two.iter().for_each(|b| two.iter().for_each(|c| each(&[a, b, c]))));
+    let mut rng = Rng::new(seed);
+    cases::limits().iter().enumerate().for_each(|(k, case)| compared.split(case, length(k as u64)));
+    for k in 0..count {
+        let case = if k % 16 == 0 { cases::damaged(&mut rng) } else { cases::well_made(&mut rng) };
+        compared.split(&case, length(k));
+    }
+    compared
+}
