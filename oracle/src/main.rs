@@ -18,7 +18,8 @@ use std::process::ExitCode;
 
 const USAGE: &str = "\
 oracle compare LAYER [SEED COUNT]  the proved code against the Rust, in this process: utf8, checks, and live: split
-oracle measure LAYER               what the proved code costs: checks
+oracle measure LAYER               what the proved code costs: checks, split
+oracle split FORM [ARGUMENT..]     a command line split into items, by the proved code
 oracle utf8 [ARGUMENT..]           each argument's characters, by the proved code
 oracle list LAYER SEED COUNT       a fixed list of a layer: utf8, check, and live: split, run, calls
 oracle lists FILE..                make each list again by its first line and compare
@@ -49,6 +50,7 @@ fn main() -> ExitCode {
         "compare" if words.len() >= 2 => compare(&words),
         "measure" if words.len() == 2 => compare::measure(&words[1]),
         "utf8" => compare::show_arguments(),
+        "split" if words.len() >= 2 => compare::show_split(&words[1]),
         "list" if words.len() == 4 => print_list(&words),
         "lists" => words[1..].iter().map(|file| same_list(file)).fold(true, |a, b| a && b),
         _ => live(first, &words),

@@ -1,3 +1,4 @@
 pub mod Names
 pub mod Items
 pub mod Search
+pub mod Tables

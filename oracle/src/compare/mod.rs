@@ -3,10 +3,10 @@
 //! A slice is two arguments here, a pointer and a count; declared as one it would pass wrongly where one register is left.
 
 mod checks;
-#[cfg(live)]
 mod split;
 mod utf8;
 
+pub use split::show as show_split;
 pub use utf8::show_arguments;
 
 /// Cases tried and differences found.
@@ -43,6 +43,7 @@ pub fn compare(layer: &str, seed: u64, count: Option<u64>) -> Option<Compared> {
 pub fn measure(layer: &str) -> bool {
     match layer {
         "checks" => checks::measure(),
+        "split" => split::measure(),
         _ => return false,
     }
     true

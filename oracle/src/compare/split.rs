@@ -1,11 +1,17 @@
-//! Splitting against the real `State::construct`.
+//! Splitting: a line shown, its cost, and every word of it against the real `State::construct`.
 
-use bpaf::doc::harness::Held;
-use line::{cases, cases::Case, cases::Rng, forged::State, format::*, notation};
+use std::os::unix::ffi::OsStringExt;
 
-use super::checks::refused;
-use super::Compared;
+use line::{forged::records, forged::State, format::*, notation};
+
+#[cfg(live)]
+use super::{checks::refused, Compared};
+#[cfg(live)]
 use crate::lists::hex;
+#[cfg(live)]
+use bpaf::doc::harness::Held;
+#[cfg(live)]
+use line::{cases, cases::Case, cases::Rng};
 
 #[repr(C)]
 #[derive(Clone, Copy, Debug, PartialEq, Eq)]
@@ -27,7 +33,78 @@ extern "C" {
     ) -> Splitting;
 }
 
+fn split(form: &[u8], sheet: &[u8], items: &mut [u32]) -> Splitting {
+    unsafe {
+        silverpoise_split(form.as_ptr(), form.len(), sheet.as_ptr(), sheet.len(), items.as_mut_ptr(), items.len())
+    }
+}
+
+/// The bytes of a part of the sheet's area, as text.
+fn part(area: &[u8], offset: u32, length: u32) -> String {
+    String::from_utf8_lossy(&area[offset as usize..][..length as usize]).into_owned()
+}
+
+fn show_item(area: &[u8], record: &[u32; 7]) -> String {
+    let [kind, adjacent, character, name_at, name_length, text_at, text_length] = *record;
+    let adjacent = if adjacent == 1 { ", with a value" } else { "" };
+    let text = part(area, text_at, text_length);
+    match kind {
+        1 => format!("Short {}{adjacent}", char::from_u32(character).unwrap_or('?')),
+        2 => format!("Long \"{}\"{adjacent}", part(area, name_at, name_length)),
+        3 => format!("ArgWord \"{text}\""),
+        4 => format!("Word \"{text}\""),
+        _ => format!("PosWord \"{text}\""),
+    }
+}
+
+/// A form in the notation of notation.rs and this program's further arguments: the items, by the proved code.
+pub fn show(form: &str) -> bool {
+    let form = match notation::parse(form) {
+        Ok(form) => form.write(),
+        Err(e) => {
+            eprintln!("the form: {e}");
+            return false;
+        }
+    };
+    let arguments: Vec<Vec<u8>> = std::env::args_os().skip(3).map(|a| a.into_vec()).collect();
+    let area = arguments.concat();
+    let mut items = vec![0; 1792];
+    let ended = split(&form, &Sheet { arguments }.write(), &mut items);
+    records(&items).iter().enumerate().for_each(|(place, r)| println!("{place}: {}", show_item(&area, r)));
+    match ended.number {
+        0 => println!("{} of {} remain", ended.state.remaining, ended.state.count),
+        9 => println!("refused 9 at {}", ended.place - 1),
+        number => println!("refused {number}"),
+    }
+    ended.number == 0
+}
+
+/// Nanoseconds of one split of a line of one cluster, and of 256 words.
+pub fn measure() {
+    let form = notation::parse("switch(-v); switch(-q); optional(number(-w)); many(operand)").expect("a form").write();
+    let cluster = |letters: usize| Sheet { arguments: vec![[b"-".to_vec(), vec![b'v'; letters], b"x".to_vec()].concat()] };
+    let lines = [
+        ("a cluster of 8 letters, the last unknown", cluster(7)),
+        ("a cluster of 1,024 letters, the last unknown", cluster(1023)),
+        ("a cluster of 32,767 letters, the last unknown", cluster(32766)),
+        ("-vq -w7 lock", Sheet { arguments: vec![b"-vq".to_vec(), b"-w7".to_vec(), b"lock".to_vec()] }),
+        ("256 words", Sheet { arguments: vec![b"word".to_vec(); 256] }),
+    ];
+    let mut items = vec![0; 1792];
+    for (name, sheet) in lines {
+        let sheet = sheet.write();
+        let mut best = u128::MAX;
+        for _ in 0..200 {
+            let began = std::time::Instant::now();
+            std::hint::black_box(split(&form, std::hint::black_box(&sheet), &mut items));
+            best = best.min(began.elapsed().as_nanos());
+        }
+        println!("{best:10} ns  {name}");
+    }
+}
+
 /// The state as the library hands it over.
+#[cfg(live)]
 fn raw(held: &Held) -> State {
     let view = held.view();
     let mut marks = [0; 256];
@@ -42,9 +119,11 @@ fn raw(held: &Held) -> State {
     }
 }
 
+#[cfg(live)]
 const EMPTY: State = State { marks: [0; 256], count: 0, remaining: 0, current: 0, start: 0, end: 0 };
 
 /// What a split must leave: number and place, the state, and every word of the item slice.
+#[cfg(live)]
 fn expected(case: &Case, length: usize) -> (Splitting, Vec<u32>) {
     let mut items = vec![0; length];
     let checked = Form::check(&case.form).and_then(|f| Sheet::check(&case.sheet).map(|s| (f, s)));
@@ -62,15 +141,14 @@ fn expected(case: &Case, length: usize) -> (Splitting, Vec<u32>) {
     (Splitting { number: r.number, place: r.place, state: raw(&held) }, items)
 }
 
+#[cfg(live)]
 impl Compared {
     /// The slice is filled with a pattern before the call.
     fn split(&mut self, case: &Case, length: usize) {
         self.cases += 1;
         let mut items: Vec<u32> = (0..length as u32).map(|k| 0xdead_0000 ^ k).collect();
         let (form, sheet) = (&case.form, &case.sheet);
-        let ours = unsafe {
-            silverpoise_split(form.as_ptr(), form.len(), sheet.as_ptr(), sheet.len(), items.as_mut_ptr(), items.len())
-        };
+        let ours = split(form, sheet, &mut items);
         let (theirs, words) = expected(case, length);
         let input = || format!("{} {} {length}", hex(form), hex(sheet));
         self.same("split", &input, ours, theirs);
@@ -82,6 +160,7 @@ impl Compared {
 }
 
 /// The stated length mostly, longer in a third of the cases, and the lengths about the limit now and then.
+#[cfg(live)]
 fn length(k: u64) -> usize {
     match k % 48 {
         0 => 0,
@@ -92,6 +171,7 @@ fn length(k: u64) -> usize {
 }
 
 /// Every argument of up to `symbols` of the alphabet's symbols.
+#[cfg(live)]
 fn arguments(symbols: usize) -> Vec<Vec<u8>> {
     const ALPHABET: [&str; 7] = ["v", "w", "b", "x", "-", "=", "é"];
     let mut all = vec![Vec::new()];
@@ -105,6 +185,7 @@ fn arguments(symbols: usize) -> Vec<Vec<u8>> {
 }
 
 /// All lines of one argument of up to five symbols, of two of up to three, of three of up to two; then `count` random ones.
+#[cfg(live)]
 pub fn compare(seed: u64, count: u64) -> Compared {
     let mut compared = Compared::default();
     const FORM: &str = "switch(-v); switch(-\\xc3\\xa9); optional(number(-w)); optional(flag(-b)); optional(text(-b)); many(operand)";
