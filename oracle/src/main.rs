@@ -23,6 +23,7 @@ oracle split FORM [ARGUMENT..]     a command line split into items, by the prove
 oracle utf8 [ARGUMENT..]           each argument's characters, by the proved code
 oracle list LAYER SEED COUNT       a fixed list of a layer: utf8, check, and live: split, run, calls
 oracle lists FILE..                make each list again by its first line and compare
+oracle replay FILE..               the lists of check and split, by the proved code
 live, with bpaf's source:
 oracle bench                       form and sheet joined on standard input; prints what bench prints
 oracle show                        the same, then item records and the state
@@ -52,6 +53,7 @@ fn main() -> ExitCode {
         "utf8" => compare::show_arguments(),
         "split" if words.len() >= 2 => compare::show_split(&words[1]),
         "list" if words.len() == 4 => print_list(&words),
+        "replay" => words[1..].iter().map(|file| replayed(file)).fold(true, |a, b| a && b),
         "lists" => words[1..].iter().map(|file| same_list(file)).fold(true, |a, b| a && b),
         _ => live(first, &words),
     };
@@ -81,6 +83,21 @@ fn print_list(words: &[String]) -> bool {
         }
     }
     true
+}
+
+/// Whether the proved code gives the answers of a list. A layer whose code cannot be called yet is left out, and said so.
+fn replayed(file: &str) -> bool {
+    let text = std::fs::read_to_string(file).unwrap_or_else(|e| panic!("{file}: {e}"));
+    match compare::replay(&text) {
+        None => {
+            println!("{file}: left out");
+            true
+        }
+        Some((cases, differ)) => {
+            println!("{file}: {cases} cases, {differ} differ");
+            cases > 0 && differ == 0
+        }
+    }
 }
 
 /// Whether a committed list is the one that its first line makes. A layer that this build lacks is left out, and said so.

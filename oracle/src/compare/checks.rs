@@ -33,7 +33,7 @@ pub fn form_check(form: &[u8]) -> Refused {
     unsafe { silverpoise_form_check(form.as_ptr(), form.len()) }
 }
 
-fn sheet_check(sheet: &[u8]) -> Refused {
+pub fn sheet_check(sheet: &[u8]) -> Refused {
     unsafe { silverpoise_sheet_check(sheet.as_ptr(), sheet.len()) }
 }
 

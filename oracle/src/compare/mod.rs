@@ -3,9 +3,11 @@
 //! A slice is two arguments here, a pointer and a count; declared as one it would pass wrongly where one register is left.
 
 mod checks;
+mod replay;
 mod split;
 mod utf8;
 
+pub use replay::replay;
 pub use split::show as show_split;
 pub use utf8::show_arguments;
 

@@ -15,10 +15,10 @@ use line::{cases, cases::Case, cases::Rng};
 
 #[repr(C)]
 #[derive(Clone, Copy, Debug, PartialEq, Eq)]
-struct Splitting {
-    number: u32,
-    place: u32,
-    state: State,
+pub struct Splitting {
+    pub number: u32,
+    pub place: u32,
+    pub state: State,
 }
 
 #[link(name = "exports", kind = "static")]
@@ -33,7 +33,7 @@ extern "C" {
     ) -> Splitting;
 }
 
-fn split(form: &[u8], sheet: &[u8], items: &mut [u32]) -> Splitting {
+pub fn split(form: &[u8], sheet: &[u8], items: &mut [u32]) -> Splitting {
     unsafe {
         silverpoise_split(form.as_ptr(), form.len(), sheet.as_ptr(), sheet.len(), items.as_mut_ptr(), items.len())
     }
