@@ -1,0 +1,469 @@
+// The run of a node and the run of a repeat, which call each other: a child has a lower number than its node, and within a
+// repeat fewer places remain at every turn. The members call and hand on; what there is to decide is decided outside.
+ghost use mathlib.Core.Path.{_≡_};
+ghost use mathlib.Core.Bool.{true};
+ghost use mathlib.Core.Option.{some};
+ghost use Prim.Native.Nat.{_+_, _≤_, _<_};
+ghost use lib.ListN.{length, replicate};
+ghost use lib.Seq.{sets};
+ghost use Rattle.utf8.specs.Utf8.{if_then_else_};
+ghost use Rattle.rules.specs.Sheet.{sheetArea};
+ghost use Rattle.rules.specs.Tree.{Tree, Optional, Count, Last, Choice, Guard};
+ghost use Rattle.outcome.specs.Told.{Evaluates};
+ghost use Rattle.outcome.specs.Nodes.{treeAt, Scalar};
+ghost use Rattle.eval.specs.Cycle.{Wraps, Wrapped, Falls, Both, Repeating, Repeats};
+ghost use Rattle.eval.specs.Values.{Put, Wrote, noValue, Fits, oneMore, endedWith, passedOn, refusedList, countedValues, lastValue, moreTries};
+use outcome::Ran;
+use state::Numbers;
+use structs::Counting;
+
+// How a repeat ended: how many values were counted, how many words of them were written, and the last of them.
+pub struct Repeated {
+    pub number: u32,
+    pub place: u32,
+    pub tries: u32,
+    pub count: u32,
+    pub size: u32,
+    pub len: u32,
+    pub word: u32,
+    pub numbers: Numbers,
+}
+
+fn wide(x: u32) -> usize
+    ensures { λ r. ⌜ r ≡ x ⌝ }
+{
+    x as usize
+}
+
+// Writes the words of a value that is no list. How many they are comes back.
+pub fn put(out: &mut [u32], at: usize, len: u32, word: u32) -> u32
+    requires { ⌜ at + 2 ≤ length (now out) ⌝ }
+    ensures { λ r. ⌜ Put (now (out .entry)) at len word (now (out .exit)) r ⌝ }
+{
+    if len == 0 {
+        return 0;
+    }
+    if len == 1 {
+        out[at] = word;
+        return 1;
+    }
+    out[at] = 1;
+    out[at + 1] = word;
+    2
+}
+
+// A value goes behind the `size` words from `at + 1` on, if values are written.
+fn write_value(out: &mut [u32], writes: bool, at: usize, size: u32, len: u32, word: u32) -> u32
+    requires { ⌜ (writes ≡ true → at + 1 + size + 2 ≤ length (now out)) ⌝ }
+    ensures { λ r. ⌜ Wrote writes (now (out .entry)) (at + 1 + size) len word (now (out .exit)) r ⌝ }
+{
+    if writes {
+        return put(out, at + 1 + wide(size), len, word);
+    }
+    0
+}
+
+// The `size` words from `at + 1` on are 0 again, if values were written.
+fn unwrite(out: &mut [u32], writes: bool, at: usize, size: u32)
+    requires { ⌜ (writes ≡ true → at + 1 ≤ length (now out)) ⌝ }
+    ensures { λ _. ⌜ now (out .exit) ≡ (if writes then sets (now (out .entry)) (at + 1) (replicate size 0) else now (out .entry)) ⌝ }
+{
+    if writes {
+        wire::fill(out, at + 1, wide(size), 0);
+    }
+}
+
+fn nothing(p: Numbers) -> Repeated
+    ensures { λ r. ⌜ r ≡ noValue p ⌝ }
+{
+    Repeated {
+        number: 0,
+        place: 0,
+        tries: 0,
+        count: 0,
+        size: 0,
+        len: 0,
+        word: 0,
+        numbers: p,
+    }
+}
+
+// One value more, of which `width` words were written.
+fn one_more(all: Repeated, ran: Ran, width: u32) -> Repeated
+    requires { ⌜ Fits all ran width ⌝ }
+    ensures { λ r. ⌜ r ≡ oneMore all ran width ⌝ }
+{
+    let left = ran.numbers;
+    Repeated {
+        number: 0,
+        place: 0,
+        tries: all.tries + ran.tries,
+        count: all.count + 1,
+        size: all.size + width,
+        len: ran.len,
+        word: ran.word,
+        numbers: left,
+    }
+}
+
+// The last evaluation added no value, only its tries.
+fn ended(all: Repeated, tries: u32, numbers: Numbers) -> Repeated
+    requires { ⌜ all .tries + tries ≤ 16512 ⌝ }
+    ensures { λ r. ⌜ r ≡ endedWith all tries numbers ⌝ }
+{
+    Repeated {
+        number: 0,
+        place: 0,
+        tries: all.tries + tries,
+        count: all.count,
+        size: all.size,
+        len: all.len,
+        word: all.word,
+        numbers: numbers,
+    }
+}
+
+// The child's refusal is the repeat's; the values are dropped.
+fn passed_on(all: Repeated, ran: Ran) -> Repeated
+    requires { ⌜ all .tries + ran .tries ≤ 16512 ⌝ }
+    ensures { λ r. ⌜ r ≡ passedOn all ran ⌝ }
+{
+    let left = ran.numbers;
+    Repeated {
+        number: ran.number,
+        place: ran.place,
+        tries: all.tries + ran.tries,
+        count: 0,
+        size: 0,
+        len: 0,
+        word: 0,
+        numbers: left,
+    }
+}
+
+fn refused_list(all: Repeated) -> Ran
+    ensures { λ r. ⌜ r ≡ refusedList all ⌝ }
+{
+    let left = all.numbers;
+    Ran {
+        number: all.number,
+        place: all.place,
+        tries: all.tries,
+        len: 0,
+        word: 0,
+        numbers: left,
+    }
+}
+
+fn counted(all: Repeated) -> Ran
+    ensures { λ r. ⌜ r ≡ countedValues all ⌝ }
+{
+    let left = all.numbers;
+    Ran {
+        number: 0,
+        place: 0,
+        tries: all.tries,
+        len: 1,
+        word: all.count,
+        numbers: left,
+    }
+}
+
+fn last_value(all: Repeated) -> Ran
+    ensures { λ r. ⌜ r ≡ lastValue all ⌝ }
+{
+    let left = all.numbers;
+    Ran {
+        number: 0,
+        place: 0,
+        tries: all.tries,
+        len: all.len,
+        word: all.word,
+        numbers: left,
+    }
+}
+
+fn more_tries(ran: Ran, tries: u32) -> Ran
+    requires { ⌜ tries + ran .tries < 4294967296 ⌝ }
+    ensures { λ r. ⌜ r ≡ moreTries ran tries ⌝ }
+{
+    let left = ran.numbers;
+    Ran {
+        number: ran.number,
+        place: ran.place,
+        tries: tries + ran.tries,
+        len: ran.len,
+        word: ran.word,
+        numbers: left,
+    }
+}
+
+// A node whose value is no list.
+pub fn run_node(
+    form: &[u8],
+    codes: &[u32],
+    sheet: &[u8],
+    items: &[u32],
+    marks: &mut [u16; 256],
+    p: Numbers,
+    node: usize,
+    mark: u16,
+) -> Ran
+    requires { ⌜ Scalar (now form) (now codes) (now sheet) (now items) (now marks) p mark node ⌝ }
+    ensures { λ r. ⌜ ((t : Tree) → treeAt (now (form .entry)) node ≡ some t → Evaluates mark (sheetArea (now (sheet .entry))) (now (items .entry)) t (now (marks .entry)) p (now (marks .exit)) r) ⌝ }
+{
+    let x = layout::node_at(form, node);
+    let kind = x.kind;
+    match kind {
+        1 => params::eval_flag(
+            form,
+            codes,
+            sheet,
+            items,
+            marks,
+            p,
+            x.p,
+            x.q,
+            x.r == 1,
+            mark,
+        ),
+        2 => params::eval_argument(
+            form,
+            codes,
+            sheet,
+            items,
+            marks,
+            p,
+            x.p,
+            x.q,
+            2 <= x.r,
+            x.r % 2 == 1,
+            mark,
+        ),
+        3 => params::eval_positional(sheet, items, marks, p, x.p, x.r == 2, mark),
+        4 => run_optional(form, codes, sheet, items, marks, p, x.p, x.r == 1, mark),
+        7 => run_count(form, codes, sheet, items, marks, p, x.p, mark),
+        8 => run_last(form, codes, sheet, items, marks, p, x.p, mark),
+        9 => run_choice(form, codes, sheet, items, marks, p, x.p, x.q, mark),
+        10 => run_fallback(form, codes, sheet, items, marks, p, node, x.p, mark),
+        _ => run_guard(form, codes, sheet, items, marks, p, x.p, x.lo, x.hi, mark),
+    }
+}
+
+fn run_optional(
+    form: &[u8],
+    codes: &[u32],
+    sheet: &[u8],
+    items: &[u32],
+    marks: &mut [u16; 256],
+    p: Numbers,
+    child: usize,
+    catch: bool,
+    mark: u16,
+) -> Ran
+    requires { ⌜ Wraps (Optional catch) (now form) (now codes) (now sheet) (now items) (now marks) p mark child ⌝ }
+    ensures { λ r. ⌜ Wrapped (Optional catch) mark (now (form .entry)) (now (sheet .entry)) (now (items .entry)) child (now (marks .entry)) p (now (marks .exit)) r ⌝ }
+{
+    let before = *marks;
+    let ran = run_node(form, codes, sheet, items, marks, p, child, mark);
+    let made = results::optional(ran, p, catch, &before, marks);
+    let answer = made.ran;
+    answer
+}
+
+fn run_fallback(
+    form: &[u8],
+    codes: &[u32],
+    sheet: &[u8],
+    items: &[u32],
+    marks: &mut [u16; 256],
+    p: Numbers,
+    node: usize,
+    child: usize,
+    mark: u16,
+) -> Ran
+    requires { ⌜ Falls (now form) (now codes) (now sheet) (now items) (now marks) p mark node child ⌝ }
+    ensures { λ r. ⌜ ((t : Tree) → treeAt (now (form .entry)) node ≡ some t → Evaluates mark (sheetArea (now (sheet .entry))) (now (items .entry)) t (now (marks .entry)) p (now (marks .exit)) r) ⌝ }
+{
+    let before = *marks;
+    let ran = run_node(form, codes, sheet, items, marks, p, child, mark);
+    if ran.number == 0 {
+        return ran;
+    }
+    let word = results::fallback_word(form, node);
+    results::fallback(ran, p, word, &before, marks)
+}
+
+fn run_guard(
+    form: &[u8],
+    codes: &[u32],
+    sheet: &[u8],
+    items: &[u32],
+    marks: &mut [u16; 256],
+    p: Numbers,
+    child: usize,
+    lo: u32,
+    hi: u32,
+    mark: u16,
+) -> Ran
+    requires { ⌜ Wraps (Guard lo hi) (now form) (now codes) (now sheet) (now items) (now marks) p mark child ⌝ }
+    ensures { λ r. ⌜ Wrapped (Guard lo hi) mark (now (form .entry)) (now (sheet .entry)) (now (items .entry)) child (now (marks .entry)) p (now (marks .exit)) r ⌝ }
+{
+    let ran = run_node(form, codes, sheet, items, marks, p, child, mark);
+    results::guard(ran, lo, hi)
+}
+
+fn run_choice(
+    form: &[u8],
+    codes: &[u32],
+    sheet: &[u8],
+    items: &[u32],
+    marks: &mut [u16; 256],
+    p: Numbers,
+    left: usize,
+    right: usize,
+    mark: u16,
+) -> Ran
+    requires { ⌜ Both (now form) (now codes) (now sheet) (now items) (now marks) p mark left right ⌝ }
+    ensures { λ r. ⌜ ((t u : Tree) → treeAt (now (form .entry)) left ≡ some t → treeAt (now (form .entry)) right ≡ some u → Evaluates mark (sheetArea (now (sheet .entry))) (now (items .entry)) (Choice t u) (now (marks .entry)) p (now (marks .exit)) r) ⌝ }
+{
+    let before = *marks;
+    let x = run_node(form, codes, sheet, items, marks, p, left, mark);
+    let first = *marks;
+    *marks = before;
+    let y = run_node(form, codes, sheet, items, marks, p, right, mark);
+    let made = results::choose(x, y, p, &before, &first, marks);
+    let answer = made.ran;
+    answer
+}
+
+// The number of values that a repeat counts. Nothing is written.
+fn run_count(
+    form: &[u8],
+    codes: &[u32],
+    sheet: &[u8],
+    items: &[u32],
+    marks: &mut [u16; 256],
+    p: Numbers,
+    child: usize,
+    mark: u16,
+) -> Ran
+    requires { ⌜ Wraps Count (now form) (now codes) (now sheet) (now items) (now marks) p mark child ⌝ }
+    ensures { λ r. ⌜ Wrapped Count mark (now (form .entry)) (now (sheet .entry)) (now (items .entry)) child (now (marks .entry)) p (now (marks .exit)) r ⌝ }
+{
+    let mut unwritten = [0u32; 1];
+    let all = run_repeat(
+        form,
+        codes,
+        sheet,
+        items,
+        marks,
+        p,
+        child,
+        false,
+        true,
+        false,
+        0,
+        &mut unwritten,
+        mark,
+    );
+    if all.number != 0 {
+        return refused_list(all);
+    }
+    counted(all)
+}
+
+// The last value; with none, the child is tried once more.
+fn run_last(
+    form: &[u8],
+    codes: &[u32],
+    sheet: &[u8],
+    items: &[u32],
+    marks: &mut [u16; 256],
+    p: Numbers,
+    child: usize,
+    mark: u16,
+) -> Ran
+    requires { ⌜ Wraps Last (now form) (now codes) (now sheet) (now items) (now marks) p mark child ⌝ }
+    ensures { λ r. ⌜ Wrapped Last mark (now (form .entry)) (now (sheet .entry)) (now (items .entry)) child (now (marks .entry)) p (now (marks .exit)) r ⌝ }
+{
+    let mut unwritten = [0u32; 1];
+    let all = run_repeat(
+        form,
+        codes,
+        sheet,
+        items,
+        marks,
+        p,
+        child,
+        false,
+        true,
+        false,
+        0,
+        &mut unwritten,
+        mark,
+    );
+    if all.number != 0 {
+        return refused_list(all);
+    }
+    if all.count != 0 {
+        return last_value(all);
+    }
+    let after = all.numbers;
+    let again = run_node(form, codes, sheet, items, marks, after, child, mark);
+    more_tries(again, all.tries)
+}
+
+// Evaluates the child until it is absent, or a success does not count, or one of `count` and `last` used nothing. Each value is
+// written to the next words of `out`, from the word behind `at` on, where that is asked for.
+pub fn run_repeat(
+    form: &[u8],
+    codes: &[u32],
+    sheet: &[u8],
+    items: &[u32],
+    marks: &mut [u16; 256],
+    p: Numbers,
+    child: usize,
+    catch: bool,
+    stops: bool,
+    writes: bool,
+    at: usize,
+    out: &mut [u32],
+    mark: u16,
+) -> Repeated
+    requires { ⌜ Repeating (now form) (now codes) (now sheet) (now items) (now marks) p mark child writes (now out) at ⌝ }
+    ensures { λ r. ⌜ ((t : Tree) → treeAt (now (form .entry)) child ≡ some t → Repeats mark (sheetArea (now (sheet .entry))) (now (items .entry)) t catch stops writes (now (marks .entry)) p (now (marks .exit)) (now (out .entry)) at (now (out .exit)) r) ⌝ }
+{
+    let mut s = p;
+    let mut last: u32 = 4294967295;
+    let mut all = nothing(p);
+    loop {
+        let before = *marks;
+        let given = s.remaining;
+        let ran = run_node(form, codes, sheet, items, marks, s, child, mark);
+        let after = ran.numbers;
+        let way = structs::parse_option(ran.number, catch, given, after.remaining, last);
+        match way {
+            Counting::Counted => {
+                let width = write_value(out, writes, at, all.size, ran.len, ran.word);
+                all = one_more(all, ran, width);
+                if structs::idle(stops, given, after.remaining) {
+                    return all;
+                }
+                s = after;
+                last = after.remaining;
+            }
+            Counting::Uncounted => {
+                return ended(all, ran.tries, after);
+            }
+            Counting::Absent => {
+                *marks = before;
+                return ended(all, ran.tries, s);
+            }
+            Counting::PassedOn => {
+                unwrite(out, writes, at, all.size);
+                return passed_on(all, ran);
+            }
+        }
+    }
+}

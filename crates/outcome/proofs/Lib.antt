@@ -1,0 +1,5 @@
+-- What the crates above cite.
+pub mod NodeLaw
+pub mod Visits
+pub mod Repeats
+pub mod ListLaws

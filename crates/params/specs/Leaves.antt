@@ -1,0 +1,48 @@
+-- What the evaluation of a leaf asks for, and what it answers.
+use mathlib.Core.Bool.{true}
+use mathlib.Core.List.{List, []}
+use mathlib.Core.Option.{Option, some, none}
+use mathlib.Core.Path.{_≡_}
+use Prim.Native.Nat.{ℕ}
+use lib.Dec.{eqb}
+use Rattle.utf8.specs.Utf8.{if_then_else_}
+use Rattle.rules.specs.Outcome.{Outcome}
+use Rattle.rules.specs.Value.{Value}
+use Rattle.rules.specs.Sheet.{sheetArea, sheetFault}
+use Rattle.rules.specs.State.{State}
+use Rattle.rules.specs.Eval.{Ran as Run}
+use Rattle.rules.specs.Demands.{isNamed}
+use Rattle.state.specs.declared.Numbers.{Numbers}
+use Rattle.state.specs.Lent.{stateOf}
+use Rattle.named.specs.Codes.{namedAt}
+use Rattle.named.specs.Search.{HasNames}
+use Rattle.take.specs.Takes.{Ready}
+use Rattle.outcome.specs.declared.Ran.{Ran}
+use Rattle.outcome.specs.Told.{told, answered}
+
+-- a leaf with names: one or more names of a checked form, and a state over the items of the words
+pub record Named (b codes s words m : List ℕ) (p : Numbers) (first count mark : ℕ) : Type 0 where
+  pub names : HasNames b codes first count
+  pub made : sheetFault s ≡ 0
+  pub state : Ready (sheetArea s) words m p mark
+  pub named : isNamed (namedAt b first count) ≡ true
+
+-- ---- how a leaf ends, as numbers: always after one try
+abbrev pub valueRan : ℕ → Numbers → Ran
+valueRan w p = record { number = 0; place = 0; tries = 1; len = 1; word = w; numbers = p }
+
+-- the place is itself plus 1, or 0 for none
+abbrev pub refusedRan : ℕ → ℕ → Numbers → Ran
+refusedRan n place p = record { number = n; place = place; tries = 1; len = 0; word = 0; numbers = p }
+
+unfoldable pub leafRun : Outcome Value → State → Run Value
+leafRun o s = record { outcome = o; state = s; tries = 1; trace = [] }
+
+-- an outcome in the state that a take left, and the numbers that tell it
+pub record Tells (o : State → Outcome Value) (p : Numbers) (r : Ran) : Type 0 where
+  pub same : (m : List ℕ) → told (leafRun (o (stateOf m p)) (stateOf m p)) ≡ some (answered r m)
+  pub kept : r .numbers ≡ p
+
+-- the number of a refusal, or 0 for none
+unfoldable pub refusalOf : ℕ → Option ℕ
+refusalOf n = if eqb n 0 then none else some n

@@ -1,0 +1,6 @@
+pub mod Tells
+pub mod Optionals
+pub mod Fallbacks
+pub mod Guards
+pub mod Choices
+pub mod Words
