@@ -1,0 +1,7 @@
+pub mod Words
+pub mod Runs
+pub mod Trees
+pub mod Rows
+pub mod Nodes
+pub mod Options
+pub mod Sides

@@ -1,0 +1,156 @@
+-- The node of a list: what its children are given, and what they leave.
+use mathlib.Core.Bool.{true, false}
+use mathlib.Core.List.{List}
+use mathlib.Core.Option.{some, Option·some-injective}
+use mathlib.Core.Path.{_≡_, refl, sym, _∙_, ap, subst}
+use Prim.Native.Nat.{ℕ, max, _+_, _*_, _≤_, _<_}
+use native.Mathlib.Omega.{arith}
+use lib.Dec.{eqb}
+use lib.ListN.{getElem?}
+use Rattle.rules.specs.Base.{isSome, _>>?_}
+use Rattle.rules.specs.Form.{readForm, nodeCount}
+use Rattle.rules.specs.Sheet.{sheetArea}
+use Rattle.rules.specs.Tree.{Tree, Optional, Many, Some, Choice, kindOf, listKind}
+use Rattle.rules.specs.Accept.{lengthGood}
+use Rattle.rules.specs.Demands.{Sound, leaves}
+use Rattle.rules.proofs.KindLaws.{choice-kind}
+use Rattle.layout.specs.declared.Node.{Node}
+use Rattle.layout.specs.Layout.{nodeOf}
+use Rattle.state.specs.declared.Numbers.{Numbers}
+use Rattle.outcome.specs.declared.Ran.{Ran}
+use Rattle.outcome.specs.Nodes.{treeAt, isScalar, Standing}
+use Rattle.lists.specs.Lists.{Listed, Writes, OverScalar, OverList, WritesOver, Both}
+use Rattle.lists.proofs.Trees.{list-scalar, optional-long, Wraps, Joins, node-there, node-sound, optional-node, many-node, some-node, choice-node}
+
+module _
+    {b codes s items m : List ℕ}
+    {p : Numbers}
+    {mark n : ℕ}
+    {o : List ℕ}
+    {at : ℕ}
+    (r : Listed b codes s items m p mark n o at)
+  where
+    pub there : (lengthGood b ≡ true) × (n < nodeCount b)
+    there = node-there b n (r .stands .tree) (r .stands .node)
+
+    sound : Sound (r .stands .tree)
+    sound = node-sound b n (r .stands .tree) (r .stands .node)
+
+    -- a child stands where its node does
+    abbrev standing : (i : ℕ) (c : Tree) → treeAt b i ≡ some c → leaves c ≤ 64 → Standing b codes s items m p mark i
+    standing i c g l =
+        record {
+          tree = c;
+          node = g;
+          light = l;
+          coded = r .stands .coded;
+          made = r .stands .made;
+          state = r .stands .state;
+        }
+
+    -- what was made of the child's tree is the node's
+    pub done :
+        {make : Tree → Tree} {i : ℕ} {m′ o′ : List ℕ} {q : Ran}
+        → Wraps b n make (r .stands .tree) i
+        → WritesOver make mark b s items i m p m′ o at o′ q
+        → (t : Tree)
+        → treeAt b n ≡ some t
+        → Writes mark (sheetArea s) items t m p m′ o at o′ q
+    done {m′} {o′} {q} w f t g =
+        subst (λ (u : Tree). Writes mark (sheetArea s) items u m p m′ o at o′ q)
+        (w .made ∙ Option·some-injective (r .stands .tree) t (sym (r .stands .node) ∙ g))
+        (f (w .child) (w .there))
+
+    -- the child of many and some
+    over :
+        (make : Tree → Tree) (i : ℕ)
+        → ((c : Tree) → leaves (make c) ≡ leaves c)
+        → ((c : Tree) → kindOf (make c) ≡ (kindOf c >>? listKind))
+        → Wraps b n make (r .stands .tree) i
+        → OverScalar make b codes s items m p mark i o at
+    over make i same kind w =
+        let z = subst Sound (sym (w .made)) sound in
+        let l : leaves (w .child) ≤ 64 = subst (λ (k : ℕ). k ≤ 64) (ap leaves (sym (w .made)) ∙ same (w .child)) (r .stands .light) in
+        let k : isSome (kindOf (w .child) >>? listKind) ≡ true = ap isSome (sym (kind (w .child))) ∙ z .kind in
+        record {
+          below = record { stands = standing i (w .child) (w .there) l; scalar = list-scalar (kindOf (w .child)) k };
+          sound = z;
+          space = r .space;
+        }
+
+    module _ {x : Node} (h : getElem? (readForm b .nodes) n ≡ some (nodeOf x)) where
+      abbrev T : Tree
+      T = r .stands .tree
+
+      -- ---- many and some
+      pub many-is : x .kind ≡ 5 → Wraps b n (Many (eqb (x .r) 1)) T (x .p)
+      many-is k = many-node b n T (r .stands .node) (nodeOf x) h k
+
+      pub some-is : x .kind ≡ 6 → Wraps b n (Some (eqb (x .r) 1)) T (x .p)
+      some-is k = some-node b n T (r .stands .node) (nodeOf x) h k
+
+      pub many-ready : x .kind ≡ 5 → OverScalar (Many (eqb (x .r) 1)) b codes s items m p mark (x .p) o at
+      unfolding leaves kindOf
+      many-ready k = over (Many (eqb (x .r) 1)) (x .p) (λ c. refl) (λ c. refl) (many-is k)
+
+      pub some-ready : x .kind ≡ 6 → OverScalar (Some (eqb (x .r) 1)) b codes s items m p mark (x .p) o at
+      unfolding leaves kindOf
+      some-ready k = over (Some (eqb (x .r) 1)) (x .p) (λ c. refl) (λ c. refl) (some-is k)
+
+      -- ---- optional
+      pub optional-is : x .kind ≡ 4 → Wraps b n (Optional (eqb (x .r) 1)) T (x .p)
+      optional-is k = optional-node b n T (r .stands .node) (nodeOf x) h k
+
+      pub optional-less : x .kind ≡ 4 → {t : ℕ} → n * 2 + 1 ≡ t → x .p * 2 + 2 < t
+      optional-less k e = omega (arith, optional-is k .below)
+
+      pub optional-ready : x .kind ≡ 4 → OverList (Optional (eqb (x .r) 1)) b codes s items m p mark (x .p) o at
+      unfolding leaves kindOf
+      optional-ready k =
+          let w = optional-is k in
+          let z = subst Sound (sym (w .made)) sound in
+          let l = subst (λ (u : Tree). leaves u ≤ 64) (sym (w .made)) (r .stands .light) in
+          let v = subst (λ (u : Tree). isScalar (kindOf u) ≡ false) (sym (w .made)) (r .long) in
+          record {
+            below = record { stands = standing (x .p) (w .child) (w .there) l; long = optional-long (kindOf (w .child)) (z .kind) v; space = r .space };
+            sound = z;
+          }
+
+      -- ---- choice
+      module _ (k : x .kind ≡ 4 → ⊥) (k₂ : x .kind ≡ 5 → ⊥) (k₃ : x .kind ≡ 6 → ⊥) where
+        choice-is : Joins b n T (x .p) (x .q)
+        choice-is = choice-node b n T (r .stands .node) (nodeOf x) h k k₂ k₃ (r .long)
+
+        pub choice-less : {t : ℕ} → n * 2 + 1 ≡ t → max (x .p) (x .q) * 2 + 2 < t
+        choice-less e = omega (arith, choice-is .left, choice-is .right)
+
+        pub choice-ready : Both b codes s items m p mark (x .p) (x .q) o at
+        unfolding leaves kindOf
+        choice-ready =
+            let w = choice-is in
+            let z = subst Sound (sym (w .made)) sound in
+            let l = subst (λ (u : Tree). leaves u ≤ 64) (sym (w .made)) (r .stands .light) in
+            let v = subst (λ (u : Tree). isScalar (kindOf u) ≡ false) (sym (w .made)) (r .long) in
+            let q = choice-kind (kindOf (w .first)) (kindOf (w .second)) (z .kind) in
+            record {
+              first = record { stands = standing (x .p) (w .first) (w .one) (omega arith); long = ap isScalar (sym (q .0)) ∙ v; space = r .space };
+              second = record {
+                stands = standing (x .q) (w .second) (w .other) (omega arith);
+                long = ap isScalar (q .1 ∙ sym (q .0)) ∙ v;
+                space = r .space;
+              };
+              sound = z;
+              light = l;
+            }
+
+        pub choice-done :
+            {m′ o′ : List ℕ} {q : Ran}
+            → ((t u : Tree) → treeAt b (x .p) ≡ some t → treeAt b (x .q) ≡ some u → Writes mark (sheetArea s) items (Choice t u) m p m′ o at o′ q)
+            → (t : Tree)
+            → treeAt b n ≡ some t
+            → Writes mark (sheetArea s) items t m p m′ o at o′ q
+        choice-done {m′} {o′} {q} f t g =
+            let w = choice-is in
+            subst (λ (u : Tree). Writes mark (sheetArea s) items u m p m′ o at o′ q)
+            (w .made ∙ Option·some-injective T t (sym (r .stands .node) ∙ g))
+            (f (w .first) (w .second) (w .one) (w .other))
