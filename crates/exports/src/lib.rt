@@ -15,6 +15,9 @@ ghost use Rattle.error.specs.Refusals.{refusalOf, refusedOf};
 ghost use Rattle.answers.specs.Answers.{answerOf, stateAnswerOf, plainAnswer};
 ghost use Rattle.answers.specs.Answers.{yesCode as doneCode, pickCode, scopeCode, scopeOrNone, conflictCode, operandCode, placeOrNone, takenCode};
 ghost use Rattle.item_calls.specs.Calls.{Gets};
+ghost use Rattle.text.specs.Text.{PartOf};
+ghost use Rattle.rules.specs.Run.{run as reported};
+ghost use Rattle.runner.specs.Runner.{runAnswer};
 ghost use Rattle.reader.specs.Reader.{sheetCode, told, yesCode, splittingOf};
 ghost use Rattle.exports.specs.Exports.{decoding};
 use answers::Answer;
@@ -24,6 +27,8 @@ use reader::SplitAnswer;
 use reader::Told;
 use rules::Refused;
 use rules::State;
+use runner::RunAnswer;
+use text::TextPart;
 use utf8::Decoded;
 
 // The character at a place. Where there is none, found is false and the numbers are 0.
@@ -241,4 +246,23 @@ pub extern "C" fn silverpoise_take_cmd(
     ensures { λ r. ⌜ stateAnswerOf doneCode (callTakeCmd (now (form .entry)) (now (sheet .entry)) (now (items .entry)) s «record») ≡ some r ⌝ }
 {
     form_calls::take_cmd(form, sheet, items, s, record)
+}
+
+#[no_mangle]
+pub extern "C" fn silverpoise_text(form: &[u8], sheet: &[u8], items: &[u32], word: u32) -> TextPart
+    ensures { λ r. ⌜ PartOf (now (form .entry)) (now (sheet .entry)) (now (items .entry)) word r ⌝ }
+{
+    text::text_part(form, sheet, items, word)
+}
+
+#[no_mangle]
+pub extern "C" fn silverpoise_run(
+    form: &[u8],
+    sheet: &[u8],
+    items: &mut [u32],
+    answers: &mut [u32],
+) -> RunAnswer
+    ensures { λ r. ⌜ runAnswer (reported (now (form .entry)) (now (sheet .entry)) (length (now (items .entry))) (length (now (answers .entry)))) ≡ some (record { answer = r; items = now (items .exit); answers = now (answers .exit) }) ⌝ }
+{
+    runner::run(form, sheet, items, answers)
 }

@@ -161,7 +161,7 @@ fn prefix(s: &[u32], n: usize) -> &[u32]
 }
 
 // An accepted form, a checked sheet, and room for the items.
-fn split_accepted(form: &[u8], sheet: &[u8], items: &mut [u32]) -> SplitAnswer
+pub fn split_accepted(form: &[u8], sheet: &[u8], items: &mut [u32]) -> SplitAnswer
     requires { ⌜ Ready (now form) (now sheet) (now items) ⌝ }
     ensures { λ r. ⌜ callSplit (now (form .entry)) (now (sheet .entry)) (length (now (items .entry))) ≡ ok (splittingOf r (now (items .exit))) ⌝ }
 {

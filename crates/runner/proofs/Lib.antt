@@ -1,0 +1,4 @@
+pub mod Within
+pub mod Back
+pub mod States
+pub mod Runs
