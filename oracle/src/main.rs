@@ -12,18 +12,22 @@ mod equations;
 mod lines;
 mod lists;
 #[cfg(live)]
+mod program;
+#[cfg(live)]
 mod script;
 
 use std::process::ExitCode;
 
 const USAGE: &str = "\
-oracle compare LAYER [SEED COUNT]  the proved code against the Rust, in this process: utf8, checks, and live: split
-oracle measure LAYER               what the proved code costs: checks, split
+oracle compare LAYER [SEED COUNT]  the proved code against the Rust, in this process: utf8, checks, forged, forged-eval,
+                                   and live: split, calls, eval, run
+oracle measure LAYER               what the proved code costs: checks, split, run
+oracle read FORM [ARGUMENT..]      a command line read under a form: items and values, by the proved code
 oracle split FORM [ARGUMENT..]     a command line split into items, by the proved code
 oracle utf8 [ARGUMENT..]           each argument's characters, by the proved code
 oracle list LAYER SEED COUNT       a fixed list of a layer: utf8, check, and live: split, run, calls
 oracle lists FILE..                make each list again by its first line and compare
-oracle replay FILE..               the lists of check and split, by the proved code
+oracle replay FILE..               the lists of check, split, run and calls, by the proved code
 live, with bpaf's source:
 oracle bench                       form and sheet joined on standard input; prints what bench prints
 oracle show                        the same, then item records and the state
@@ -36,6 +40,7 @@ oracle probe SEED COUNT            generated cases, every state and value looked
 oracle short ARGUMENTS BYTES       the same for every short line over a small alphabet
 oracle calls SEED COUNT            generated single calls, no panic and states that hold together
 oracle equations SEED COUNT        cases as equations about the definitions (see oracle/equations)
+oracle program FILE [SEED COUNT]   the program bench, run as a process, on known and generated inputs
 oracle differences FILE            the table of differences with POSIX and GNU: this project's answers
 oracle test                        lines with known answers
 ";
@@ -51,6 +56,7 @@ fn main() -> ExitCode {
         "compare" if words.len() >= 2 => compare(&words),
         "measure" if words.len() == 2 => compare::measure(&words[1]),
         "utf8" => compare::show_arguments(),
+        "read" if words.len() >= 2 => compare::show_run(&words[1]),
         "split" if words.len() >= 2 => compare::show_split(&words[1]),
         "list" if words.len() == 4 => print_list(&words),
         "replay" => words[1..].iter().map(|file| replayed(file)).fold(true, |a, b| a && b),
@@ -68,6 +74,10 @@ fn compare(words: &[String]) -> bool {
             false
         }
         Some(compared) => {
+            let numbers: Vec<String> = compared.numbers.iter().map(|(n, times)| format!("{n}: {times}")).collect();
+            if !numbers.is_empty() {
+                println!("answered {}", numbers.join(", "));
+            }
             println!("{}: {} cases, {} differ", words[1], compared.cases, compared.differ);
             compared.differ == 0
         }
@@ -157,6 +167,7 @@ fn live(first: &str, words: &[String]) -> bool {
             equations::print(number(words, 1, 1), number(words, 2, 220) as usize);
             true
         }
+        "program" if words.len() >= 2 => program::compare(&words[1], number(words, 2, 1), number(words, 3, 400)),
         "differences" if words.len() == 2 => batch::differences(&words[1]),
         "test" => {
             let tests = lines::all();

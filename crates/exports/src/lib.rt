@@ -15,6 +15,8 @@ ghost use Rattle.error.specs.Refusals.{refusalOf, refusedOf};
 ghost use Rattle.answers.specs.Answers.{answerOf, stateAnswerOf, plainAnswer};
 ghost use Rattle.answers.specs.Answers.{yesCode as doneCode, pickCode, scopeCode, scopeOrNone, conflictCode, operandCode, placeOrNone, takenCode};
 ghost use Rattle.item_calls.specs.Calls.{Gets};
+ghost use Rattle.rules.specs.Calls.{callEval};
+ghost use Rattle.node_call.specs.Node.{evaluatedAnswer};
 ghost use Rattle.text.specs.Text.{PartOf};
 ghost use Rattle.rules.specs.Run.{run as reported};
 ghost use Rattle.runner.specs.Runner.{runAnswer};
@@ -23,6 +25,7 @@ ghost use Rattle.exports.specs.Exports.{decoding};
 use answers::Answer;
 use answers::StateAnswer;
 use item_calls::Got;
+use node_call::NodeAnswer;
 use reader::SplitAnswer;
 use reader::Told;
 use rules::Refused;
@@ -265,4 +268,18 @@ pub extern "C" fn silverpoise_run(
     ensures { λ r. ⌜ runAnswer (reported (now (form .entry)) (now (sheet .entry)) (length (now (items .entry))) (length (now (answers .entry)))) ≡ some (record { answer = r; items = now (items .exit); answers = now (answers .exit) }) ⌝ }
 {
     runner::run(form, sheet, items, answers)
+}
+
+#[no_mangle]
+pub extern "C" fn silverpoise_eval(
+    form: &[u8],
+    sheet: &[u8],
+    items: &[u32],
+    answers: &mut [u32],
+    s: State,
+    node: usize,
+) -> NodeAnswer
+    ensures { λ r. ⌜ evaluatedAnswer (callEval (now (form .entry)) (now (sheet .entry)) (now (items .entry)) (now (answers .entry)) s node) ≡ some (record { answer = r; answers = now (answers .exit) }) ⌝ }
+{
+    node_call::eval(form, sheet, items, answers, s, node)
 }

@@ -25,7 +25,7 @@ use Rattle.outcome.specs.Nodes.{Standing}
 use Rattle.eval.specs.Cycle.{Room}
 use Rattle.line.specs.declared.Reached.{Reached}
 
--- an accepted form, its letters, a checked sheet, a state over the items, and an answer slice of zeros
+-- an accepted form, its short names as numbers, a checked sheet, a state over the items, and an answer slice of zeros
 pub record Starts (b codes s words m : List ℕ) (p : Numbers) (o : List ℕ) (mark : ℕ) : Type 0 where
   pub result : Accepted
   pub accepts : checkForm b ≡ accepted result

@@ -20,7 +20,8 @@ use Rattle.state.specs.declared.Numbers.{Numbers}
 use Rattle.outcome.specs.declared.Ran.{Ran}
 use Rattle.outcome.specs.Nodes.{treeAt, isScalar, Standing}
 use Rattle.lists.specs.Lists.{Listed, Writes, OverScalar, OverList, WritesOver, Both}
-use Rattle.lists.proofs.Trees.{list-scalar, optional-long, Wraps, Joins, node-there, node-sound, optional-node, many-node, some-node, choice-node}
+use Rattle.eval.proofs.Trees.{Single, Double, form-good, node-inside, sound-at, optional-tree}
+use Rattle.lists.proofs.Trees.{list-scalar, optional-long, many-tree, some-tree, other-tree}
 
 module _
     {b codes s items m : List ℕ}
@@ -31,10 +32,10 @@ module _
     (r : Listed b codes s items m p mark n o at)
   where
     pub there : (lengthGood b ≡ true) × (n < nodeCount b)
-    there = node-there b n (r .stands .tree) (r .stands .node)
+    there = (form-good b n (r .stands .tree) (r .stands .node), node-inside b n (r .stands .tree) (r .stands .node))
 
     sound : Sound (r .stands .tree)
-    sound = node-sound b n (r .stands .tree) (r .stands .node)
+    sound = sound-at b n (r .stands .tree) (r .stands .node)
 
     -- a child stands where its node does
     abbrev standing : (i : ℕ) (c : Tree) → treeAt b i ≡ some c → leaves c ≤ 64 → Standing b codes s items m p mark i
@@ -51,29 +52,29 @@ module _
     -- what was made of the child's tree is the node's
     pub done :
         {make : Tree → Tree} {i : ℕ} {m′ o′ : List ℕ} {q : Ran}
-        → Wraps b n make (r .stands .tree) i
+        → Single make b n i (r .stands .tree)
         → WritesOver make mark b s items i m p m′ o at o′ q
         → (t : Tree)
         → treeAt b n ≡ some t
         → Writes mark (sheetArea s) items t m p m′ o at o′ q
     done {m′} {o′} {q} w f t g =
         subst (λ (u : Tree). Writes mark (sheetArea s) items u m p m′ o at o′ q)
-        (w .made ∙ Option·some-injective (r .stands .tree) t (sym (r .stands .node) ∙ g))
-        (f (w .child) (w .there))
+        (w .same ∙ Option·some-injective (r .stands .tree) t (sym (r .stands .node) ∙ g))
+        (f (w .child) (w .node))
 
     -- the child of many and some
     over :
         (make : Tree → Tree) (i : ℕ)
         → ((c : Tree) → leaves (make c) ≡ leaves c)
         → ((c : Tree) → kindOf (make c) ≡ (kindOf c >>? listKind))
-        → Wraps b n make (r .stands .tree) i
+        → Single make b n i (r .stands .tree)
         → OverScalar make b codes s items m p mark i o at
     over make i same kind w =
-        let z = subst Sound (sym (w .made)) sound in
-        let l : leaves (w .child) ≤ 64 = subst (λ (k : ℕ). k ≤ 64) (ap leaves (sym (w .made)) ∙ same (w .child)) (r .stands .light) in
+        let z = subst Sound (sym (w .same)) sound in
+        let l : leaves (w .child) ≤ 64 = subst (λ (k : ℕ). k ≤ 64) (ap leaves (sym (w .same)) ∙ same (w .child)) (r .stands .light) in
         let k : isSome (kindOf (w .child) >>? listKind) ≡ true = ap isSome (sym (kind (w .child))) ∙ z .kind in
         record {
-          below = record { stands = standing i (w .child) (w .there) l; scalar = list-scalar (kindOf (w .child)) k };
+          below = record { stands = standing i (w .child) (w .node) l; scalar = list-scalar (kindOf (w .child)) k };
           sound = z;
           space = r .space;
         }
@@ -83,11 +84,11 @@ module _
       T = r .stands .tree
 
       -- ---- many and some
-      pub many-is : x .kind ≡ 5 → Wraps b n (Many (eqb (x .r) 1)) T (x .p)
-      many-is k = many-node b n T (r .stands .node) (nodeOf x) h k
+      pub many-is : x .kind ≡ 5 → Single (Many (eqb (x .r) 1)) b n (x .p) T
+      many-is k = many-tree b n T (r .stands .node) (nodeOf x) h k
 
-      pub some-is : x .kind ≡ 6 → Wraps b n (Some (eqb (x .r) 1)) T (x .p)
-      some-is k = some-node b n T (r .stands .node) (nodeOf x) h k
+      pub some-is : x .kind ≡ 6 → Single (Some (eqb (x .r) 1)) b n (x .p) T
+      some-is k = some-tree b n T (r .stands .node) (nodeOf x) h k
 
       pub many-ready : x .kind ≡ 5 → OverScalar (Many (eqb (x .r) 1)) b codes s items m p mark (x .p) o at
       unfolding leaves kindOf
@@ -98,49 +99,48 @@ module _
       some-ready k = over (Some (eqb (x .r) 1)) (x .p) (λ c. refl) (λ c. refl) (some-is k)
 
       -- ---- optional
-      pub optional-is : x .kind ≡ 4 → Wraps b n (Optional (eqb (x .r) 1)) T (x .p)
-      optional-is k = optional-node b n T (r .stands .node) (nodeOf x) h k
+      pub optional-is : x .kind ≡ 4 → Single (Optional (eqb (x .r) 1)) b n (x .p) T
+      optional-is k = optional-tree b n T (r .stands .node) (nodeOf x) h k
 
       pub optional-less : x .kind ≡ 4 → {t : ℕ} → n * 2 + 1 ≡ t → x .p * 2 + 2 < t
-      optional-less k e = omega (arith, optional-is k .below)
+      optional-less k e = omega (arith, optional-is k .less)
 
       pub optional-ready : x .kind ≡ 4 → OverList (Optional (eqb (x .r) 1)) b codes s items m p mark (x .p) o at
       unfolding leaves kindOf
       optional-ready k =
           let w = optional-is k in
-          let z = subst Sound (sym (w .made)) sound in
-          let l = subst (λ (u : Tree). leaves u ≤ 64) (sym (w .made)) (r .stands .light) in
-          let v = subst (λ (u : Tree). isScalar (kindOf u) ≡ false) (sym (w .made)) (r .long) in
+          let z = subst Sound (sym (w .same)) sound in
+          let l = subst (λ (u : Tree). leaves u ≤ 64) (sym (w .same)) (r .stands .light) in
+          let v = subst (λ (u : Tree). isScalar (kindOf u) ≡ false) (sym (w .same)) (r .long) in
           record {
-            below = record { stands = standing (x .p) (w .child) (w .there) l; long = optional-long (kindOf (w .child)) (z .kind) v; space = r .space };
+            below = record { stands = standing (x .p) (w .child) (w .node) l; long = optional-long (kindOf (w .child)) (z .kind) v; space = r .space };
             sound = z;
           }
 
       -- ---- choice
       module _ (k : x .kind ≡ 4 → ⊥) (k₂ : x .kind ≡ 5 → ⊥) (k₃ : x .kind ≡ 6 → ⊥) where
-        choice-is : Joins b n T (x .p) (x .q)
-        choice-is = choice-node b n T (r .stands .node) (nodeOf x) h k k₂ k₃ (r .long)
+        choice-is : Double b n (x .p) (x .q) T
+        choice-is = other-tree b n T (r .stands .node) (nodeOf x) h k k₂ k₃ (r .long)
 
         pub choice-less : {t : ℕ} → n * 2 + 1 ≡ t → max (x .p) (x .q) * 2 + 2 < t
-        choice-less e = omega (arith, choice-is .left, choice-is .right)
+        choice-less e = omega (arith, choice-is .less, choice-is .less₂)
 
         pub choice-ready : Both b codes s items m p mark (x .p) (x .q) o at
         unfolding leaves kindOf
         choice-ready =
             let w = choice-is in
-            let z = subst Sound (sym (w .made)) sound in
-            let l = subst (λ (u : Tree). leaves u ≤ 64) (sym (w .made)) (r .stands .light) in
-            let v = subst (λ (u : Tree). isScalar (kindOf u) ≡ false) (sym (w .made)) (r .long) in
+            let z = subst Sound (sym (w .same)) sound in
+            let l = subst (λ (u : Tree). leaves u ≤ 64) (sym (w .same)) (r .stands .light) in
+            let v = subst (λ (u : Tree). isScalar (kindOf u) ≡ false) (sym (w .same)) (r .long) in
             let q = choice-kind (kindOf (w .first)) (kindOf (w .second)) (z .kind) in
             record {
-              first = record { stands = standing (x .p) (w .first) (w .one) (omega arith); long = ap isScalar (sym (q .0)) ∙ v; space = r .space };
+              first = record { stands = standing (x .p) (w .first) (w .node) (omega arith); long = ap isScalar (sym (q .0)) ∙ v; space = r .space };
               second = record {
-                stands = standing (x .q) (w .second) (w .other) (omega arith);
+                stands = standing (x .q) (w .second) (w .node₂) (omega arith);
                 long = ap isScalar (q .1 ∙ sym (q .0)) ∙ v;
                 space = r .space;
               };
               sound = z;
-              light = l;
             }
 
         pub choice-done :
@@ -152,5 +152,5 @@ module _
         choice-done {m′} {o′} {q} f t g =
             let w = choice-is in
             subst (λ (u : Tree). Writes mark (sheetArea s) items u m p m′ o at o′ q)
-            (w .made ∙ Option·some-injective T t (sym (r .stands .node) ∙ g))
-            (f (w .first) (w .second) (w .one) (w .other))
+            (w .same ∙ Option·some-injective T t (sym (r .stands .node) ∙ g))
+            (f (w .first) (w .second) (w .node) (w .node₂))

@@ -26,7 +26,8 @@ use Rattle.results.specs.declared.Chosen.{Chosen}
 use Rattle.results.specs.Made.{Sides, choiceWords, ChoiceOf}
 use Rattle.eval.specs.Cycle.{Room}
 use Rattle.lists.specs.Lists.{Listed, Writes, Both, Aside, settled}
-use Rattle.lists.proofs.Words.{sets-back, sets-read, settled-refused, settled-first, settled-second}
+use Rattle.eval.proofs.Words.{sets-back}
+use Rattle.lists.proofs.Words.{sets-read, settled-refused, settled-first, settled-second}
 use Rattle.lists.proofs.Runs.{node-runs, node-short, node-tries, writes-long}
 
 -- ---- words

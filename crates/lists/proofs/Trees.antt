@@ -2,7 +2,7 @@
 use mathlib.Core.Bool.{Bool, true, false, false≢true}
 use mathlib.Core.List.{List, [], _∷_}
 use mathlib.Core.Option.{Option, some, none, Option·some-injective, Option·none-ne-some}
-use mathlib.Core.Path.{_≡_, refl, sym, _∙_, ap}
+use mathlib.Core.Path.{_≡_, refl, sym, _∙_}
 use Prim.Native.Nat.{ℕ, zero, suc, _<_}
 use native.Mathlib.Omega.{arith}
 use lib.Dec.{eqb, leb}
@@ -10,15 +10,14 @@ use lib.ListN.{length, take, getElem?}
 use Rattle.utf8.specs.Utf8.{if_then_else_}
 use Rattle.rules.specs.Base.{isSome, _>>?_}
 use Rattle.rules.specs.Value.{Base, Kind, one, optional, list, listOfOptional, optionalList, baseOf, number}
-use Rattle.rules.specs.Form.{Node, Form, readForm, nodeCount}
-use Rattle.rules.specs.Tree.{Tree, Optional, Many, Some, Choice, kindOf, shapeOf, hasRepeat, optionalKind, listKind, countKind, lastKind, baseKind, zeros, fitting, repeatOf, childOf, caughtOf, choiceOf, treeOf}
-use Rattle.rules.specs.Accept.{Accepted, accepted, checkForm, lengthGood}
-use Rattle.rules.specs.Demands.{Sound}
-use Rattle.rules.proofs.Acceptance.{if-some, if-not-some, bind-some, Made, flagMade, argumentMade, positionalMade, optionalMade, manyMade, someMade, countMade, lastMade, choiceMade, fallbackMade, guardMade, inside-same, tree-made, accepted-length, accepted-form, accepted-trees, lookup-inside}
+use Rattle.rules.specs.Form.{Node, Form, readForm}
+use Rattle.rules.specs.Tree.{Tree, Many, Some, kindOf, shapeOf, hasRepeat, optionalKind, listKind, countKind, lastKind, baseKind, zeros, fitting, repeatOf, childOf, caughtOf, treeOf}
+use Rattle.rules.specs.Accept.{Accepted, accepted, checkForm}
+use Rattle.rules.proofs.Acceptance.{if-some, if-not-some, bind-some, Made, flagMade, argumentMade, positionalMade, optionalMade, manyMade, someMade, countMade, lastMade, choiceMade, fallbackMade, guardMade, inside-same, tree-made}
 use Rattle.rules.proofs.KindLaws.{base-kind}
-use Rattle.layout.proofs.Sizes.{nodes-length}
 use Rattle.outcome.specs.Nodes.{treeAt, isScalar}
-use Rattle.outcome.proofs.NodeLaw.{node-tree, tree-sound, at-tree, tree-accepted}
+use Rattle.eval.proofs.Trees.{Single, Double, choice-tree}
+use Rattle.outcome.proofs.NodeLaw.{node-tree, at-tree, tree-accepted}
 
 -- ---- kinds
 -- a repeat's child is no list
@@ -70,24 +69,6 @@ lookup-take (suc k) [] i a e = absurd (Option·none-ne-some a e)
 lookup-take (suc k) (x ∷ l) zero a e = (omega arith, e)
 lookup-take (suc k) (x ∷ l) (suc i) a e = let q = lookup-take k l i a e in (omega (arith, q .0), q .1)
 
--- ---- a node over one child
--- the tree of a node over a child with a lower number
-pub record Wraps (b : List ℕ) (n : ℕ) (make : Tree → Tree) (t : Tree) (p : ℕ) : Type 0 where
-  pub child : Tree
-  pub below : p < n
-  pub there : treeAt b p ≡ some child
-  pub made : make child ≡ t
-
--- over two
-pub record Joins (b : List ℕ) (n : ℕ) (t : Tree) (p q : ℕ) : Type 0 where
-  pub first : Tree
-  pub second : Tree
-  pub left : p < n
-  pub right : q < n
-  pub one : treeAt b p ≡ some first
-  pub other : treeAt b q ≡ some second
-  pub made : Choice first second ≡ t
-
 -- of the nodes that are no optional and no many or some, only a choice has a list for a value
 kind-nine :
     (f : Form) (ts : List Tree) (k : ℕ) (x : Node) (t : Tree)
@@ -110,96 +91,65 @@ kind-nine f ts k x t (choiceMade g d q u v w i) a b c e = q
 kind-nine f ts k x t (fallbackMade g κ d q u v w i j) a b c e = absurd (false≢true (sym e ∙ base-scalar (baseOf d) (kindOf g) j))
 kind-nine f ts k x t (guardMade g q u v w i) a b c e = absurd (false≢true (sym e ∙ base-scalar number (kindOf g) i))
 
-fitting-some : (t u : Tree) → fitting t ≡ some u → t ≡ u
-unfolding fitting
-fitting-some t u e = Option·some-injective t u (if-some (isSome (kindOf t)) (some t) e .1)
-
 repeat-some : (make : Tree → Tree) (c t : Tree) → repeatOf make c ≡ some t → make c ≡ t
-unfolding repeatOf
-repeat-some make c t e = fitting-some (make c) t (if-not-some (hasRepeat c) (fitting (make c)) e .1)
+unfolding repeatOf fitting
+repeat-some make c t e =
+    Option·some-injective (make c) t
+    (if-some (isSome (kindOf (make c))) (some (make c)) (if-not-some (hasRepeat c) (fitting (make c)) e .1) .1)
 
-module _ (b : List ℕ) (a : Accepted) (e : checkForm b ≡ accepted a) (n : ℕ) (x : Node) (t : Tree) where
-  abbrev below : List Tree
-  below = take n (a .trees)
+module _ (f : Form) (below : List Tree) (x : Node) (t : Tree) where
+  many-by : x .kind ≡ 5 → treeOf f below x ≡ some t → caughtOf below x (λ c. repeatOf (Many c)) ≡ some t
+  unfolding treeOf caughtOf childOf if_then_else_
+  many-by k e = rw (k, treeOf) at e
 
-  below-there : (p : ℕ) (c : Tree) → getElem? below p ≡ some c → (p < n) × (treeAt b p ≡ some c)
-  below-there p c h = let q = lookup-take n (a .trees) p c h in (q .0, at-tree b a e p ∙ q .1)
-
-  caught : (make : Bool → Tree → Tree) (fit : Bool → Tree → Option Tree)
-      → ((c : Tree) → fit (eqb (x .r) 1) c ≡ some t → make (eqb (x .r) 1) c ≡ t)
-      → caughtOf below x fit ≡ some t
-      → Wraps b n (make (eqb (x .r) 1)) t (x .p)
-  unfolding caughtOf childOf
-  caught make fit gives h =
-      let m : Tree → Option Tree = fit (eqb (x .r) 1) in
-      let q = if-some (leb (x .r) 1) (childOf (x .lo ∷ x .hi ∷ []) below x m) h in
-      let u = if-some (zeros (x .q ∷ x .lo ∷ x .hi ∷ [])) (getElem? below (x .p) >>? m) (q .1) in
-      let (c, g, f) = bind-some (getElem? below (x .p)) m (u .1) in
-      let (l, w) = below-there (x .p) c g in
-      record { child = c; below = l; there = w; made = gives c f }
-
-  chooses : choiceOf below x ≡ some t → Joins b n t (x .p) (x .q)
-  unfolding choiceOf
-  chooses h =
-      let second : Tree → Option Tree = λ c. getElem? below (x .q) >>? λ d. fitting (Choice c d) in
-      let q = if-some (zeros (x .r ∷ x .lo ∷ x .hi ∷ [])) (getElem? below (x .p) >>? second) h in
-      let (c, g, f) = bind-some (getElem? below (x .p)) second (q .1) in
-      let (d, k, m) = bind-some (getElem? below (x .q)) (λ d. fitting (Choice c d)) f in
-      let (l, w) = below-there (x .p) c g in
-      let (r, v) = below-there (x .q) d k in
-      record { first = c; second = d; left = l; right = r; one = w; other = v; made = fitting-some (Choice c d) t m }
-
-  module _ (h : treeOf (readForm b) below x ≡ some t) where
-    is-optional : x .kind ≡ 4 → Wraps b n (Optional (eqb (x .r) 1)) t (x .p)
-    unfolding treeOf caughtOf childOf if_then_else_
-    is-optional k =
-        caught Optional (λ c u. fitting (Optional c u)) (λ c f. fitting-some (Optional (eqb (x .r) 1) c) t f) (rw (k, treeOf) at h)
-
-    is-many : x .kind ≡ 5 → Wraps b n (Many (eqb (x .r) 1)) t (x .p)
-    unfolding treeOf caughtOf childOf if_then_else_
-    is-many k =
-        caught Many (λ c. repeatOf (Many c)) (λ c f. repeat-some (Many (eqb (x .r) 1)) c t f) (rw (k, treeOf) at h)
-
-    is-some : x .kind ≡ 6 → Wraps b n (Some (eqb (x .r) 1)) t (x .p)
-    unfolding treeOf caughtOf childOf if_then_else_
-    is-some k =
-        caught Some (λ c. repeatOf (Some c)) (λ c f. repeat-some (Some (eqb (x .r) 1)) c t f) (rw (k, treeOf) at h)
-
-    nine-choice : x .kind ≡ 9 → Joins b n t (x .p) (x .q)
-    unfolding treeOf choiceOf if_then_else_
-    nine-choice k = chooses (rw (k, treeOf) at h)
-
-    is-choice : (x .kind ≡ 4 → ⊥) → (x .kind ≡ 5 → ⊥) → (x .kind ≡ 6 → ⊥) → isScalar (kindOf t) ≡ false → Joins b n t (x .p) (x .q)
-    is-choice f g k l =
-        nine-choice (kind-nine (readForm b) below (length below) x t (tree-made (readForm b) below below (inside-same below) x t h) f g k l)
+  some-by : x .kind ≡ 6 → treeOf f below x ≡ some t → caughtOf below x (λ c. repeatOf (Some c)) ≡ some t
+  unfolding treeOf caughtOf childOf if_then_else_
+  some-by k e = rw (k, treeOf) at e
 
 -- ---- a node that has a tree
-module _ (b : List ℕ) (n : ℕ) (t : Tree) (g : treeAt b n ≡ some t) where
-  pub node-there : (lengthGood b ≡ true) × (n < nodeCount b)
-  node-there =
-      let (a, e, h) = tree-accepted b n t g in
-      let below = lookup-inside (a .trees) n t h in
-      let form = ap (λ (f : Form). length (f .nodes)) (accepted-form b a e) in
-      (accepted-length b a e, omega (arith, accepted-trees b a e, nodes-length b))
+module _
+    (b : List ℕ)
+    (n : ℕ)
+    (t : Tree)
+    (g : treeAt b n ≡ some t)
+    (x : Node)
+    (h : getElem? (readForm b .nodes) n ≡ some x)
+  where
+    accepts : (a : Accepted) × (checkForm b ≡ accepted a) × (getElem? (a .trees) n ≡ some t)
+    accepts = tree-accepted b n t g
 
-  pub node-sound : Sound t
-  node-sound = let (a, e, h) = tree-accepted b n t g in tree-sound b a e n t h
+    below : List Tree
+    below = take n (accepts .0 .trees)
 
-  module _ (x : Node) (h : getElem? (readForm b .nodes) n ≡ some x) where
-    tree-of : {A : Type 0} → ((a : Accepted) → checkForm b ≡ accepted a → treeOf (readForm b) (take n (a .trees)) x ≡ some t → A) → A
-    tree-of f =
-        let (a, e, k) = tree-accepted b n t g in
+    tree-is : treeOf (readForm b) below x ≡ some t
+    unfolding below
+    tree-is =
+        let (a, e, k) = accepts in
         let w = node-tree b a e n x h in
-        f a e (w .made ∙ sym (w .stands) ∙ k)
+        w .made ∙ sym (w .stands) ∙ k
 
-    pub optional-node : x .kind ≡ 4 → Wraps b n (Optional (eqb (x .r) 1)) t (x .p)
-    optional-node k = tree-of (λ a e m. is-optional b a e n x t m k)
+    -- many and some
+    row :
+        (make : Bool → Tree → Tree)
+        → caughtOf below x (λ c. repeatOf (make c)) ≡ some t
+        → Single (make (eqb (x .r) 1)) b n (x .p) t
+    unfolding below caughtOf childOf
+    row make q =
+        let (a, e, k) = accepts in
+        let fit : Tree → Option Tree = repeatOf (make (eqb (x .r) 1)) in
+        let u = if-some (leb (x .r) 1) (childOf (x .lo ∷ x .hi ∷ []) below x fit) q in
+        let v = if-some (zeros (x .q ∷ x .lo ∷ x .hi ∷ [])) (getElem? below (x .p) >>? fit) (u .1) in
+        let (c, f, m) = bind-some (getElem? below (x .p)) fit (v .1) in
+        let (l, w) = lookup-take n (a .trees) (x .p) c f in
+        record { child = c; less = l; node = at-tree b a e (x .p) ∙ w; same = repeat-some (make (eqb (x .r) 1)) c t m }
 
-    pub many-node : x .kind ≡ 5 → Wraps b n (Many (eqb (x .r) 1)) t (x .p)
-    many-node k = tree-of (λ a e m. is-many b a e n x t m k)
+    pub many-tree : x .kind ≡ 5 → Single (Many (eqb (x .r) 1)) b n (x .p) t
+    many-tree k = row Many (many-by (readForm b) below x t k tree-is)
 
-    pub some-node : x .kind ≡ 6 → Wraps b n (Some (eqb (x .r) 1)) t (x .p)
-    some-node k = tree-of (λ a e m. is-some b a e n x t m k)
+    pub some-tree : x .kind ≡ 6 → Single (Some (eqb (x .r) 1)) b n (x .p) t
+    some-tree k = row Some (some-by (readForm b) below x t k tree-is)
 
-    pub choice-node : (x .kind ≡ 4 → ⊥) → (x .kind ≡ 5 → ⊥) → (x .kind ≡ 6 → ⊥) → isScalar (kindOf t) ≡ false → Joins b n t (x .p) (x .q)
-    choice-node f q k l = tree-of (λ a e m. is-choice b a e n x t m f q k l)
+    pub other-tree : (x .kind ≡ 4 → ⊥) → (x .kind ≡ 5 → ⊥) → (x .kind ≡ 6 → ⊥) → isScalar (kindOf t) ≡ false → Double b n (x .p) (x .q) t
+    other-tree f q k l =
+        choice-tree b n t g x h
+        (kind-nine (readForm b) below (length below) x t (tree-made (readForm b) below below (inside-same below) x t tree-is) f q k l)

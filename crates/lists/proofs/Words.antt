@@ -32,14 +32,6 @@ under : (w o : List ℕ) (at x y : ℕ) → set (sets (set o at x) (suc at) w) a
 under w o at x y =
     sets-before w (set o at x) (suc at) at y (omega arith) ∙ ap (λ (r : List ℕ). sets r (suc at) w) (set-set o at x y)
 
--- what was written over zeros, and zeroed again, is as it was
-pub sets-back : (w o : List ℕ) (at : ℕ) → ((k : ℕ) → at ≤ k → getD o k 0 ≡ 0) → sets (sets o at w) at (replicate (length w) 0) ≡ o
-sets-back [] o at z = refl
-sets-back (x ∷ w) o at z =
-    ap (λ (r : List ℕ). sets r (suc at) (replicate (length w) 0))
-    (under w o at x 0 ∙ ap (λ (r : List ℕ). sets r (suc at) w) (set-zero o at (z at (omega arith))))
-    ∙ sets-back w o (suc at) (λ k h. z k (omega arith))
-
 -- as many words or more, over others
 pub sets-over : (w v o : List ℕ) (at : ℕ) → length w ≤ length v → sets (sets o at w) at v ≡ sets o at v
 sets-over [] v o at h = refl

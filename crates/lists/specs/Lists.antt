@@ -12,7 +12,7 @@ use Rattle.rules.specs.Sheet.{sheetArea}
 use Rattle.rules.specs.Tree.{Tree, Choice, kindOf}
 use Rattle.rules.specs.Split.{Item}
 use Rattle.rules.specs.Eval.{eval}
-use Rattle.rules.specs.Demands.{Sound, leaves}
+use Rattle.rules.specs.Demands.{Sound}
 use Rattle.state.specs.declared.Numbers.{Numbers}
 use Rattle.state.specs.Lent.{stateOf}
 use Rattle.take.specs.Takes.{Left, Items}
@@ -57,7 +57,6 @@ pub record Both (b codes s words m : List ℕ) (p : Numbers) (mark left right : 
   pub first : Listed b codes s words m p mark left o at
   pub second : Listed b codes s words m p mark right o at
   pub sound : Sound (Choice (first .stands .tree) (second .stands .tree))
-  pub light : leaves (first .stands .tree) + leaves (second .stands .tree) ≤ 64
 
 -- ---- what the small functions make
 abbrev pub refusedList : ℕ → ℕ → ℕ → Numbers → Ran

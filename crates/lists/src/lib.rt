@@ -200,47 +200,13 @@ pub fn run_list(
 {
     let x = layout::node_at(form, node);
     let kind = x.kind;
+    let i = x.p;
+    let catch = x.r == 1;
     match kind {
-        4 => run_optional_list(
-            form,
-            codes,
-            sheet,
-            items,
-            marks,
-            p,
-            x.p,
-            x.r == 1,
-            at,
-            out,
-            mark,
-        ),
-        5 => run_many(
-            form,
-            codes,
-            sheet,
-            items,
-            marks,
-            p,
-            x.p,
-            x.r == 1,
-            at,
-            out,
-            mark,
-        ),
-        6 => run_some(
-            form,
-            codes,
-            sheet,
-            items,
-            marks,
-            p,
-            x.p,
-            x.r == 1,
-            at,
-            out,
-            mark,
-        ),
-        _ => run_either(form, codes, sheet, items, marks, p, x.p, x.q, at, out, mark),
+        4 => run_optional_list(form, codes, sheet, items, marks, p, i, catch, at, out, mark),
+        5 => run_many(form, codes, sheet, items, marks, p, i, catch, at, out, mark),
+        6 => run_some(form, codes, sheet, items, marks, p, i, catch, at, out, mark),
+        _ => run_either(form, codes, sheet, items, marks, p, i, x.q, at, out, mark),
     }
 }
 

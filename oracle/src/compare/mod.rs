@@ -2,12 +2,15 @@
 //!
 //! A slice is two arguments here, a pointer and a count; declared as one it would pass wrongly where one register is left.
 
+mod calls;
 mod checks;
 mod replay;
+mod run;
 mod split;
 mod utf8;
 
 pub use replay::replay;
+pub use run::show as show_run;
 pub use split::show as show_split;
 pub use utf8::show_arguments;
 
@@ -16,9 +19,15 @@ pub use utf8::show_arguments;
 pub struct Compared {
     pub cases: u64,
     pub differ: u64,
+    /// how often each number was answered, where a layer counts them
+    pub numbers: std::collections::BTreeMap<u32, u64>,
 }
 
 impl Compared {
+    fn answered(&mut self, number: u32) {
+        *self.numbers.entry(number).or_default() += 1;
+    }
+
     /// One case: equal, or printed if it is among the first that differ.
     fn same<T: PartialEq + std::fmt::Debug>(&mut self, what: &str, input: &dyn Fn() -> String, ours: T, theirs: T) {
         if ours != theirs {
@@ -35,6 +44,14 @@ pub fn compare(layer: &str, seed: u64, count: Option<u64>) -> Option<Compared> {
     Some(match layer {
         "utf8" => utf8::compare(seed, count.unwrap_or(1_000_000)),
         "checks" => checks::compare(seed, count.unwrap_or(250_000)),
+        "forged" => calls::compare_forged(seed, count.unwrap_or(200_000)),
+        "forged-eval" => run::compare_forged(seed, count.unwrap_or(100_000)),
+        #[cfg(live)]
+        "calls" => calls::compare(seed, count.unwrap_or(200_000)),
+        #[cfg(live)]
+        "eval" => run::compare_eval(seed, count.unwrap_or(300_000)),
+        #[cfg(live)]
+        "run" => run::compare(seed, count.unwrap_or(300_000)),
         #[cfg(live)]
         "split" => split::compare(seed, count.unwrap_or(300_000)),
         _ => return None,
@@ -46,6 +63,7 @@ pub fn measure(layer: &str) -> bool {
     match layer {
         "checks" => checks::measure(),
         "split" => split::measure(),
+        "run" => run::measure(),
         _ => return false,
     }
     true

@@ -9,7 +9,7 @@ use super::{checks::refused, Compared};
 #[cfg(live)]
 use crate::lists::hex;
 #[cfg(live)]
-use bpaf::doc::harness::Held;
+use bpaf::doc::harness::{Held, View};
 #[cfg(live)]
 use line::{cases, cases::Case, cases::Rng};
 
@@ -57,20 +57,29 @@ fn show_item(area: &[u8], record: &[u32; 7]) -> String {
     }
 }
 
-/// A form in the notation of notation.rs and this program's further arguments: the items, by the proved code.
-pub fn show(form: &str) -> bool {
-    let form = match notation::parse(form) {
-        Ok(form) => form.write(),
+/// A form in the notation of notation.rs, and this program's further arguments.
+pub fn given(form: &str) -> Option<(Form, Vec<Vec<u8>>)> {
+    match notation::parse(form) {
+        Ok(form) => Some((form, std::env::args_os().skip(3).map(|a| a.into_vec()).collect())),
         Err(e) => {
             eprintln!("the form: {e}");
-            return false;
+            None
         }
-    };
-    let arguments: Vec<Vec<u8>> = std::env::args_os().skip(3).map(|a| a.into_vec()).collect();
+    }
+}
+
+/// The items of a slice, a line each.
+pub fn show_items(items: &[u32], area: &[u8]) {
+    records(items).iter().enumerate().for_each(|(place, r)| println!("{place}: {}", show_item(area, r)));
+}
+
+/// The items of a line, by the proved code.
+pub fn show(form: &str) -> bool {
+    let Some((form, arguments)) = given(form) else { return false };
     let area = arguments.concat();
     let mut items = vec![0; 1792];
-    let ended = split(&form, &Sheet { arguments }.write(), &mut items);
-    records(&items).iter().enumerate().for_each(|(place, r)| println!("{place}: {}", show_item(&area, r)));
+    let ended = split(&form.write(), &Sheet { arguments }.write(), &mut items);
+    show_items(&items, &area);
     match ended.number {
         0 => println!("{} of {} remain", ended.state.remaining, ended.state.count),
         9 => println!("refused 9 at {}", ended.place - 1),
@@ -105,8 +114,12 @@ pub fn measure() {
 
 /// The state as the library hands it over.
 #[cfg(live)]
-fn raw(held: &Held) -> State {
-    let view = held.view();
+pub fn raw(held: &Held) -> State {
+    raw_view(&held.view())
+}
+
+#[cfg(live)]
+pub fn raw_view(view: &View) -> State {
     let mut marks = [0; 256];
     view.marks.iter().enumerate().for_each(|(k, m)| marks[k] = *m as u16);
     State {
@@ -120,7 +133,7 @@ fn raw(held: &Held) -> State {
 }
 
 #[cfg(live)]
-const EMPTY: State = State { marks: [0; 256], count: 0, remaining: 0, current: 0, start: 0, end: 0 };
+pub const EMPTY: State = State { marks: [0; 256], count: 0, remaining: 0, current: 0, start: 0, end: 0 };
 
 /// What a split must leave: number and place, the state, and every word of the item slice.
 #[cfg(live)]

@@ -4,39 +4,30 @@ use Rattle.lists.proofs.Words.{lifted}
 use Rattle.lists.proofs.lift.Statement.{statement}
 use Rattle.lists.proofs.lift.Tie as tie
 
--- src/lib.rt:54:15
 add-end : tie.Need-add-end
 add-end c = search needs
 
--- src/lib.rt:55:20
 blank-requires : tie.Need-blank-requires
 blank-requires c κs = search needs
 
--- src/lib.rt:56:16
 slice-aggregate-copy : tie.Need-slice-aggregate-copy
 slice-aggregate-copy c = search needs
 
--- src/lib.rt:56:30
 mul-copy : tie.Need-mul-copy
 mul-copy c = search needs
 
--- src/lib.rt:56:30
 sub-copy : tie.Need-sub-copy
 sub-copy c = search needs
 
--- src/lib.rt:56:30
 part-copy-start : tie.Need-part-copy-start
 part-copy-start c = search needs
 
--- src/lib.rt:56:30
 part-copy-end : tie.Need-part-copy-end
 part-copy-end c = search needs
 
--- src/lib.rt:56:5
 copy-requires : tie.Need-copy-requires
 copy-requires c κs = search needs
 
--- src/lib.rt:50:1
 returns : tie.Need-returns
 returns c = lifted (c .before .before .before .before .before .before .args .out .now) (c .before .before .before .before .blank .result) (c .before .before .before .before .before .before .args .at) (c .before .before .before .before .before .before .args .n) _ (c .before .before .before .before .before .before .pre .0) (c .before .before .before .before .before .before .pre .1) (c .before .before .before .before .blank .ensures) (c .before .copy .ensures)
 

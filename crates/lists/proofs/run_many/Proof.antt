@@ -5,31 +5,24 @@ use Rattle.lists.proofs.Rows.{asks, counts, many-refuses, many-ends}
 use Rattle.lists.proofs.run_many.Statement.{statement}
 use Rattle.lists.proofs.run_many.Tie as tie
 
--- src/lib.rt:149:9
 run-repeat-requires : tie.Need-run-repeat-requires
 run-repeat-requires c κs = asks (sound-many _) (c .before .before .before .before .before .before .before .pre)
 
--- src/lib.rt:152:9
 refused-requires : tie.Need-refused-requires
 refused-requires c κs = search needs
 
--- src/lib.rt:152:9
 same-length : tie.Need-same-length
 same-length c = search needs
 
--- src/lib.rt:152:9
 returns : tie.Need-returns
 returns c = many-refuses (c .before .before .before .before .before .before .before .before .before .before .before .before .before .before .pre) (c .before .before .before .before .before .before .run-repeat .ensures) (c .before .before .if1 .taken) (c .refused .ensures)
 
--- src/lib.rt:154:5
 counted-requires : tie.Need-counted-requires
 counted-requires c κs = counts (sound-many _) (c .before .before .before .before .before .before .before .before .before .before .before .before .before .pre) (c .before .before .before .before .before .run-repeat .ensures)
 
--- src/lib.rt:133:1
 same-length-2 : tie.Need-same-length-2
 same-length-2 c = search needs
 
--- src/lib.rt:133:1
 returns-2 : tie.Need-returns-2
 returns-2 c = many-ends (c .before .before .before .before .before .before .before .before .before .before .before .before .before .before .before .before .pre) (c .before .before .before .before .before .before .before .before .run-repeat .ensures) (c .before .before .before .before .if1 .left) (c .before .before .counted .ensures)
 

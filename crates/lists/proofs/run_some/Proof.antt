@@ -5,47 +5,36 @@ use Rattle.lists.proofs.Rows.{asks, counts, some-refuses, some-nothing,
 use Rattle.lists.proofs.run_some.Statement.{statement}
 use Rattle.lists.proofs.run_some.Tie as tie
 
--- src/lib.rt:174:9
 run-repeat-requires : tie.Need-run-repeat-requires
 run-repeat-requires c κs = asks (sound-some _) (c .before .before .before .before .before .before .before .pre)
 
--- src/lib.rt:177:9
 refused-requires : tie.Need-refused-requires
 refused-requires c κs = search needs
 
--- src/lib.rt:177:9
 same-length : tie.Need-same-length
 same-length c = search needs
 
--- src/lib.rt:177:9
 returns : tie.Need-returns
 returns c = some-refuses (c .before .before .before .before .before .before .before .before .before .before .before .before .before .before .pre) (c .before .before .before .before .before .before .run-repeat .ensures) (c .before .if1 .taken) (c .refused .ensures)
 
--- src/lib.rt:179:9
 parse-some-requires : tie.Need-parse-some-requires
 parse-some-requires c κs = search needs
 
--- src/lib.rt:181:9
 refused-requires-2 : tie.Need-refused-requires-2
 refused-requires-2 c κs = search needs
 
--- src/lib.rt:181:9
 same-length-2 : tie.Need-same-length-2
 same-length-2 c = search needs
 
--- src/lib.rt:181:9
 returns-2 : tie.Need-returns-2
 returns-2 c = some-nothing (c .before .before .before .before .before .before .before .before .before .before .before .before .before .before .before .before .pre) (c .before .before .before .before .before .before .before .before .run-repeat .ensures) (c .before .before .before .if1 .left) (c .before .before .parse-some .ensures) (c .before .if2 .taken) (c .refused2 .ensures)
 
--- src/lib.rt:183:5
 counted-requires : tie.Need-counted-requires
 counted-requires c κs = counts (sound-some _) (c .before .before .before .before .before .before .before .before .before .before .before .before .before .before .before .before .pre) (c .before .before .before .before .before .before .before .before .run-repeat .ensures)
 
--- src/lib.rt:158:1
 same-length-3 : tie.Need-same-length-3
 same-length-3 c = search needs
 
--- src/lib.rt:158:1
 returns-3 : tie.Need-returns-3
 returns-3 c = some-ends (c .before .before .before .before .before .before .before .before .before .before .before .before .before .before .before .before .before .before .before .pre) (c .before .before .before .before .before .before .before .before .before .before .before .run-repeat .ensures) (c .before .before .before .before .before .before .if1 .left) (c .before .before .before .before .before .parse-some .ensures) (c .before .before .before .before .if2 .left) (c .before .before .counted .ensures)
 

@@ -6,39 +6,30 @@ use Rattle.lists.proofs.Words.{settled-refused, settled-first, settled-
 use Rattle.lists.proofs.settle.Statement.{statement}
 use Rattle.lists.proofs.settle.Tie as tie
 
--- src/lib.rt:86:9
 fill-requires : tie.Need-fill-requires
 fill-requires c κs = search needs
 
--- src/lib.rt:87:9
 same-length : tie.Need-same-length
 same-length c = search needs
 
--- src/lib.rt:87:9
 returns : tie.Need-returns
 returns c = c .before .before .fill .ensures ∙ sym (settled-refused _ _ _ _ _ _ (c .before .before .before .before .if1 .taken))
 
--- src/lib.rt:90:9
 fill-requires-2 : tie.Need-fill-requires-2
 fill-requires-2 c κs = search needs
 
--- src/lib.rt:91:29
 slice-aggregate-copy : tie.Need-slice-aggregate-copy
 slice-aggregate-copy c = sym (length-take-le _ _ (c .before .before .before .before .before .before .before .before .before .before .pre))
 
--- src/lib.rt:91:9
 copy-requires : tie.Need-copy-requires
 copy-requires c κs = search needs
 
--- src/lib.rt:81:1
 same-length-2 : tie.Need-same-length-2
 same-length-2 c = search needs
 
--- src/lib.rt:81:1
 returns-2 : tie.Need-returns-2
 returns-2 c = c .before .before .copy .ensures ∙ rw (c .before .before .before .before .before .before .before .fill2 .ensures) (sym (settled-first _ _ _ _ _ _ (c .before .before .before .before .before .before .before .before .before .before .if1 .left) (c .before .before .before .before .before .before .before .before .before .if2 .taken)))
 
--- src/lib.rt:81:1
 returns-3 : tie.Need-returns-3
 returns-3 c = sym (settled-second _ _ _ _ _ _ (c .before .if1 .left) (c .if2 .left))
 

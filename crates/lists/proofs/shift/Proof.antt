@@ -10,39 +10,30 @@ use Rattle.lists.proofs.Words.{shifted}
 use Rattle.lists.proofs.shift.Statement.{statement}
 use Rattle.lists.proofs.shift.Tie as tie
 
--- src/lib.rt:75:16
 lift-requires : tie.Need-lift-requires
 lift-requires c κs = search needs
 
--- src/lib.rt:76:5
 mul-out : tie.Need-mul-out
 mul-out c = search needs
 
--- src/lib.rt:76:5
 slice-write-out : tie.Need-slice-write-out
 slice-write-out c = search needs
 
--- src/lib.rt:77:21
 add-copy : tie.Need-add-copy
 add-copy c = search needs
 
--- src/lib.rt:77:29
 array-share-prefix-kept : tie.Need-array-share-prefix-kept
 array-share-prefix-kept c = search needs
 
--- src/lib.rt:77:29
 slice-aggregate-copy : tie.Need-slice-aggregate-copy
 slice-aggregate-copy c = let l : length (c .before .before .lift .result) ≡ 515 = search needs in sym (length-take-le _ _ (omega (arith, c .before .before .before .before .before .pre .0)))
 
--- src/lib.rt:77:5
 copy-requires : tie.Need-copy-requires
 copy-requires c κs = search needs
 
--- src/lib.rt:71:1
 same-length : tie.Need-same-length
 same-length c = ap length (c .before .before .copy .ensures) ∙ simp (length-sets, length-set)
 
--- src/lib.rt:71:1
 returns : tie.Need-returns
 returns c = shifted (c .before .before .before .before .before .before .before .before .args .out .now) (c .before .before .before .before .before .lift .result) (c .before .before .before .before .before .before .before .before .args .at) (c .before .before .before .before .before .before .before .before .args .n) _ (c .before .before .before .before .before .lift .ensures) (c .before .before .copy .ensures)
 

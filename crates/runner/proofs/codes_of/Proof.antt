@@ -6,19 +6,15 @@ use Rattle.named.proofs.Names.{names-few}
 use Rattle.runner.proofs.codes_of.Statement.{statement}
 use Rattle.runner.proofs.codes_of.Tie as tie
 
--- src/lib.rt:69:21
 no-codes-requires : tie.Need-no-codes-requires
 no-codes-requires c κs = search needs
 
--- src/lib.rt:70:24
 slice-aggregate-codes : tie.Need-slice-aggregate-codes
 slice-aggregate-codes c = search needs
 
--- src/lib.rt:70:5
 codes-requires : tie.Need-codes-requires
 codes-requires c κs = (c .before .before .before .pre, omega (arith, names-few _ (c .before .before .before .pre), ap length (c .before .no-codes .ensures)))
 
--- src/lib.rt:65:1
 returns : tie.Need-returns
 returns c = search needs
 

@@ -3,27 +3,21 @@ use Rattle.runner.proofs.Runs.{refused-answer}
 use Rattle.runner.proofs.refused_input.Statement.{statement}
 use Rattle.runner.proofs.refused_input.Tie as tie
 
--- src/lib.rt:78:5
 fill-requires : tie.Need-fill-requires
 fill-requires c κs = search needs
 
--- src/lib.rt:79:5
 fill-requires-2 : tie.Need-fill-requires-2
 fill-requires-2 c κs = search needs
 
--- src/lib.rt:85:16
 empty-requires : tie.Need-empty-requires
 empty-requires c κs = search needs
 
--- src/lib.rt:75:1
 same-length : tie.Need-same-length
 same-length c = search needs
 
--- src/lib.rt:75:1
 same-length-2 : tie.Need-same-length-2
 same-length-2 c = search needs
 
--- src/lib.rt:75:1
 returns : tie.Need-returns
 returns c = refused-answer _ _ (c .before .before .before .before .before .before .before .before .before .before .before .args .items .now) (c .before .before .before .before .before .before .before .before .before .before .before .args .answers .now) _ _ _ (c .before .before .before .before .before .before .before .fill .ensures) (c .before .before .before .fill2 .ensures) (c .empty .ensures)
 

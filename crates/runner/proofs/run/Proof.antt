@@ -4,79 +4,60 @@ use Rattle.runner.proofs.Runs.{form-refused, sheet-refused, slices-refu
 use Rattle.runner.proofs.run.Statement.{statement}
 use Rattle.runner.proofs.run.Tie as tie
 
--- src/lib.rt:141:9
 check-requires : tie.Need-check-requires
 check-requires c κs = search needs
 
--- src/lib.rt:143:9
 refused-input-requires : tie.Need-refused-input-requires
 refused-input-requires c κs = search needs
 
--- src/lib.rt:143:9
 same-length : tie.Need-same-length
 same-length c = search needs
 
--- src/lib.rt:143:9
 same-length-2 : tie.Need-same-length-2
 same-length-2 c = search needs
 
--- src/lib.rt:143:9
 returns : tie.Need-returns
 returns c = form-refused _ _ _ _ _ (c .before .before .before .before .before .before .before .before .before .check .ensures) (c .before .before .before .before .before .before .before .if1 .taken) _ (c .before .before .before .before .refused-input .ensures)
 
--- src/lib.rt:145:9
 check-requires-2 : tie.Need-check-requires-2
 check-requires-2 c κs = search needs
 
--- src/lib.rt:147:9
 refused-input-requires-2 : tie.Need-refused-input-requires-2
 refused-input-requires-2 c κs = search needs
 
--- src/lib.rt:147:9
 same-length-3 : tie.Need-same-length-3
 same-length-3 c = search needs
 
--- src/lib.rt:147:9
 same-length-4 : tie.Need-same-length-4
 same-length-4 c = search needs
 
--- src/lib.rt:147:9
 returns-2 : tie.Need-returns-2
 returns-2 c = sheet-refused _ _ _ _ _ (c .before .before .before .before .before .before .before .before .before .before .before .check .ensures) (c .before .before .before .before .before .before .before .before .before .if1 .left) _ (c .before .before .before .before .before .before .before .before .check2 .ensures) (c .before .before .before .before .before .before .before .if2 .taken) _ (c .before .before .before .before .refused-input2 .ensures)
 
--- src/lib.rt:149:8
 is-short-requires : tie.Need-is-short-requires
 is-short-requires c κs = search needs
 
--- src/lib.rt:150:9
 refused-input-requires-3 : tie.Need-refused-input-requires-3
 refused-input-requires-3 c κs = search needs
 
--- src/lib.rt:150:9
 same-length-5 : tie.Need-same-length-5
 same-length-5 c = search needs
 
--- src/lib.rt:150:9
 same-length-6 : tie.Need-same-length-6
 same-length-6 c = search needs
 
--- src/lib.rt:150:9
 returns-3 : tie.Need-returns-3
 returns-3 c = slices-refused _ _ _ _ _ (c .before .before .before .before .before .before .before .before .before .before .before .before .before .check .ensures) (c .before .before .before .before .before .before .before .before .before .before .before .if1 .left) _ (c .before .before .before .before .before .before .before .before .before .before .check2 .ensures) (c .before .before .before .before .before .before .before .before .before .if2 .left) _ (c .before .before .before .before .before .before .before .before .is-short .ensures) (c .before .before .before .before .before .before .before .if3 .taken) _ (c .before .before .before .before .refused-input3 .ensures)
 
--- src/lib.rt:152:5
 run-checked-requires : tie.Need-run-checked-requires
 run-checked-requires c κs = all-checked _ _ _ _ _ (c .before .before .before .before .before .before .before .before .check .ensures) (c .before .before .before .before .before .before .if1 .left) _ (c .before .before .before .before .before .check2 .ensures) (c .before .before .before .before .if2 .left) _ (c .before .before .before .is-short .ensures) (c .before .before .if3 .left) _ _ refl refl
 
--- src/lib.rt:138:1
 same-length-7 : tie.Need-same-length-7
 same-length-7 c = search needs
 
--- src/lib.rt:138:1
 same-length-8 : tie.Need-same-length-8
 same-length-8 c = search needs
 
--- src/lib.rt:138:1
 returns-4 : tie.Need-returns-4
 returns-4 c = search needs
 

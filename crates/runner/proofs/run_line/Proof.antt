@@ -3,31 +3,24 @@ use Rattle.runner.proofs.Runs.{begun-names, fields-start, fields-end}
 use Rattle.runner.proofs.run_line.Statement.{statement}
 use Rattle.runner.proofs.run_line.Tie as tie
 
--- src/lib.rt:94:17
 codes-of-requires : tie.Need-codes-of-requires
 codes-of-requires c κs = begun-names _ _ _ _ _ (c .before .before .before .before .pre)
 
--- src/lib.rt:96:39
 slice-aggregate-run-fields : tie.Need-slice-aggregate-run-fields
 slice-aggregate-run-fields c = search needs
 
--- src/lib.rt:96:73
 numbers-requires : tie.Need-numbers-requires
 numbers-requires c κs = search needs
 
--- src/lib.rt:96:9
 run-fields-requires : tie.Need-run-fields-requires
 run-fields-requires c κs = fields-start _ _ _ _ _ (c .before .before .before .before .before .before .before .before .before .before .pre) _ (c .before .before .before .before .before .codes-of .ensures) _ (c .before .numbers .ensures)
 
--- src/lib.rt:103:16
 joined-requires : tie.Need-joined-requires
 joined-requires c κs = search needs
 
--- src/lib.rt:90:1
 same-length : tie.Need-same-length
 same-length c = search needs
 
--- src/lib.rt:90:1
 returns : tie.Need-returns
 returns c = fields-end _ _ _ _ _ (c .before .before .before .before .before .before .before .before .before .before .before .before .before .before .before .pre) _ (c .before .before .before .before .before .before .before .before .before .before .codes-of .ensures) _ (c .before .before .before .before .before .before .numbers .ensures) _ _ _ _ (search (needs, c .before .before .before .before .before .before .before .before .before .before .before .before .before .before .before .good)) (c .before .before .before .before .run-fields .ensures) (c .joined .ensures)
 

@@ -10,23 +10,18 @@ use Rattle.lists.proofs.run_either.Reads as run-either
 use Rattle.lists.proofs.+run_either+run_list+run_optional_list.Lts-run_either as run-either-lts
 use Rattle.lists.proofs.+run_either+run_list+run_optional_list.Proof.Common.{run-either-at, run-either-calls}
 
--- src/lib.rt:249:9
 pub run-either-run-list-requires : (t : ℕ) → run-either-lts.Need-run-list-requires (run-either-calls t) (run-either-at t) run-either.Post
 run-either-run-list-requires t c κs = (omega (arith, c .before .before .before .before .before .before .before .before .pre .0), c .before .before .before .before .before .before .before .before .pre .1 .first)
 
--- src/lib.rt:251:9
 pub run-either-wide-requires : (t : ℕ) → run-either-lts.Need-wide-requires (run-either-calls t) (run-either-at t) run-either.Post
 run-either-wide-requires t c κs = search needs
 
--- src/lib.rt:252:16
 pub run-either-set-aside-requires : (t : ℕ) → run-either-lts.Need-set-aside-requires (run-either-calls t) (run-either-at t) run-either.Post
 run-either-set-aside-requires t c κs = aside-ready (c .before .before .before .before .before .before .before .before .before .before .before .before .before .before .pre .1) (c .before .before .before .before .before .run-list .ensures) (c .before .wide .ensures)
 
--- src/lib.rt:254:9
 pub run-either-run-list-requires-2 : (t : ℕ) → run-either-lts.Need-run-list-requires-2 (run-either-calls t) (run-either-at t) run-either.Post
 run-either-run-list-requires-2 t c κs = (omega (arith, c .before .before .before .before .before .before .before .before .before .before .before .before .before .before .before .before .before .before .before .pre .0), second-ready (c .before .before .before .before .before .before .before .before .before .before .before .before .before .before .before .before .before .before .before .pre .1) (c .before .before .before .before .before .before .before .before .before .before .run-list .ensures) (c .before .before .before .before .before .before .wide .ensures) (c .before .before .before .before .set-aside .ensures))
 
--- src/lib.rt:255:9
 pub run-either-choose-requires : (t : ℕ) → run-either-lts.Need-choose-requires (run-either-calls t) (run-either-at t) run-either.Post
 run-either-choose-requires t c κs = sides-ready (c .before .before .before .before .before .before .before .before .before .before .before .before .before .before .before .before .before .before .before .before .before .before .before .before .before .pre .1) (c .before .before .before .before .before .before .before .before .before .before .before .before .before .before .before .before .run-list .ensures) (c .before .before .before .before .before .before .before .before .before .before .before .before .wide .ensures) (c .before .before .before .before .before .before .before .before .before .before .set-aside .ensures) (c .before .before .before .before .before .run-list2 .ensures)
 
@@ -34,22 +29,17 @@ run-either-choose-requires t c κs = sides-ready (c .before .before .before .bef
 kept-long : (t : ℕ) (c : run-either-lts.After-set-aside (run-either-calls t) (run-either-at t) run-either.Post) → length (c .set-aside .result) ≡ 515
 kept-long t c = search (needs, c .set-aside .ok)
 
--- src/lib.rt:257:48
 pub run-either-slice-aggregate-settle : (t : ℕ) → run-either-lts.Need-slice-aggregate-settle (run-either-calls t) (run-either-at t) run-either.Post
 run-either-slice-aggregate-settle t c = sym (kept-long t (c .before .before .before .before .before .before .before .before .before .before .before .before .before .before))
 
--- src/lib.rt:257:58
 pub run-either-wide-requires-2 : (t : ℕ) → run-either-lts.Need-wide-requires-2 (run-either-calls t) (run-either-at t) run-either.Post
 run-either-wide-requires-2 t c κs = search needs
 
--- src/lib.rt:257:5
 pub run-either-settle-requires : (t : ℕ) → run-either-lts.Need-settle-requires (run-either-calls t) (run-either-at t) run-either.Post
 run-either-settle-requires t c κs = omega (arith, kept-long t (c .before .before .before .before .before .before .before .before .before .before .before .before .before .before .before), aside-ready (c .before .before .before .before .before .before .before .before .before .before .before .before .before .before .before .before .before .before .before .before .before .before .before .before .before .before .before .before .before .before .pre .1) (c .before .before .before .before .before .before .before .before .before .before .before .before .before .before .before .before .before .before .before .before .before .run-list .ensures) (c .before .before .before .before .before .before .before .before .before .before .before .before .before .before .before .before .before .wide .ensures) .0)
 
--- src/lib.rt:232:1
 pub run-either-returns : (t : ℕ) → run-either-lts.Need-returns (run-either-calls t) (run-either-at t) run-either.Post
 run-either-returns t c = choice-ends (c .before .before .before .before .before .before .before .before .before .before .before .before .before .before .before .before .before .before .before .before .before .before .before .before .before .before .before .before .before .before .before .before .before .pre .1) (c .before .before .before .before .before .before .before .before .before .before .before .before .before .before .before .before .before .before .before .before .before .before .before .before .run-list .ensures) (c .before .before .before .before .before .before .before .before .before .before .before .before .before .before .before .before .before .before .before .before .wide .ensures) (c .before .before .before .before .before .before .before .before .before .before .before .before .before .before .before .before .before .before .set-aside .ensures) (c .before .before .before .before .before .before .before .before .before .before .before .before .before .run-list2 .ensures) (c .before .before .before .before .before .before .before .choose .ensures) (c .before .before .before .wide2 .ensures) (c .before .before .settle .ensures)
 
--- src/lib.rt:232:1
 pub run-either-same-length : (t : ℕ) → run-either-lts.Need-same-length (run-either-calls t) (run-either-at t) run-either.Post
 run-either-same-length t c = writes-long (run-either-returns t c _ _ (c .before .before .before .before .before .before .before .before .before .before .before .before .before .before .before .before .before .before .before .before .before .before .before .before .before .before .before .before .before .before .before .before .before .pre .1 .first .stands .node) (c .before .before .before .before .before .before .before .before .before .before .before .before .before .before .before .before .before .before .before .before .before .before .before .before .before .before .before .before .before .before .before .before .before .pre .1 .second .stands .node))

@@ -6,54 +6,41 @@ use Rattle.lists.proofs.run_list.Reads as run-list
 use Rattle.lists.proofs.+run_either+run_list+run_optional_list.Lts-run_list as run-list-lts
 use Rattle.lists.proofs.+run_either+run_list+run_optional_list.Proof.Common.{run-list-at, run-list-calls}
 
--- src/lib.rt:194:9
 pub run-list-node-at-requires : (t : ℕ) → run-list-lts.Need-node-at-requires (run-list-calls t) (run-list-at t) run-list.Post
 run-list-node-at-requires t c κs = there (c .before .before .before .before .before .pre .1)
 
--- src/lib.rt:197:14
 pub run-list-run-optional-list-requires : (t : ℕ) → run-list-lts.Need-run-optional-list-requires (run-list-calls t) (run-list-at t) run-list.Post
-run-list-run-optional-list-requires t c κs = (optional-less (c .before .before .before .before .before .before .before .before .before .before .pre .1) (c .before .before .before .before .node-at .ensures) (c .before .before .before .match .keys1) (c .before .before .before .before .before .before .before .before .before .before .pre .0), optional-ready (c .before .before .before .before .before .before .before .before .before .before .pre .1) (c .before .before .before .before .node-at .ensures) (c .before .before .before .match .keys1))
+run-list-run-optional-list-requires t c κs = (optional-less (c .before .before .before .before .before .before .before .before .before .before .pre .1) (c .before .before .before .before .node-at .ensures) (c .before .before .match .keys1) (c .before .before .before .before .before .before .before .before .before .before .pre .0), optional-ready (c .before .before .before .before .before .before .before .before .before .before .pre .1) (c .before .before .before .before .node-at .ensures) (c .before .before .match .keys1))
 
--- src/lib.rt:198:14
 pub run-list-run-many-requires : (t : ℕ) → run-list-lts.Need-run-many-requires (run-list-calls t) (run-list-at t) run-list.Post
-run-list-run-many-requires t c κs = many-ready (c .before .before .before .before .before .before .before .before .before .before .pre .1) (c .before .before .before .before .node-at .ensures) (c .before .before .before .match .keys2)
+run-list-run-many-requires t c κs = many-ready (c .before .before .before .before .before .before .before .before .before .before .pre .1) (c .before .before .before .before .node-at .ensures) (c .before .before .match .keys2)
 
--- src/lib.rt:199:14
 pub run-list-run-some-requires : (t : ℕ) → run-list-lts.Need-run-some-requires (run-list-calls t) (run-list-at t) run-list.Post
-run-list-run-some-requires t c κs = some-ready (c .before .before .before .before .before .before .before .before .before .before .pre .1) (c .before .before .before .before .node-at .ensures) (c .before .before .before .match .keys3)
+run-list-run-some-requires t c κs = some-ready (c .before .before .before .before .before .before .before .before .before .before .pre .1) (c .before .before .before .before .node-at .ensures) (c .before .before .match .keys3)
 
--- src/lib.rt:200:14
 pub run-list-run-either-requires : (t : ℕ) → run-list-lts.Need-run-either-requires (run-list-calls t) (run-list-at t) run-list.Post
-run-list-run-either-requires t c κs = (choice-less (c .before .before .before .before .before .before .before .before .before .pre .1) (c .before .before .before .node-at .ensures) (c .before .before .match .rest .0 .0 .1) (c .before .before .match .rest .0 .1) (c .before .before .match .rest .1) (c .before .before .before .before .before .before .before .before .before .pre .0), choice-ready (c .before .before .before .before .before .before .before .before .before .pre .1) (c .before .before .before .node-at .ensures) (c .before .before .match .rest .0 .0 .1) (c .before .before .match .rest .0 .1) (c .before .before .match .rest .1))
+run-list-run-either-requires t c κs = (choice-less (c .before .before .before .before .before .before .before .before .before .before .pre .1) (c .before .before .before .before .node-at .ensures) (c .before .before .match .rest .0 .0 .1) (c .before .before .match .rest .0 .1) (c .before .before .match .rest .1) (c .before .before .before .before .before .before .before .before .before .before .pre .0), choice-ready (c .before .before .before .before .before .before .before .before .before .before .pre .1) (c .before .before .before .before .node-at .ensures) (c .before .before .match .rest .0 .0 .1) (c .before .before .match .rest .0 .1) (c .before .before .match .rest .1))
 
--- src/lib.rt:179:1
 pub run-list-same-length : (t : ℕ) → run-list-lts.Need-same-length (run-list-calls t) (run-list-at t) run-list.Post
 run-list-same-length t c = search needs
 
--- src/lib.rt:179:1
 pub run-list-returns : (t : ℕ) → run-list-lts.Need-returns (run-list-calls t) (run-list-at t) run-list.Post
-run-list-returns t c = done (c .before .before .before .before .before .before .before .before .before .before .before .before .before .pre .1) (optional-is (c .before .before .before .before .before .before .before .before .before .before .before .before .before .pre .1) (c .before .before .before .before .before .before .before .node-at .ensures) (c .before .before .before .before .before .before .match .keys1)) (c .before .before .run-optional-list .ensures)
+run-list-returns t c = done (c .before .before .before .before .before .before .before .before .before .before .before .before .before .pre .1) (optional-is (c .before .before .before .before .before .before .before .before .before .before .before .before .before .pre .1) (c .before .before .before .before .before .before .before .node-at .ensures) (c .before .before .before .before .before .match .keys1)) (c .before .before .run-optional-list .ensures)
 
--- src/lib.rt:179:1
 pub run-list-same-length-2 : (t : ℕ) → run-list-lts.Need-same-length-2 (run-list-calls t) (run-list-at t) run-list.Post
 run-list-same-length-2 t c = search needs
 
--- src/lib.rt:179:1
 pub run-list-returns-2 : (t : ℕ) → run-list-lts.Need-returns-2 (run-list-calls t) (run-list-at t) run-list.Post
-run-list-returns-2 t c = done (c .before .before .before .before .before .before .before .before .before .before .before .before .before .pre .1) (many-is (c .before .before .before .before .before .before .before .before .before .before .before .before .before .pre .1) (c .before .before .before .before .before .before .before .node-at .ensures) (c .before .before .before .before .before .before .match .keys2)) (c .before .before .run-many .ensures)
+run-list-returns-2 t c = done (c .before .before .before .before .before .before .before .before .before .before .before .before .before .pre .1) (many-is (c .before .before .before .before .before .before .before .before .before .before .before .before .before .pre .1) (c .before .before .before .before .before .before .before .node-at .ensures) (c .before .before .before .before .before .match .keys2)) (c .before .before .run-many .ensures)
 
--- src/lib.rt:179:1
 pub run-list-same-length-3 : (t : ℕ) → run-list-lts.Need-same-length-3 (run-list-calls t) (run-list-at t) run-list.Post
 run-list-same-length-3 t c = search needs
 
--- src/lib.rt:179:1
 pub run-list-returns-3 : (t : ℕ) → run-list-lts.Need-returns-3 (run-list-calls t) (run-list-at t) run-list.Post
-run-list-returns-3 t c = done (c .before .before .before .before .before .before .before .before .before .before .before .before .before .pre .1) (some-is (c .before .before .before .before .before .before .before .before .before .before .before .before .before .pre .1) (c .before .before .before .before .before .before .before .node-at .ensures) (c .before .before .before .before .before .before .match .keys3)) (c .before .before .run-some .ensures)
+run-list-returns-3 t c = done (c .before .before .before .before .before .before .before .before .before .before .before .before .before .pre .1) (some-is (c .before .before .before .before .before .before .before .before .before .before .before .before .before .pre .1) (c .before .before .before .before .before .before .before .node-at .ensures) (c .before .before .before .before .before .match .keys3)) (c .before .before .run-some .ensures)
 
--- src/lib.rt:179:1
 pub run-list-same-length-4 : (t : ℕ) → run-list-lts.Need-same-length-4 (run-list-calls t) (run-list-at t) run-list.Post
 run-list-same-length-4 t c = search needs
 
--- src/lib.rt:179:1
 pub run-list-returns-4 : (t : ℕ) → run-list-lts.Need-returns-4 (run-list-calls t) (run-list-at t) run-list.Post
-run-list-returns-4 t c = choice-done (c .before .before .before .before .before .before .before .before .before .before .before .before .pre .1) (c .before .before .before .before .before .before .node-at .ensures) (c .before .before .before .before .before .match .rest .0 .0 .1) (c .before .before .before .before .before .match .rest .0 .1) (c .before .before .before .before .before .match .rest .1) (c .before .before .run-either .ensures)
+run-list-returns-4 t c = choice-done (c .before .before .before .before .before .before .before .before .before .before .before .before .before .pre .1) (c .before .before .before .before .before .before .before .node-at .ensures) (c .before .before .before .before .before .match .rest .0 .0 .1) (c .before .before .before .before .before .match .rest .0 .1) (c .before .before .before .before .before .match .rest .1) (c .before .before .run-either .ensures)

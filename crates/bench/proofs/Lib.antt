@@ -1,0 +1,4 @@
+-- What the proofs of this crate use.
+pub mod Decimal
+pub mod Appending
+pub mod Reported

@@ -1,0 +1,42 @@
+-- A dash, or the place. Assumes nothing.
+use borrow.Author.Needs.{needs}
+use Rattle.bench.proofs.Appending.{dash-appends, place-appends}
+use Rattle.bench.proofs.output.append_place.Statement.{statement}
+use Rattle.bench.proofs.output.append_place.Tie as tie
+
+slice-aggregate-append : tie.Need-slice-aggregate-append
+slice-aggregate-append c = search needs
+
+append-requires : tie.Need-append-requires
+append-requires c κs = search needs
+
+same-length : tie.Need-same-length
+same-length c = search needs
+
+returns : tie.Need-returns
+returns c = dash-appends _ _ _ _ _ (c .before .before .before .before .before .if1 .taken) (c .before .before .append .ensures)
+
+sub-append-number : tie.Need-sub-append-number
+sub-append-number c = search needs
+
+append-number-requires : tie.Need-append-number-requires
+append-number-requires c κs = search needs
+
+same-length-2 : tie.Need-same-length-2
+same-length-2 c = search needs
+
+returns-2 : tie.Need-returns-2
+returns-2 c = place-appends _ _ _ _ _ (c .before .before .before .before .if1 .left) (c .before .before .append-number .ensures)
+
+pub append-place-spec : {M : Type 1} → statement M
+append-place-spec =
+    tie.close
+    (tie.spec
+    slice-aggregate-append
+    append-requires
+    same-length
+    returns
+    sub-append-number
+    append-number-requires
+    same-length-2
+    returns-2)

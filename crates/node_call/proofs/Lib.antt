@@ -1,0 +1,4 @@
+-- What the proofs of several functions use.
+pub mod Leaves
+pub mod Tests
+pub mod Answers

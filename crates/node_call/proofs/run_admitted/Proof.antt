@@ -1,0 +1,48 @@
+-- cN is the place N before c.
+use mathlib.Core.Path.{_≡_}
+use lib.ListN.{length}
+use borrow.Author.Needs.{needs}
+use Rattle.node_call.proofs.Answers.{cleared-checked, node-stands, node-runs}
+use Rattle.node_call.proofs.run_admitted.Statement.{statement}
+use Rattle.node_call.proofs.run_admitted.Tie as tie
+use Rattle.node_call.proofs.run_admitted.Reads as reads
+use Rattle.node_call.proofs.run_admitted.Lts as lts
+
+codes-of-requires : tie.Need-codes-of-requires
+codes-of-requires c κs = search cleared-checked
+
+slice-aggregate-run-value : tie.Need-slice-aggregate-run-value
+slice-aggregate-run-value c = search needs
+
+numbers-requires : tie.Need-numbers-requires
+numbers-requires c κs = search needs
+
+run-value-requires : tie.Need-run-value-requires
+run-value-requires c κs = search node-stands
+
+answered-requires : tie.Need-answered-requires
+answered-requires c κs = search needs
+
+same-length : tie.Need-same-length
+same-length c = search needs
+
+marks-long : (k : lts.Claims) (c : lts.Start k reads.Pre reads.Post) → length (c .args .s .marks) ≡ 256
+marks-long k c = search (needs, c .good)
+
+returns : tie.Need-returns
+returns c =
+    let c5 = c .before .before .before .before .before in
+    let c14 = c5 .before .before .before .before .before .before .before .before .before in
+    node-runs _ _ _ _ _ _ (c14 .pre) _ (c5 .numbers .ensures) _ _ _ _ (marks-long _ c14) (c .before .before .before .run-value .ensures) (c .answered .ensures)
+
+pub run-admitted-spec : {M : Type 1} → statement M
+run-admitted-spec =
+    tie.close
+    (tie.spec
+    codes-of-requires
+    slice-aggregate-run-value
+    numbers-requires
+    run-value-requires
+    answered-requires
+    same-length
+    returns)

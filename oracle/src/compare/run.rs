@@ -1,0 +1,367 @@
+//! The whole run, one node's evaluation and the text of an answer word: every word that they leave, against the real bpaf.
+
+use line::cases::Rng;
+use line::forged::{self, records, Call, Lent, State, ANSWER_WORDS, ITEM_WORDS};
+use line::{format::*, notation};
+
+use super::{calls, split, Compared};
+use crate::lists::hex;
+#[cfg(live)]
+use super::split::{raw_view, EMPTY};
+#[cfg(live)]
+use bpaf::doc::harness::{self, Wanted};
+#[cfg(live)]
+use line::{cases, cases::Case};
+
+#[repr(C)]
+#[derive(Clone, Copy, Debug, PartialEq, Eq)]
+pub struct RunAnswer {
+    pub number: u32,
+    pub place: u32,
+    pub tries: u32,
+    pub words: u32,
+    pub state: State,
+}
+
+/// `source` is 0 for the sheet and 1 for the form.
+#[repr(C)]
+#[derive(Clone, Copy, Debug, PartialEq, Eq)]
+struct TextPart {
+    number: u32,
+    place: u32,
+    source: u32,
+    offset: u32,
+    length: u32,
+}
+
+#[link(name = "exports", kind = "static")]
+extern "C" {
+    fn silverpoise_run(
+        form: *const u8,
+        form_length: usize,
+        sheet: *const u8,
+        sheet_length: usize,
+        items: *mut u32,
+        items_length: usize,
+        answers: *mut u32,
+        answers_length: usize,
+    ) -> RunAnswer;
+    fn silverpoise_eval(
+        form: *const u8,
+        form_length: usize,
+        sheet: *const u8,
+        sheet_length: usize,
+        items: *const u32,
+        items_length: usize,
+        answers: *mut u32,
+        answers_length: usize,
+        state: State,
+        node: usize,
+    ) -> RunAnswer;
+    fn silverpoise_text(
+        form: *const u8,
+        form_length: usize,
+        sheet: *const u8,
+        sheet_length: usize,
+        items: *const u32,
+        items_length: usize,
+        word: u32,
+    ) -> TextPart;
+}
+
+pub fn run(form: &[u8], sheet: &[u8], items: &mut [u32], answers: &mut [u32]) -> RunAnswer {
+    let (i, a) = ((items.as_mut_ptr(), items.len()), (answers.as_mut_ptr(), answers.len()));
+    unsafe { silverpoise_run(form.as_ptr(), form.len(), sheet.as_ptr(), sheet.len(), i.0, i.1, a.0, a.1) }
+}
+
+pub fn eval(lent: &Lent, answers: &mut [u32], node: usize) -> RunAnswer {
+    let (f, s, i) = (lent.form, lent.sheet, lent.items);
+    let a = (answers.as_mut_ptr(), answers.len());
+    unsafe { silverpoise_eval(f.as_ptr(), f.len(), s.as_ptr(), s.len(), i.as_ptr(), i.len(), a.0, a.1, *lent.state, node) }
+}
+
+/// The part that holds a text, or the refusal with its place plus 1.
+fn text<'a>(lent: &Lent<'a>, word: u32) -> Result<&'a [u8], (u32, u32)> {
+    let (f, s, i) = (lent.form, lent.sheet, lent.items);
+    let t = unsafe { silverpoise_text(f.as_ptr(), f.len(), s.as_ptr(), s.len(), i.as_ptr(), i.len(), word) };
+    if t.number != 0 {
+        assert_eq!((t.source, t.offset, t.length), (0, 0, 0), "refused, the part is empty");
+        return Err((t.number, t.place));
+    }
+    let from = if t.source == 0 { s } else { f };
+    Ok(&from[t.offset as usize..][..t.length as usize])
+}
+
+/// A base value's word, as a user reads it.
+fn show_base(base: Base, word: u32, lent: &Lent) -> String {
+    match base {
+        Base::YesNo => if word == 1 { "yes" } else { "no" }.to_string(),
+        Base::Number => word.to_string(),
+        Base::Text => format!("{:?}", String::from_utf8_lossy(text(lent, word).expect("a text of the answer"))),
+    }
+}
+
+/// The next value of an answer, by its kind.
+fn show_value(kind: Kind, words: &mut impl Iterator<Item = u32>, lent: &Lent) -> String {
+    let mut next = || words.next().expect("a word of the answer");
+    match kind {
+        Kind::Base(base) => show_base(base, next(), lent),
+        Kind::Optional(base) if next() == 1 => show_base(base, next(), lent),
+        Kind::Optional(_) => "absent".to_string(),
+        Kind::OptionalList(_) if next() == 0 => "absent".to_string(),
+        Kind::List(base) | Kind::OptionalList(base) => {
+            let all: Vec<String> = (0..next()).map(|_| show_base(base, next(), lent)).collect();
+            format!("[{}]", all.join(", "))
+        }
+        Kind::ListOfOptional(base) => {
+            let all: Vec<String> = (0..next()).map(|_| show_value(Kind::Optional(base), words, lent)).collect();
+            format!("[{}]", all.join(", "))
+        }
+    }
+}
+
+/// A form in the notation of notation.rs and this program's further arguments: items and values, by the proved code.
+pub fn show(form: &str) -> bool {
+    let Some((form, arguments)) = split::given(form) else { return false };
+    let kinds = form.kinds().expect("a form of the notation is accepted");
+    let (form_bytes, sheet) = (form.write(), Sheet { arguments: arguments.clone() }.write());
+    let (mut items, mut answers) = (vec![0; ITEM_WORDS], vec![0; ANSWER_WORDS]);
+    let ended = run(&form_bytes, &sheet, &mut items, &mut answers);
+    split::show_items(&items, &arguments.concat());
+    if ended.number != 0 {
+        let place = if ended.place == 0 { String::new() } else { format!(" at {}", ended.place - 1) };
+        println!("refused {}{place}, {} tries", ended.number, ended.tries);
+        return false;
+    }
+    let lent = Lent { form: &form_bytes, sheet: &sheet, items: &items, state: &ended.state };
+    let mut words = answers[..ended.words as usize].iter().copied();
+    for (k, field) in form.fields.iter().enumerate() {
+        println!("field {k}: {}", show_value(kinds[*field as usize], &mut words, &lent));
+    }
+    println!("{} tries", ended.tries);
+    true
+}
+
+/// A slice filled with a pattern, so that an untouched word shows.
+fn pattern(length: usize) -> Vec<u32> {
+    (0..length as u32).map(|k| 0xdead_0000 ^ k).collect()
+}
+
+impl Compared {
+    /// Every word of a slice.
+    fn words(&mut self, what: &str, input: &dyn Fn() -> String, ours: &[u32], theirs: &[u32]) {
+        if ours != theirs {
+            let at = ours.iter().zip(theirs).position(|(a, b)| a != b).unwrap_or(0);
+            self.same(what, &|| format!("{} at word {at}", input()), ours[at], theirs[at]);
+        }
+    }
+}
+
+/// The words, then 0 up to the length.
+pub fn padded(words: &[u32], length: usize) -> Vec<u32> {
+    let mut all = vec![0; length];
+    all[..words.len()].copy_from_slice(words);
+    all
+}
+
+/// What a run must leave: its answer, the items and the answer words.
+#[cfg(live)]
+fn expected(case: &Case, item_words: usize, answer_words: usize) -> (RunAnswer, Vec<u32>, Vec<u32>) {
+    let checked = Form::check(&case.form).and_then(|f| Sheet::check(&case.sheet).map(|s| (f, s)));
+    let short = item_words < ITEM_WORDS || answer_words < ANSWER_WORDS;
+    let slices = checked.and_then(|both| if short { Err(Refusal::new(7)) } else { Ok(both) });
+    let code = |place: Option<usize>| place.map_or(0, |p| p as u32 + 1);
+    match slices {
+        Err(r) => {
+            let answer = RunAnswer { number: r.number, place: code(r.place), tries: 0, words: 0, state: EMPTY };
+            (answer, vec![0; item_words], vec![0; answer_words])
+        }
+        Ok((form, sheet)) => {
+            let ran = harness::run(&form, &sheet, Wanted { items: true, ..Wanted::default() });
+            let a = &ran.answer;
+            let (tries, words) = (a.tries as u32, a.words.len() as u32);
+            let answer = RunAnswer { number: a.number, place: code(a.place), tries, words, state: raw_view(&ran.state) };
+            (answer, padded(&ran.records.concat(), item_words), padded(&a.words, answer_words))
+        }
+    }
+}
+
+/// The stated lengths mostly, longer in a third of the cases, and those about the limits now and then.
+#[cfg(live)]
+fn lengths(k: u64) -> (usize, usize) {
+    let spare = if k % 3 == 0 { 1 + k as usize % 29 } else { 0 };
+    let (items, answers) = (ITEM_WORDS + spare, ANSWER_WORDS + spare);
+    match (k / 7) % 24 {
+        0 => (0, answers),
+        1 => (ITEM_WORDS - 1, answers),
+        2 => (items, 0),
+        3 => (items, ANSWER_WORDS - 1),
+        4 => (0, 0),
+        _ => (items, answers),
+    }
+}
+
+#[cfg(live)]
+impl Compared {
+    fn run(&mut self, case: &Case, lengths: (usize, usize)) {
+        self.cases += 1;
+        let (mut items, mut answers) = (pattern(lengths.0), pattern(lengths.1));
+        let ours = run(&case.form, &case.sheet, &mut items, &mut answers);
+        self.answered(ours.number);
+        let (theirs, item_words, answer_words) = expected(case, lengths.0, lengths.1);
+        let input = || format!("{} {} {lengths:?}", hex(&case.form), hex(&case.sheet));
+        self.same("run", &input, ours, theirs);
+        self.words("items", &input, &items, &item_words);
+        self.words("answers", &input, &answers, &answer_words);
+    }
+}
+
+/// Well-made and damaged forms and sheets, those about each limit, and every short line over a small alphabet.
+#[cfg(live)]
+pub fn compare(seed: u64, count: u64) -> Compared {
+    let mut compared = Compared::default();
+    let mut rng = Rng::new(seed);
+    for (k, case) in cases::limits().iter().enumerate() {
+        compared.run(case, (ITEM_WORDS, ANSWER_WORDS));
+        compared.run(case, lengths(k as u64));
+    }
+    for form in cases::sample_forms() {
+        for sheet in cases::short_lines(b"vwx-=7", 2, 2) {
+            compared.run(&Case { form: form.write(), sheet: sheet.write() }, (ITEM_WORDS, ANSWER_WORDS));
+        }
+    }
+    for k in 0..count {
+        let case = if k % 8 == 0 { cases::damaged(&mut rng) } else { cases::well_made(&mut rng) };
+        compared.run(&case, lengths(k));
+    }
+    compared
+}
+
+/// One node of a form on states made by splitting and earlier calls: half of them flags, arguments and positionals.
+#[cfg(live)]
+pub fn compare_eval(seed: u64, count: u64) -> Compared {
+    let mut compared = Compared::default();
+    let mut rng = Rng::new(seed);
+    while compared.cases < count {
+        let walk = calls::Walk::new(&mut rng);
+        let leaves: Vec<usize> = (0..walk.form.nodes.len()).filter(|k| walk.form.nodes[*k].kind <= 3).collect();
+        let mut walk = walk;
+        for _ in 0..8 {
+            walk.step(&mut rng);
+            let node = if rng.chance(3, 4) { *rng.pick(&leaves) } else { rng.below(walk.form.nodes.len()) };
+            let given = walk.state();
+            let lent = Lent { form: &walk.form_bytes, sheet: &walk.sheet_bytes, items: &walk.items, state: &given };
+            let length = ANSWER_WORDS + rng.below(3);
+            let mut answers = pattern(length);
+            let ours = eval(&lent, &mut answers, node);
+            let (theirs, state) = walk.eval(node);
+            let theirs_words = padded(&theirs.words, length);
+            let place = theirs.place.map_or(0, |p| p as u32 + 1);
+            let words = theirs.words.len() as u32;
+            let expected = RunAnswer { number: theirs.number, place, tries: theirs.tries as u32, words, state };
+            let input = || format!("node {node} on {} {} {given:?}", hex(&walk.form_bytes), hex(&walk.sheet_bytes));
+            compared.cases += 1;
+            compared.answered(ours.number);
+            compared.same("eval", &input, ours, expected);
+            compared.words("eval answers", &input, &answers, &theirs_words);
+        }
+    }
+    compared
+}
+
+/// The text that an answer word stands for: an item's, or a name record's.
+fn text_of(lent: &Lent, word: u32) -> Vec<u8> {
+    if word >= 256 {
+        return Form::check(lent.form).expect("a form").name(word as usize - 256).to_vec();
+    }
+    let record = records(lent.items)[word as usize];
+    let area = Sheet::check(lent.sheet).expect("a sheet").arguments.concat();
+    area[record[5] as usize..][..record[6] as usize].to_vec()
+}
+
+/// `eval` and `text` on forged states and tables: the refusal, and that nothing changed.
+pub fn compare_forged(seed: u64, count: u64) -> Compared {
+    let mut compared = Compared::default();
+    let mut rng = Rng::new(seed);
+    while compared.cases < count {
+        let forgery = calls::Forgery::new(&mut rng);
+        let lent = forgery.lent();
+        let input = || format!("{} {} {:?}", hex(lent.form), hex(lent.sheet), lent.state);
+        let length = [0, ANSWER_WORDS - 1, ANSWER_WORDS, ANSWER_WORDS + 3][rng.below(4).max(rng.below(4))];
+        let node = rng.below(forgery.nodes + 2);
+        let mut answers = pattern(length);
+        let ours = eval(&lent, &mut answers, node);
+        compared.cases += 2;
+        compared.answered(ours.number);
+        match forged::refusal(&lent, &Call::Eval(node, length)) {
+            Some(r) => {
+                let place = r.place.map_or(0, |p| p as u32 + 1);
+                let theirs = RunAnswer { number: r.number, place, tries: 0, words: 0, state: *lent.state };
+                compared.same("eval", &|| format!("node {node} on {}", input()), ours, theirs);
+                compared.words("eval answers", &input, &answers, &pattern(length));
+            }
+            None => compared.same("eval", &input, ours.number == 0 || (20..27).contains(&ours.number), true),
+        }
+        let word = if rng.chance(1, 3) { 256 + rng.below(6) } else { rng.below(lent.state.count.min(300) as usize + 2) } as u32;
+        let theirs = match forged::refusal(&lent, &Call::Text(word)) {
+            Some(r) => Err((r.number, r.place.map_or(0, |p| p as u32 + 1))),
+            None => Ok(text_of(&lent, word)),
+        };
+        compared.same("text", &|| format!("word {word} on {}", input()), text(&lent, word).map(<[u8]>::to_vec), theirs);
+    }
+    compared
+}
+
+/// The form of nine fields that harness.rs builds, in the notation of notation.rs.
+const WEAR: &str = "optional(guard(number(-l --limit), 1..9999)); switch(-1); switch(-2); switch(-3); switch(-4); switch(-5); \
+     switch(-6); operand; many(operand)";
+
+/// The least time of one of many rounds, in nanoseconds.
+fn best(mut round: impl FnMut()) -> u128 {
+    (0..400).fold(u128::MAX, |best, _| {
+        let began = std::time::Instant::now();
+        round();
+        best.min(began.elapsed().as_nanos())
+    })
+}
+
+/// The run of nine fields on lines of two and six arguments and on 256 items, and where bpaf is at hand beside it.
+pub fn measure() {
+    let form = notation::parse(WEAR).expect("a form").write();
+    let line = |words: &str| words.split(' ').map(|w| w.as_bytes().to_vec()).collect::<Vec<_>>();
+    let lines = [
+        ("-1 lock", line("-1 lock")),
+        ("-1 -4 --limit=40 lock chain tyre", line("-1 -4 --limit=40 lock chain tyre")),
+        ("256 words", vec![b"part".to_vec(); 256]),
+    ];
+    let (mut items, mut answers) = (vec![0; ITEM_WORDS], vec![0; ANSWER_WORDS]);
+    let clearing = best(|| {
+        std::hint::black_box(&mut items).fill(0);
+        std::hint::black_box(&mut answers).fill(0);
+    });
+    println!("{clearing:10} ns  both slices cleared");
+    for (name, arguments) in lines {
+        let sheet = Sheet { arguments: arguments.clone() }.write();
+        assert_eq!(run(&form, &sheet, &mut items, &mut answers).number, 0, "an accepted line");
+        let ours = best(|| {
+            std::hint::black_box(run(std::hint::black_box(&form), std::hint::black_box(&sheet), &mut items, &mut answers));
+        });
+        println!("{ours:10} ns  {name}: form check, clearing, splitting and run");
+        beside(name, &arguments);
+    }
+}
+
+#[cfg(not(live))]
+fn beside(_name: &str, _arguments: &[Vec<u8>]) {}
+
+#[cfg(live)]
+fn beside(name: &str, arguments: &[Vec<u8>]) {
+    use std::os::unix::ffi::OsStringExt;
+    let line: Vec<std::ffi::OsString> = arguments.iter().cloned().map(std::ffi::OsString::from_vec).collect();
+    let wear = harness::Wear::new();
+    assert!(wear.read(&line), "an accepted line");
+    let theirs = best(|| {
+        std::hint::black_box(wear.read(std::hint::black_box(&line)));
+    });
+    println!("{theirs:10} ns  {name}: bpaf, its parsers built once, `construct` and `eval`");
+}
