@@ -27,11 +27,11 @@ use take::Value;
 
 // The names of a node: records of the form. Kind 1 is a flag, 2 an argument, 0 neither. An adjacent argument takes only an
 // item that has its value in its own word.
-struct Key {
-    kind: u32,
-    first: usize,
-    count: usize,
-    adjacent: bool,
+pub struct Key {
+    pub kind: u32,
+    pub first: usize,
+    pub count: usize,
+    pub adjacent: bool,
 }
 
 fn wide(x: u32) -> usize
@@ -150,7 +150,7 @@ fn no_codes() -> [u32; 128]
 }
 
 // The codes of a form's names.
-fn codes_of(form: &[u8]) -> [u32; 128]
+pub fn codes_of(form: &[u8]) -> [u32; 128]
     requires { ⌜ Checked (now form) ⌝ }
     ensures { λ r. ⌜ Coded (now (form .entry)) r ⌝ }
 {
@@ -171,7 +171,7 @@ fn no_key() -> Key
 }
 
 // The names of node k, if it is a flag or an argument.
-fn key_at(form: &[u8], k: usize) -> Key
+pub fn key_at(form: &[u8], k: usize) -> Key
     requires { ⌜ ((a : Accepted) × (checkForm (now form) ≡ accepted a)) ⌝ }
     ensures { λ r. ⌜ Keyed (now (form .entry)) k r ⌝ }
 {

@@ -102,7 +102,7 @@ fn long_good(r: &[u32], area: usize) -> bool
 }
 
 // Whether a record is an item over an area of this length.
-fn record_good(r: &[u32], area: usize) -> bool
+pub fn record_good(r: &[u32], area: usize) -> bool
     requires { ⌜ length (now r) ≡ 7 ⌝ }
     ensures { λ x. ⌜ ((bytes : List ℕ) → length bytes ≡ area → x ≡ isSome (itemFrom bytes (now (r .entry)))) ⌝ }
 {

@@ -22,7 +22,7 @@ use Rattle.arg.specs.Items.{recordAt}
 use Rattle.arg.proofs.Records.{word-of}
 use Rattle.named.specs.Search.{HasItem}
 use Rattle.table.proofs.Laws.{start-within, area-length}
-use Rattle.text.specs.Text.{Finds}
+use Rattle.text.specs.Text.{itemPart, Finds}
 
 pub record TextIn (area : List ℕ) (offset size : ℕ) (x : Item) : Type 0 where
   pub inside : offset + size ≤ length area
@@ -75,12 +75,13 @@ module _
     item-small = omega (arith, text-inside, good-sheet s (h .made) .fits, good-sheet s (h .made) .few, start-most 2 n (inl refl))
 
     pub item-finds : (x : Item) → itemFrom (sheetArea s) (recordAt words i) ≡ some x
-        → Finds s 0 (textOf x) (record { number = 0; place = 0; source = 0; offset = a + o; length = z })
-    unfolding sheetArea wireArea
+        → Finds s 0 (textOf x) (some (itemPart s words i)) (record { number = 0; place = 0; source = 0; offset = a + o; length = z })
+    unfolding sheetArea wireArea itemPart
     item-finds x here = record {
       number = refl;
       place = refl;
       source = refl;
       inside = omega (arith, text-inside, area-length s (h .made) n en a ea, start-within s (h .made) n en a ea);
       same = rw (ea, en, ← drop-drop o (areaStart 2 (argumentCount s)) s) (words-text x here .same);
+      exact = rw (ea, en, word-of words i 5 o (lit< tt) eo, word-of words i 6 z (lit< tt) ez);
     }

@@ -9,13 +9,13 @@ use lib.ListN.{length, getElem?, take, drop}
 use borrow.Author.Tests.{eq-eqb, ne-eqb, lt-ltb, le-ltb}
 use Rattle.utf8.specs.Utf8.{if_then_else_}
 use Rattle.rules.specs.Base.{_>>?_}
-use Rattle.rules.specs.Outcome.{Outcome, ok, refused, refuse, _>>=_}
+use Rattle.rules.specs.Outcome.{Outcome, ok, refused, Refusal, refuse, _>>=_}
 use Rattle.rules.specs.Form.{nameCount, readForm}
 use Rattle.rules.specs.Sheet.{sheetArea}
 use Rattle.rules.specs.Split.{Item}
 use Rattle.rules.specs.Take.{textOf}
 use Rattle.rules.specs.Accept.{Checked, accepted, refusedAt, Accepted, checkForm}
-use Rattle.rules.specs.Codes.{checkCode}
+use Rattle.rules.specs.Codes.{placeCode, checkCode}
 use Rattle.rules.specs.Calls.{formIn, asked, itemFrom, recordText, callText}
 use Rattle.rules.specs.declared.Refused.{Refused}
 use Rattle.rules.proofs.Acceptance.{lookup-some, accepted-form}
@@ -24,6 +24,8 @@ use Rattle.layout.specs.Layout.{HasName}
 use Rattle.layout.proofs.Sizes.{names-length}
 use Rattle.kinds.proofs.Steps.{lookup-none}
 use Rattle.fields.proofs.Given.{has-name}
+use Rattle.state.specs.Lent.{placeOf as statePlaceOf}
+use Rattle.state.proofs.Laws.{code-of}
 use Rattle.named.specs.Search.{HasItem}
 use Rattle.table.specs.Given.{HasTable, Gives}
 use Rattle.table.specs.declared.Input.{Input}
@@ -32,19 +34,34 @@ use Rattle.reader.specs.Reader.{placeOf}
 use Rattle.reader.proofs.Checks.{check-accepted, check-names, form-passed}
 use Rattle.reader.proofs.Splits.{place-code}
 use Rattle.text.specs.declared.TextPart.{TextPart}
-use Rattle.text.specs.Text.{textSays, TextOf, sourceOf, partText, refusedPart, PartOf, Finds, Tells}
+use Rattle.text.specs.Text.{textSays, TextOf, sourceOf, partText, refusedPart, itemPart, recordPart, callPart, partTold, PartOf, Finds, Tells}
 
 -- what is asked for in the end
-abbrev wordText : Accepted → List Item → ℕ → Option (List ℕ)
-wordText a is w = if ltb w 256 then (getElem? is w >>? λ x. some (textOf x)) else recordText a (w - 256)
+abbrev wordText : ℕ → Accepted → List Item → Option (List ℕ)
+wordText w a is = if ltb w 256 then (getElem? is w >>? λ x. some (textOf x)) else recordText a (w - 256)
+
+abbrev wordPart : List ℕ → List ℕ → List ℕ → ℕ → Accepted → List Item → Option TextPart
+wordPart b s words w a is = if ltb w 256 then (getElem? is w >>? λ _. some (itemPart s words w)) else recordPart b a (w - 256)
+
+abbrev refusal : ℕ → ℕ → Refusal
+refusal number place = record { number = number; place = placeOf place; missing = [] }
+
+code-place : (n : ℕ) → placeCode (placeOf n) ≡ n
+unfolding placeOf statePlaceOf
+code-place n = code-of n
 
 module _ (b s words : List ℕ) (w : ℕ) where
+  -- the tests before it, whatever is asked for
+  abbrev onWord : {A : Type 0} → (Accepted → List Item → Option A) → Outcome A
+  onWord f = formIn b >>= λ a. onTable s words (λ is. asked (f a is))
+
   -- ---- a part for what the rules say
   part-refused : (number place : ℕ) → (number ≡ 0 → ⊥)
-      → callText b s words w ≡ refused (record { number = number; place = placeOf place; missing = [] })
+      → callText b s words w ≡ refused (refusal number place)
+      → callPart b s words w ≡ refused (refusal number place)
       → (x : TextPart) → x ≡ refusedPart number place → PartOf b s words w x
   unfolding textSays partText if_then_else_
-  part-refused number place z said x e = subst (PartOf b s words w) (sym e) (record {
+  part-refused number place z said found x e = subst (PartOf b s words w) (sym e) (record {
     text = record {
       same = said ∙ rw (ne-eqb number 0 z);
       accepted = λ y. absurd (z y);
@@ -53,17 +70,19 @@ module _ (b s words : List ℕ) (w : ℕ) where
     source = λ y. absurd (z y);
     inside = omega arith;
     nothing = λ _. refl;
+    exact = ap partTold found ∙ ap (λ (c : ℕ). some (refusedPart number c)) (code-place place);
   })
 
-  part-told : (l : List ℕ) (which : ℕ) (o : Option (List ℕ)) (x : TextPart)
+  part-told : (l : List ℕ) (which : ℕ) (o : Option (List ℕ)) (p : Option TextPart) (x : TextPart)
       → callText b s words w ≡ asked o
+      → callPart b s words w ≡ asked p
       → sourceOf b s which ≡ l
       → which ≡ (if ltb w 256 then 0 else 1)
-      → Tells l which o x
+      → Tells l which o p x
       → PartOf b s words w x
   unfolding asked refuse placeOf textSays partText if_then_else_
-  part-told l which none x said el ew t = part-refused 28 0 (λ z. omega arith) said x t
-  part-told l which (some t) x said el ew f =
+  part-told l which none p x said found el ew t = part-refused 28 0 (λ z. omega arith) said (found ∙ ap asked (t .0)) x (t .1)
+  part-told l which (some t) p x said found el ew f =
       let held : sourceOf b s (x .source) ≡ l = ap (sourceOf b s) (f .source) ∙ el in
       let same : partText b s x ≡ t = ap (λ (m : List ℕ). take (x .length) (drop (x .offset) m)) held ∙ f .same in
       record {
@@ -75,33 +94,41 @@ module _ (b s words : List ℕ) (w : ℕ) where
         source = λ _. f .source ∙ ew;
         inside = rw held (f .inside);
         nothing = λ z. absurd (z (f .number));
+        exact = ap partTold (found ∙ ap asked (f .exact));
       }
 
   module _ (r : Refused) (e : r ≡ checkCode (checkForm b)) where
     -- 1 to 4
-    pub form-refused : (r .number ≡ 0 → ⊥) → (x : TextPart) → x ≡ refusedPart (r .number) (r .place) → PartOf b s words w x
-    unfolding callText formIn _>>=_
-    form-refused z = part-refused (r .number) (r .place) z (go (checkForm b) refl)
+    form-stops : {A : Type 0} (f : Accepted → List Item → Option A) → (r .number ≡ 0 → ⊥)
+        → onWord f ≡ refused (refusal (r .number) (r .place))
+    unfolding formIn _>>=_
+    form-stops f z = go (checkForm b) refl
       where
-        go : (c : Checked Accepted) → checkForm b ≡ c
-            → callText b s words w ≡ refused (record { number = r .number; place = placeOf (r .place); missing = [] })
+        go : (c : Checked Accepted) → checkForm b ≡ c → onWord f ≡ refused (refusal (r .number) (r .place))
         go (accepted a) h = absurd (z (ap (λ (y : Refused). y .number) (e ∙ ap checkCode h)))
         go (refusedAt n k) h =
             let same = e ∙ ap checkCode h in
-            rw (h, formIn) (sym (ap (λ (y : Refused). refused (record { number = y .number; place = placeOf (y .place); missing = [] })) same ∙ rw (place-code k)))
+            rw (h, formIn) (sym (ap (λ (y : Refused). refused (refusal (y .number) (y .place))) same ∙ rw (place-code k)))
+
+    pub form-refused : (r .number ≡ 0 → ⊥) → (x : TextPart) → x ≡ refusedPart (r .number) (r .place) → PartOf b s words w x
+    unfolding callText callPart
+    form-refused z = part-refused (r .number) (r .place) z (form-stops (wordText w) z) (form-stops (wordPart b s words w) z)
 
     module _ (z : r .number ≡ 0) where
       passed : (a : Accepted) × (checkForm b ≡ accepted a)
       passed = check-accepted b r e z
 
+      goes-on : {A : Type 0} (f : Accepted → List Item → Option A) → onWord f ≡ onTable s words (λ is. asked (f (passed .0) is))
+      goes-on f = form-passed b (passed .0) (λ a. onTable s words (λ is. asked (f a is))) (passed .1)
+
       module _ (g : Input) (given : Gives s words g) where
         -- 6, 5, 7 and 30
+        table-stops : {A : Type 0} (f : Accepted → List Item → Option A) → (g .number ≡ 0 → ⊥) → onWord f ≡ refused (refuse (g .number))
+        table-stops f y = goes-on f ∙ table-refused s words (λ is. asked (f (passed .0) is)) g given y
+
         pub table-refuses : (g .number ≡ 0 → ⊥) → (x : TextPart) → x ≡ refusedPart (g .number) 0 → PartOf b s words w x
-        unfolding callText refuse placeOf if_then_else_
-        table-refuses y =
-            part-refused (g .number) 0 y
-            (form-passed b (passed .0) (λ a. onTable s words (λ is. asked (wordText a is w))) (passed .1)
-            ∙ table-refused s words (λ is. asked (wordText (passed .0) is w)) g given y)
+        unfolding callText callPart refuse placeOf if_then_else_
+        table-refuses y = part-refused (g .number) 0 y (table-stops (wordText w) y) (table-stops (wordPart b s words w) y)
 
         module _ (y : g .number ≡ 0) where
           table : HasTable s words (g .count)
@@ -110,25 +137,41 @@ module _ (b s words : List ℕ) (w : ℕ) where
           abbrev is : List Item
           is = table .holds .items
 
-          word-asked : callText b s words w ≡ asked (wordText (passed .0) is w)
+          table-gives : {A : Type 0} (f : Accepted → List Item → Option A) → onWord f ≡ asked (f (passed .0) is)
+          table-gives f = goes-on f ∙ table-given s words (λ is. asked (f (passed .0) is)) (g .count) table
+
+          text-asked : callText b s words w ≡ asked (wordText w (passed .0) is)
           unfolding callText
-          word-asked =
-              form-passed b (passed .0) (λ a. onTable s words (λ is. asked (wordText a is w))) (passed .1)
-              ∙ table-given s words (λ is. asked (wordText (passed .0) is w)) (g .count) table
+          text-asked = table-gives (wordText w)
+
+          part-asked : callPart b s words w ≡ asked (wordPart b s words w (passed .0) is)
+          unfolding callPart
+          part-asked = table-gives (wordPart b s words w)
 
           module _ (n : ℕ) (en : n ≡ w) where
             module _ (below : n < 256) where
-              by-item : callText b s words w ≡ asked (getElem? is n >>? λ x. some (textOf x))
+              text-by-item : callText b s words w ≡ asked (getElem? is n >>? λ x. some (textOf x))
               unfolding if_then_else_
-              by-item = word-asked ∙ rw (lt-ltb w 256 (omega arith), en)
+              text-by-item = text-asked ∙ rw (lt-ltb w 256 (omega arith), en)
 
-              from-sheet : (o : Option (List ℕ)) (x : TextPart) → (getElem? is n >>? λ x. some (textOf x)) ≡ o → Tells s 0 o x → PartOf b s words w x
+              part-by-item : callPart b s words w ≡ asked (getElem? is n >>? λ _. some (itemPart s words n))
+              unfolding if_then_else_
+              part-by-item = part-asked ∙ rw (lt-ltb w 256 (omega arith), en)
+
+              from-sheet : (o : Option (List ℕ)) (p : Option TextPart) (x : TextPart)
+                  → (getElem? is n >>? λ x. some (textOf x)) ≡ o
+                  → (getElem? is n >>? λ _. some (itemPart s words n)) ≡ p
+                  → Tells s 0 o p x
+                  → PartOf b s words w x
               unfolding sourceOf if_then_else_
-              from-sheet o x k t = part-told s 0 o x (by-item ∙ ap asked k) refl (rw (lt-ltb w 256 (omega arith))) t
+              from-sheet o p x k q t =
+                  part-told s 0 o p x (text-by-item ∙ ap asked k) (part-by-item ∙ ap asked q) refl (rw (lt-ltb w 256 (omega arith))) t
 
               pub no-item : g .count ≤ n → (x : TextPart) → x ≡ refusedPart 28 0 → PartOf b s words w x
               unfolding _>>?_
-              no-item h x q = from-sheet none x (rw (lookup-none is n (omega (arith, table .holds .count)))) q
+              no-item h x q =
+                  let gone : getElem? is n ≡ none = lookup-none is n (omega (arith, table .holds .count)) in
+                  from-sheet none none x (rw gone) (rw gone) (refl, q)
 
               module _ (h : n < g .count) where
                 there : (y : Item) × (getElem? is n ≡ some y)
@@ -146,32 +189,33 @@ module _ (b s words : List ℕ) (w : ℕ) where
                 }
 
                 pub item-part : (x : TextPart)
-                    → ((y : Item) → itemFrom (sheetArea s) (recordAt words n) ≡ some y → Finds s 0 (textOf y) x)
+                    → ((y : Item) → itemFrom (sheetArea s) (recordAt words n) ≡ some y → Finds s 0 (textOf y) (some (itemPart s words n)) x)
                     → PartOf b s words w x
                 unfolding _>>?_
-                item-part x f = from-sheet (some (textOf (there .0))) x (rw (there .1)) (f (there .0) here)
+                item-part x f =
+                    from-sheet (some (textOf (there .0))) (some (itemPart s words n)) x (rw (there .1)) (rw (there .1)) (f (there .0) here)
 
             module _ (above : 256 ≤ n) where
-              from-form : (x : TextPart) → Tells b 1 (recordText (passed .0) (n - 256)) x → PartOf b s words w x
+              from-form : (x : TextPart) → Tells b 1 (recordText (passed .0) (n - 256)) (recordPart b (passed .0) (n - 256)) x → PartOf b s words w x
               unfolding sourceOf if_then_else_
               from-form x t =
-                  part-told b 1 (recordText (passed .0) (n - 256)) x
-                  (word-asked ∙ rw (le-ltb w 256 (omega arith), en)) refl (rw (le-ltb w 256 (omega arith))) t
+                  part-told b 1 (recordText (passed .0) (n - 256)) (recordPart b (passed .0) (n - 256)) x
+                  (text-asked ∙ rw (le-ltb w 256 (omega arith), en)) (part-asked ∙ rw (le-ltb w 256 (omega arith), en)) refl (rw (le-ltb w 256 (omega arith))) t
 
               module _ (m : ℕ) (em : m ≡ nameCount b) where
                 pub no-record : m ≤ n - 256 → (x : TextPart) → x ≡ refusedPart 28 0 → PartOf b s words w x
-                unfolding recordText _>>?_
+                unfolding recordText recordPart _>>?_
                 no-record h x q =
                     let gone : getElem? (passed .0 .form .names) (n - 256) ≡ none =
                     rw (accepted-form b (passed .0) (passed .1)) (lookup-none (readForm b .names) (n - 256) (omega (arith, names-length b))) in
                     let none-there : recordText (passed .0) (n - 256) ≡ none = rw gone in
-                    from-form x (subst (λ (o : Option (List ℕ)). Tells b 1 o x) (sym none-there) q)
+                    from-form x (subst (λ (o : Option (List ℕ)). Tells b 1 o (recordPart b (passed .0) (n - 256)) x) (sym none-there) (rw gone, q))
 
                 pub has-record : n - 256 < m → HasName b (n - 256)
                 has-record h = has-name b (n - 256) m (check-names b r e z) em h
 
                 pub record-part : (x : TextPart)
-                    → ((a : Accepted) → a .form ≡ readForm b → Tells b 1 (recordText a (n - 256)) x)
+                    → ((a : Accepted) → a .form ≡ readForm b → Tells b 1 (recordText a (n - 256)) (recordPart b a (n - 256)) x)
                     → PartOf b s words w x
                 record-part x f = from-form x (f (passed .0) (accepted-form b (passed .0) (passed .1)))
 

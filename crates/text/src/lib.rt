@@ -10,7 +10,7 @@ ghost use Rattle.rules.specs.Take.{textOf};
 ghost use Rattle.arg.specs.Items.{recordAt};
 ghost use Rattle.layout.specs.Layout.{HasName};
 ghost use Rattle.named.specs.Search.{HasItem};
-ghost use Rattle.text.specs.Text.{refusedPart, Finds, Tells, PartOf, TextOf};
+ghost use Rattle.text.specs.Text.{refusedPart, itemPart, recordPart, Finds, Tells, PartOf, TextOf};
 
 // Which slice holds the text (0 the sheet, 1 the form), and where in that slice. Refused, these three are 0. A place is
 // itself plus 1, or 0 for none.
@@ -44,7 +44,7 @@ fn refused(number: u32, place: u32) -> TextPart
 // The text of item i.
 fn item_part(sheet: &[u8], items: &[u32], i: usize) -> TextPart
     requires { ⌜ HasItem (now sheet) (now items) i ⌝ }
-    ensures { λ r. ⌜ ((x : RulesItem) → itemFrom (sheetArea (now (sheet .entry))) (recordAt (now (items .entry)) i) ≡ some x → Finds (now (sheet .entry)) 0 (textOf x) r) ⌝ }
+    ensures { λ r. ⌜ ((x : RulesItem) → itemFrom (sheetArea (now (sheet .entry))) (recordAt (now (items .entry)) i) ≡ some x → Finds (now (sheet .entry)) 0 (textOf x) (some (itemPart (now (sheet .entry)) (now (items .entry)) i)) r) ⌝ }
 {
     let area = wire::area_start(2, sheet::count(sheet));
     let at = 7 * i;
@@ -61,7 +61,7 @@ fn item_part(sheet: &[u8], items: &[u32], i: usize) -> TextPart
 // The bytes of name record k, if its type is text.
 fn record_part(form: &[u8], k: usize) -> TextPart
     requires { ⌜ HasName (now form) k ⌝ }
-    ensures { λ r. ⌜ ((a : Accepted) → a .form ≡ readForm (now (form .entry)) → Tells (now (form .entry)) 1 (recordText a k) r) ⌝ }
+    ensures { λ r. ⌜ ((a : Accepted) → a .form ≡ readForm (now (form .entry)) → Tells (now (form .entry)) 1 (recordText a k) (recordPart (now (form .entry)) a k) r) ⌝ }
 {
     let x = layout::name_at(form, k);
     if x.kind != 2 {

@@ -4,7 +4,7 @@ use line::cases::Rng;
 use line::forged::{self, records, Call, Lent, State, ANSWER_WORDS, ITEM_WORDS};
 use line::{format::*, notation};
 
-use super::{calls, split, Compared};
+use super::{calls, checks, split, Compared};
 use crate::lists::hex;
 #[cfg(live)]
 use super::split::{raw_view, EMPTY};
@@ -340,6 +340,10 @@ pub fn measure() {
         std::hint::black_box(&mut answers).fill(0);
     });
     println!("{clearing:10} ns  both slices cleared");
+    let check = best(|| {
+        std::hint::black_box(checks::form_check(std::hint::black_box(&form)));
+    });
+    println!("{check:10} ns  the form check");
     for (name, arguments) in lines {
         let sheet = Sheet { arguments: arguments.clone() }.write();
         assert_eq!(run(&form, &sheet, &mut items, &mut answers).number, 0, "an accepted line");
@@ -347,6 +351,10 @@ pub fn measure() {
             std::hint::black_box(run(std::hint::black_box(&form), std::hint::black_box(&sheet), &mut items, &mut answers));
         });
         println!("{ours:10} ns  {name}: form check, clearing, splitting and run");
+        let split = best(|| {
+            std::hint::black_box(split::split(std::hint::black_box(&form), std::hint::black_box(&sheet), &mut items));
+        });
+        println!("{split:10} ns  {name}: form check, clearing of the item slice and splitting alone");
         beside(name, &arguments);
     }
 }
