@@ -19,8 +19,8 @@ mod script;
 use std::process::ExitCode;
 
 const USAGE: &str = "\
-oracle compare LAYER [SEED COUNT]  the proved code against the Rust, in this process: utf8, checks, forged, forged-eval,
-                                   and live: split, calls, eval, run
+oracle compare LAYER [SEED COUNT]  the proved code against the Rust, in this process: utf8, checks, forged, forged-lent,
+                                   forged-eval, and live: split, calls, lent, eval, run
 oracle measure LAYER               what the proved code costs: checks, split, run
 oracle read FORM [ARGUMENT..]      a command line read under a form: items and values, by the proved code
 oracle split FORM [ARGUMENT..]     a command line split into items, by the proved code

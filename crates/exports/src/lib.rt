@@ -15,6 +15,8 @@ ghost use Rattle.error.specs.Refusals.{refusalOf, refusedOf};
 ghost use Rattle.answers.specs.Answers.{answerOf, stateAnswerOf, plainAnswer};
 ghost use Rattle.answers.specs.Answers.{yesCode as doneCode, pickCode, scopeCode, scopeOrNone, conflictCode, operandCode, placeOrNone, takenCode};
 ghost use Rattle.item_calls.specs.Calls.{Gets};
+ghost use Rattle.in_place.specs.Joined.{joined};
+ghost use Rattle.item_search.specs.Records.{callFind};
 ghost use Rattle.rules.specs.Calls.{callEval};
 ghost use Rattle.node_call.specs.Node.{evaluatedAnswer};
 ghost use Rattle.text.specs.Text.{PartOf};
@@ -25,6 +27,7 @@ ghost use Rattle.exports.specs.Exports.{decoding};
 use answers::Answer;
 use answers::StateAnswer;
 use item_calls::Got;
+use item_search::ItemRecord;
 use node_call::NodeAnswer;
 use reader::SplitAnswer;
 use reader::Told;
@@ -282,4 +285,37 @@ pub extern "C" fn silverpoise_eval(
     ensures { λ r. ⌜ evaluatedAnswer (callEval (now (form .entry)) (now (sheet .entry)) (now (items .entry)) (now (answers .entry)) s node) ≡ some (record { answer = r; answers = now (answers .exit) }) ⌝ }
 {
     node_call::eval(form, sheet, items, answers, s, node)
+}
+
+#[no_mangle]
+pub extern "C" fn silverpoise_remove_in_place(s: &mut State, place: usize) -> Answer
+    ensures { λ r. ⌜ stateAnswerOf doneCode (callRemove (now (s .entry)) place) ≡ some (joined r (now (s .exit))) ⌝ }
+{
+    in_place::remove(s, place)
+}
+
+#[no_mangle]
+pub extern "C" fn silverpoise_take_flag_in_place(
+    s: &mut State,
+    form: &[u8],
+    sheet: &[u8],
+    items: &[u32],
+    node: usize,
+) -> Answer
+    ensures { λ r. ⌜ stateAnswerOf doneCode (callTakeFlag (now (form .entry)) (now (sheet .entry)) (now (items .entry)) (now (s .entry)) node) ≡ some (joined r (now (s .exit))) ⌝ }
+{
+    in_place::take_flag(s, form, sheet, items, node)
+}
+
+#[no_mangle]
+pub extern "C" fn silverpoise_find(
+    form: &[u8],
+    sheet: &[u8],
+    items: &[ItemRecord],
+    s: State,
+    node: usize,
+) -> Answer
+    ensures { λ r. ⌜ plainAnswer placeOrNone (callFind (now (form .entry)) (now (sheet .entry)) (now (items .entry)) s node) ≡ some r ⌝ }
+{
+    item_search::find(form, sheet, items, s, node)
 }

@@ -313,6 +313,12 @@ impl Walk {
         self.call(rng, &mut Compared::default());
     }
 
+    /// The first place that `get` gives and whose item has one of the node's names.
+    pub fn first_match(&self, node: usize) -> Option<usize> {
+        let matches = |i: &usize| self.held.matches_arg(&self.form, node, *i) == Some(true);
+        (0..self.records.len()).find(|i| self.held.get(*i) && matches(i))
+    }
+
     /// One node's `eval` on a copy of the state, and the state that it left.
     pub fn eval(&self, node: usize) -> (line::format::Answer, State) {
         let mut held = self.held.clone();

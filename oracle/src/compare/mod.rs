@@ -4,6 +4,7 @@
 
 mod calls;
 mod checks;
+mod lent;
 mod replay;
 mod run;
 mod split;
@@ -45,9 +46,12 @@ pub fn compare(layer: &str, seed: u64, count: Option<u64>) -> Option<Compared> {
         "utf8" => utf8::compare(seed, count.unwrap_or(1_000_000)),
         "checks" => checks::compare(seed, count.unwrap_or(250_000)),
         "forged" => calls::compare_forged(seed, count.unwrap_or(200_000)),
+        "forged-lent" => lent::compare_forged(seed, count.unwrap_or(150_000)),
         "forged-eval" => run::compare_forged(seed, count.unwrap_or(100_000)),
         #[cfg(live)]
         "calls" => calls::compare(seed, count.unwrap_or(200_000)),
+        #[cfg(live)]
+        "lent" => lent::compare(seed, count.unwrap_or(300_000)),
         #[cfg(live)]
         "eval" => run::compare_eval(seed, count.unwrap_or(300_000)),
         #[cfg(live)]

@@ -1,0 +1,150 @@
+//! The lent forms: a state changed in place, and a search over item structs, against the calls by value and the real bpaf.
+
+use line::cases::Rng;
+use line::forged::{self, records, Call, Lent, State};
+use line::format::*;
+
+use super::calls::{self, Answer};
+use super::Compared;
+use crate::lists::hex;
+
+#[link(name = "exports", kind = "static")]
+extern "C" {
+    fn silverpoise_remove_in_place(state: *mut State, place: usize) -> Answer;
+    fn silverpoise_take_flag_in_place(
+        state: *mut State,
+        form: *const u8,
+        k: usize,
+        sheet: *const u8,
+        n: usize,
+        items: *const u32,
+        m: usize,
+        node: usize,
+    ) -> Answer;
+    fn silverpoise_find(
+        form: *const u8,
+        k: usize,
+        sheet: *const u8,
+        n: usize,
+        items: *const [u32; 7],
+        count: usize,
+        state: State,
+        node: usize,
+    ) -> Answer;
+}
+
+/// `remove` or `take_flag` on a copy of the state that is lent: the answer, and the state that it left.
+fn in_place(lent: &Lent, call: &Call) -> (Answer, State) {
+    let (f, s, i) = (lent.form, lent.sheet, lent.items);
+    let mut state = *lent.state;
+    let answer = unsafe {
+        match *call {
+            Call::Remove(place) => silverpoise_remove_in_place(&mut state, place),
+            Call::TakeFlag(node) => silverpoise_take_flag_in_place(
+                &mut state,
+                f.as_ptr(),
+                f.len(),
+                s.as_ptr(),
+                s.len(),
+                i.as_ptr(),
+                i.len(),
+                node,
+            ),
+            _ => unreachable!("not on a lent state"),
+        }
+    };
+    (answer, state)
+}
+
+fn find(lent: &Lent, items: &[[u32; 7]], node: usize) -> Answer {
+    let (f, s) = (lent.form, lent.sheet);
+    unsafe {
+        silverpoise_find(f.as_ptr(), f.len(), s.as_ptr(), s.len(), items.as_ptr(), items.len(), *lent.state, node)
+    }
+}
+
+impl Compared {
+    /// The calls on a lent state are those by value.
+    fn lent(&mut self, lent: &Lent, call: &Call) {
+        self.cases += 1;
+        let by_value = calls::ours(lent, call);
+        self.answered(by_value.answer.number);
+        let input = || format!("{call:?} on {} {} {:?}", hex(lent.form), hex(lent.sheet), lent.state);
+        self.same("in place", &input, in_place(lent, call), (by_value.answer, by_value.state));
+    }
+
+    fn found(&mut self, lent: &Lent, items: &[[u32; 7]], node: usize, theirs: Answer) {
+        self.cases += 1;
+        let ours = find(lent, items, node);
+        self.answered(ours.number);
+        let input = || format!("node {node} on {} {} {items:?} {:?}", hex(lent.form), hex(lent.sheet), lent.state);
+        self.same("find", &input, ours, theirs);
+    }
+}
+
+/// Forged states, forms, sheets and items: in place as by value; the search is refused as `matches_arg` at place 0 would be,
+/// but for 7, since a slice of structs may have any length, and for the place itself.
+pub fn compare_forged(seed: u64, count: u64) -> Compared {
+    let mut compared = Compared::default();
+    let mut rng = Rng::new(seed);
+    while compared.cases < count {
+        let forgery = calls::Forgery::new(&mut rng);
+        let lent = forgery.lent();
+        compared.lent(&lent, &Call::Remove(rng.below(lent.state.count.min(300) as usize + 2)));
+        compared.lent(&lent, &Call::TakeFlag(rng.below(forgery.nodes + 2)));
+        let (items, node) = (records(lent.items), rng.below(forgery.nodes + 2));
+        let mut words = items.concat();
+        words.resize(forged::ITEM_WORDS, 0);
+        let whole = Lent { items: &words, ..lent };
+        let refused = forged::refusal(&whole, &Call::Matches(node, 0)).filter(|r| r.number != 28 || !named(&whole, node));
+        let theirs = match refused {
+            Some(r) => Answer { number: r.number, place: r.place.map_or(0, |p| p as u32 + 1), ..Answer::default() },
+            None => by_number(&whole, items.len(), node),
+        };
+        compared.found(&lent, &items, node, theirs);
+    }
+    compared
+}
+
+/// Whether a node of a form is a flag or an argument.
+fn named(lent: &Lent, node: usize) -> bool {
+    Form::check(lent.form).is_ok_and(|f| f.nodes.get(node).is_some_and(|n| n.kind <= ARGUMENT))
+}
+
+/// The first present place in scope that `get` gives and `matches_arg` accepts.
+fn by_number(lent: &Lent, count: usize, node: usize) -> Answer {
+    let yes = |call: Call| calls::ours(lent, &call).answer.found == 1;
+    match (0..count).find(|i| yes(Call::Get(*i)) && yes(Call::Matches(node, *i))) {
+        Some(place) => Answer { found: 1, first: place as u32, ..Answer::default() },
+        None => Answer::default(),
+    }
+}
+
+/// States of the real bpaf on their way through random calls: its own `get` and `matches_arg` find the place.
+#[cfg(live)]
+pub fn compare(seed: u64, count: u64) -> Compared {
+    let mut compared = Compared::default();
+    let mut rng = Rng::new(seed);
+    while compared.cases < count {
+        let mut walk = calls::Walk::new(&mut rng);
+        for _ in 0..8 {
+            walk.step(&mut rng);
+            let given = walk.state();
+            let lent = Lent { form: &walk.form_bytes, sheet: &walk.sheet_bytes, items: &walk.items, state: &given };
+            let items = records(&walk.items);
+            let node = rng.below(walk.form.nodes.len());
+            if !items.is_empty() {
+                compared.lent(&lent, &Call::Remove(rng.below(items.len())));
+            }
+            if walk.form.nodes[node].kind == FLAG {
+                compared.lent(&lent, &Call::TakeFlag(node));
+            }
+            if walk.form.nodes[node].kind <= ARGUMENT {
+                let place = walk.first_match(node);
+                let theirs = place.map_or(Answer::default(), |p| Answer { found: 1, first: p as u32, ..Answer::default() });
+                compared.found(&lent, &items, node, theirs);
+            }
+        }
+    }
+    compared
+}
