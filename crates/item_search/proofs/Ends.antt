@@ -6,7 +6,7 @@ use mathlib.Core.Path.{_≡_, refl, sym, ap, _∙_}
 use Prim.Native.Nat.{ℕ, _+_, _-_, _≤_, _<_}
 use native.Mathlib.Omega.{arith}
 use lib.Dec.{eqb}
-use lib.ListN.{length, getD}
+use lib.ListN.{length, getD, replicate}
 use borrow.Author.Tests.{eq-eqb, ne-eqb, lt-leb, le-leb, lt-ltb, le-ltb, not-true, not-false}
 use Rattle.utf8.specs.Utf8.{if_then_else_}
 use Rattle.wire.specs.Wire.{areaStart}
@@ -30,7 +30,7 @@ use Rattle.named.specs.Codes.{Checked, Coded, namedAt}
 use Rattle.named.specs.Search.{HasNames, HasItem}
 use Rattle.reader.proofs.Checks.{check-accepted, form-passed}
 use Rattle.table.proofs.Laws.{area-length}
-use Rattle.form_calls.specs.Keys.{Keyed}
+use Rattle.form_calls.specs.Keys.{noKey, Keyed}
 use Rattle.form_calls.specs.declared.Key.{Key}
 use Rattle.form_calls.proofs.Tests.{accepted-names}
 use Rattle.answers.specs.Answers.{coded, answerWith, placeOrNone, plainAnswer}
@@ -38,7 +38,7 @@ use Rattle.answers.specs.declared.Answer.{Answer}
 use Rattle.item_search.specs.declared.ItemRecord.{ItemRecord}
 use Rattle.item_search.specs.declared.Search.{Search}
 use Rattle.item_search.specs.Records.{wordsOf}
-use Rattle.item_search.specs.Scan.{Stopped, Started, Able, reached, Reaches, marked, sought, turned, placeFrom, ended, Finishes}
+use Rattle.item_search.specs.Scan.{stoppedAt, Started, Able, reached, Reaches, marked, sought, turned, placeFrom, ended, Finishes}
 
 -- ---- `is_reached`
 
@@ -74,8 +74,15 @@ module _ (s : Raw) (i a : ℕ) (ea : a ≡ s .start) where
 
 -- ---- `started`
 
+abbrev stoppedWith : ℕ → ℕ → List ℕ → Search
+stoppedWith n k l = record { number = n; place = k; area = 0; key = noKey; codes = l }
+
+pub stopped-with : (n k : ℕ) (l : List ℕ) → l ≡ replicate 128 0
+    → stoppedWith n k l ≡ stoppedAt n k
+stopped-with n k l e = ap (λ (c : List ℕ). stoppedWith n k c) e
+
 module _ (form sheet : List ℕ) (k : ℕ) (r : Refused) (e : r ≡ checkCode (checkForm form)) where
-  pub start-form : (r .number ≡ 0 → ⊥) → (g : Search) → Stopped (r .number) (r .place) g → Started form sheet k g
+  pub start-form : (r .number ≡ 0 → ⊥) → (g : Search) → g ≡ stoppedAt (r .number) (r .place) → Started form sheet k g
   unfolding formIn _>>=_
   start-form z g t = go (checkForm form) refl
     where
@@ -84,12 +91,12 @@ module _ (form sheet : List ℕ) (k : ℕ) (r : Refused) (e : r ≡ checkCode (c
       go (refusedAt n p) h =
           let same : r ≡ record { number = n; place = placeCode p } = e ∙ ap checkCode h in
           record {
-            good = λ w. absurd (z (sym (t .number) ∙ w));
+            good = λ w. absurd (z (sym (ap (λ (y : Search). y .number) t) ∙ w));
             bad = λ _. record {
               refusal = record { number = n; place = p; missing = [] };
               same = rw (h, formIn) refl;
-              number = t .number ∙ ap (λ (y : Refused). y .number) same;
-              place = t .place ∙ ap (λ (y : Refused). y .place) same;
+              number = ap (λ (y : Search). y .number) t ∙ ap (λ (y : Refused). y .number) same;
+              place = ap (λ (y : Search). y .place) t ∙ ap (λ (y : Refused). y .place) same;
             };
           }
 
@@ -101,15 +108,15 @@ module _ (form sheet : List ℕ) (k : ℕ) (r : Refused) (e : r ≡ checkCode (c
     start-checked = accepted-names form (start-accepted .0) (start-accepted .1)
 
     module _ (f : ℕ) (ef : f ≡ sheetFault sheet) where
-      pub start-sheet : (f ≡ 0 → ⊥) → (g : Search) → Stopped f 0 g → Started form sheet k g
+      pub start-sheet : (f ≡ 0 → ⊥) → (g : Search) → g ≡ stoppedAt f 0 → Started form sheet k g
       unfolding sheetIn refuse if_then_else_
       start-sheet n g t = record {
-        good = λ w. absurd (n (sym (t .number) ∙ w));
+        good = λ w. absurd (n (sym (ap (λ (y : Search). y .number) t) ∙ w));
         bad = λ _. record {
           refusal = refuse f;
           same = form-passed form (start-accepted .0) (λ _. sheetIn sheet) (start-accepted .1) ∙ rw (← ef, ne-eqb f 0 n);
-          number = t .number;
-          place = t .place;
+          number = ap (λ (y : Search). y .number) t;
+          place = ap (λ (y : Search). y .place) t;
         };
       }
 

@@ -5,7 +5,7 @@ use mathlib.Core.Option.{Option, some, none}
 use mathlib.Core.Path.{_≡_}
 use Prim.Native.Nat.{ℕ, suc, _+_, _-_, _≤_, _<_}
 use lib.Dec.{eqb, leb, ltb}
-use lib.ListN.{length}
+use lib.ListN.{length, replicate}
 use Rattle.utf8.specs.Utf8.{if_then_else_}
 use Rattle.rules.specs.Outcome.{Outcome, ok, refused, refuse, Refusal, _>>=_}
 use Rattle.rules.specs.Codes.{placeCode}
@@ -17,7 +17,7 @@ use Rattle.rules.specs.Take.{matchesArg}
 use Rattle.rules.specs.Calls.{formIn, sheetIn, itemFrom, stateIn}
 use Rattle.rules.specs.declared.State.{State as Raw}
 use Rattle.named.specs.Search.{HasNames}
-use Rattle.form_calls.specs.Keys.{keyNames, KeyAt}
+use Rattle.form_calls.specs.Keys.{keyNames, noKey, KeyAt}
 use Rattle.answers.specs.Answers.{coded, answerWith, placeOrNone, plainAnswer}
 use Rattle.answers.specs.declared.Answer.{Answer}
 use Rattle.item_search.specs.Records.{wordsOf}
@@ -25,9 +25,8 @@ use Rattle.item_search.specs.declared.ItemRecord.{ItemRecord}
 use Rattle.item_search.specs.declared.Search.{Search}
 
 -- ---- the start: 1 to 4, then 6 and 5
-pub record Stopped (n k : ℕ) (g : Search) : Type 0 where
-  pub number : g .number ≡ n
-  pub place : g .place ≡ k
+abbrev pub stoppedAt : ℕ → ℕ → Search
+stoppedAt n k = record { number = n; place = k; area = 0; key = noKey; codes = replicate 128 0 }
 
 pub record Refuses (form sheet : List ℕ) (g : Search) : Type 0 where
   pub refusal : Refusal

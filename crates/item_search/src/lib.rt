@@ -7,7 +7,7 @@ ghost use Prim.Native.Nat.{_+_, _≤_};
 ghost use lib.ListN.{replicate};
 ghost use Rattle.answers.specs.Answers.{coded, placeOrNone, answerWith, plainAnswer};
 ghost use Rattle.item_search.specs.Records.{wordsOf, callFind};
-ghost use Rattle.item_search.specs.Scan.{Stopped, Started, Reaches, Able, turned, Finishes};
+ghost use Rattle.item_search.specs.Scan.{stoppedAt, Started, Reaches, Able, turned, Finishes};
 use answers::Answer;
 use form_calls::Key;
 use rules::State;
@@ -61,7 +61,7 @@ fn no_codes() -> [u32; 128]
 
 // Refused before the records.
 fn stopped(number: u32, place: u32) -> Search
-    ensures { λ r. ⌜ Stopped number place r ⌝ }
+    ensures { λ r. ⌜ r ≡ stoppedAt number place ⌝ }
 {
     let key = Key {
         kind: 0,
