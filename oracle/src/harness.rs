@@ -661,37 +661,35 @@ fn adjacent(form: &Form, node: usize) -> bool {
     node.kind == ARGUMENT && node.r % 2 == 1
 }
 
-/// A form of nine fields, out of bpaf's own parsers and built once, for measuring: a limit, six cradles, a label, parts.
-pub struct Wear {
-    limit: Box<dyn Parser<Option<u32>>>,
-    cradles: Vec<Box<dyn Parser<bool>>>,
-    label: Box<dyn Parser<OsString>>,
-    parts: Box<dyn Parser<Vec<OsString>>>,
+/// The letters that bpaf collects for the parsers of a line, once, before any line is read.
+pub struct Letters {
+    flags: Vec<char>,
+    args: Vec<char>,
 }
 
-impl Wear {
-    pub fn new() -> Wear {
-        let within = |n: &u32| (1..=9999).contains(n);
-        let limit = crate::short('l').long("limit").argument::<u32>("LIMIT").guard(within, "a limit").optional();
-        Wear {
-            limit: Box::new(limit),
-            cradles: ('1'..='6').map(|c| Box::new(crate::short(c).switch()) as Box<dyn Parser<bool>>).collect(),
-            label: Box::new(positional::<OsString>("LABEL")),
-            parts: Box::new(positional::<OsString>("PART").many()),
-        }
+impl Letters {
+    pub fn of(fields: &[Meta]) -> Letters {
+        let (mut flags, mut args) = (Vec::new(), Vec::new());
+        fields.iter().for_each(|meta| meta.collect_shorts(&mut flags, &mut args));
+        Letters { flags, args }
     }
+}
 
-    /// `construct`, each field's `eval` on one state, then `items_iter`: whether the line is accepted.
-    pub fn read(&self, line: &[OsString]) -> bool {
-        const FLAGS: [char; 6] = ['1', '2', '3', '4', '5', '6'];
-        let mut err = None;
-        let mut state = State::construct(Args::from(line), &FLAGS, &['l'], &mut err);
-        let fields = |s: &mut State| {
-            let limit = self.limit.eval(s)?;
-            let cradles = self.cradles.iter().map(|c| c.eval(s)).collect::<Result<Vec<bool>, Error>>()?;
-            Ok::<_, Error>((limit, cradles, self.label.eval(s)?, self.parts.eval(s)?))
-        };
-        let read = std::hint::black_box(fields(&mut state));
-        err.is_none() && read.is_ok() && state.items_iter().next().is_none()
+/// A line read by bpaf's own parsers, with nothing of this harness between them, for measuring: `construct`, what `fields`
+/// evaluates on the state, then `items_iter`.
+pub fn read<T>(
+    line: &[OsString],
+    letters: &Letters,
+    fields: impl Fn(&mut State) -> Result<T, Error>,
+) -> Result<T, Refusal> {
+    let mut err = None;
+    let mut state = State::construct(Args::from(line), &letters.flags, &letters.args, &mut err);
+    if let Some(message) = err {
+        return Err(refusal(&message));
+    }
+    let values = fields(&mut state).map_err(|Error(message)| refusal(&message))?;
+    match state.items_iter().next() {
+        Some((place, _)) => Err(Refusal::at(27, place)),
+        None => Ok(values),
     }
 }

@@ -21,7 +21,6 @@ use std::process::ExitCode;
 const USAGE: &str = "\
 oracle compare LAYER [SEED COUNT]  the proved code against the Rust, in this process: utf8, checks, forged, forged-lent,
                                    forged-eval, and live: split, calls, lent, eval, run
-oracle measure LAYER               what the proved code costs: checks, split, run
 oracle read FORM [ARGUMENT..]      a command line read under a form: items and values, by the proved code
 oracle split FORM [ARGUMENT..]     a command line split into items, by the proved code
 oracle utf8 [ARGUMENT..]           each argument's characters, by the proved code
@@ -54,7 +53,6 @@ fn main() -> ExitCode {
     let first = words.first().map_or("", String::as_str);
     let good = match first {
         "compare" if words.len() >= 2 => compare(&words),
-        "measure" if words.len() == 2 => compare::measure(&words[1]),
         "utf8" => compare::show_arguments(),
         "read" if words.len() >= 2 => compare::show_run(&words[1]),
         "split" if words.len() >= 2 => compare::show_split(&words[1]),

@@ -1,3 +1,4 @@
 pub mod Sheets
 pub mod States
 pub mod Lines
+pub mod Plain

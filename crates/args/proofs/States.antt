@@ -17,7 +17,7 @@ use Rattle.rules.specs.Run.{parsedMark, padded}
 use Rattle.rules.specs.Calls.{toRaw}
 use Rattle.rules.specs.declared.State.{State as Raw}
 use Rattle.args.specs.declared.Ended.{Ended}
-use Rattle.args.specs.Construct.{rawOf, Given, Cleared, Ends, Constructs}
+use Rattle.args.specs.Construct.{rawOf, Unmarked, Given, Cleared, Ends}
 
 write-set : (l : List ℕ) (i x : ℕ) → i < length l → write l i x ≡ some (set l i x)
 unfolding write
@@ -136,11 +136,11 @@ all-zero o n e =
 pub fill-long : (q p : List ℕ) (i k : ℕ) → q ≡ sets p i (replicate k 0) → length q ≡ length p
 fill-long q p i k e = ap length e ∙ length-sets p i (replicate k 0)
 
--- ---- `state_of`
-module _ (n m : ℕ) (marks : List ℕ) (e : marks ≡ replicate 256 0) where
+-- ---- `begin`
+module _ (n m : ℕ) (marks : List ℕ) (u : Unmarked marks) where
   pub no-marker : m ≡ 0 → _≡_ {A = Raw} (record { marks = marks; count = n; remaining = n; current = 0; start = 0; end = n }) (rawOf n m)
   unfolding rawOf
-  no-marker h = rw (h, e)
+  no-marker h = rw (h, u .zeros)
 
   pub one-marker :
       (m ≡ 0 → ⊥)
@@ -150,7 +150,7 @@ module _ (n m : ℕ) (marks : List ℕ) (e : marks ≡ replicate 256 0) where
     where
       go : (m : ℕ) → (m ≡ 0 → ⊥) → _≡_ {A = Raw} (record { marks = set marks (m - 1) 1; count = n; remaining = n - 1; current = 0; start = 0; end = n }) (rawOf n m)
       go zero h = absurd (h refl)
-      go (suc i) h = let back : suc i - 1 ≡ i = omega arith in rw (e, back)
+      go (suc i) h = let back : suc i - 1 ≡ i = omega arith in rw (u .zeros, back)
 
 -- ---- `construct`
 pub cleared : (s o p : List ℕ) → Given s o → p ≡ sets o 0 (replicate (length o) 0) → Cleared s p
@@ -163,17 +163,16 @@ cleared s o p g e =
     }
 
 pub constructs :
-    (l : Letters) (s o p q : List ℕ) (r : Ended) (state : Raw)
+    (l : Letters) (s o p q : List ℕ) (r : Ended)
     → p ≡ sets o 0 (replicate (length o) 0)
     → Ends l s (length p) q r
-    → state ≡ rawOf (r .count) (r .marker)
-    → Constructs l s (length o) q (record { number = r .number; place = r .place; count = r .count; marker = r .marker; state = state })
-constructs l s o p q r state f z e = record {
+    → Ends l s (length o) q r
+constructs l s o p q r f z = record {
   line = z .line;
   same = z .same;
   number = z .number;
   place = z .place;
   words = z .words ∙ ap (λ (n : ℕ). padded n (z .line .records)) (fill-long p o 0 (length o) f);
-  state = e ∙ z .state;
-  counted = e;
+  marked = z .marked;
+  state = z .state;
 }

@@ -1,21 +1,21 @@
 -- What `construct` and its parts leave: the line of a sheet, its records in the item slice, and its state.
 use mathlib.Core.Path.{_≡_}
-use mathlib.Core.Bool.{Bool}
+use mathlib.Core.Bool.{Bool, true, not, _||_}
 use mathlib.Core.List.{List, [], _∷_}
 use mathlib.Core.Option.{Option, some, none}
 use Prim.Native.Nat.{ℕ, zero, suc, _+_, _-_, _≤_}
+use lib.Dec.{eqb}
 use lib.ListN.{length, set, replicate}
 use Rattle.utf8.specs.Utf8.{if_then_else_}
 use Rattle.rules.specs.Outcome.{Outcome, ok, _>>=_, Refusal}
 use Rattle.rules.specs.Sheet.{sheetFault, arguments}
 use Rattle.rules.specs.Accept.{Letters}
-use Rattle.rules.specs.Split.{PosWord, Group, plain, splitArgument, splitFrom}
+use Rattle.rules.specs.Split.{dash, PosWord, Group, plain, splitArgument, splitFrom}
 use Rattle.rules.specs.Run.{Line, lineOf, padded}
 use Rattle.rules.specs.Calls.{toRaw}
 use Rattle.rules.specs.Codes.{placeCode}
 use Rattle.rules.specs.declared.State.{State}
 use Rattle.args.specs.declared.Ended.{Ended}
-use Rattle.args.specs.declared.Split.{Split}
 
 -- the group of an argument, where the first `--` was seen at a place (plus 1) or not
 unfoldable pub groupAt : Letters → ℕ → List ℕ → Outcome Group
@@ -24,6 +24,13 @@ groupAt l (suc i) os = ok (plain (PosWord os ∷ []))
 
 abbrev pub markerAfter : ℕ → Bool → ℕ → ℕ
 markerAfter marker first at = if first then at + 1 else marker
+
+-- an argument that is no cluster, so that no letter of it is looked up: a cluster has three bytes or more, and one dash
+unfoldable pub plainArgument : List ℕ → Bool
+plainArgument [] = true
+plainArgument (a ∷ []) = true
+plainArgument (a ∷ b ∷ []) = true
+plainArgument (a ∷ b ∷ c ∷ s) = not (eqb a dash) || eqb b dash
 
 -- the state of n items, all unparsed but for the first `--`
 unfoldable pub rawOf : ℕ → ℕ → State
@@ -34,6 +41,10 @@ rawOf n (suc i) = record { marks = set (replicate 256 0) i 1; count = n; remaini
 pub record Marked (n marker : ℕ) : Type 0 where
   pub few : n ≤ 256
   pub within : marker ≤ n
+
+-- marks of which none is set
+pub record Unmarked (m : List ℕ) : Type 0 where
+  pub zeros : m ≡ replicate 256 0
 
 -- a sheet that was checked, and room for 256 records
 pub record Given (sheet items : List ℕ) : Type 0 where
@@ -64,12 +75,3 @@ pub record Ends (l : Letters) (sheet : List ℕ) (n : ℕ) (items : List ℕ) (r
   pub words : items ≡ padded n (line .records)
   pub marked : Marked (r .count) (r .marker)
   pub state : rawOf (r .count) (r .marker) ≡ toRaw (line .state)
-
-pub record Constructs (l : Letters) (sheet : List ℕ) (n : ℕ) (items : List ℕ) (r : Split) : Type 0 where
-  pub line : Line
-  pub same : lineFor l sheet ≡ ok line
-  pub number : r .number ≡ refusalNumber (line .refusal)
-  pub place : r .place ≡ refusalPlace (line .refusal)
-  pub words : items ≡ padded n (line .records)
-  pub state : r .state ≡ toRaw (line .state)
-  pub counted : r .state ≡ rawOf (r .count) (r .marker)

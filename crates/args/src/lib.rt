@@ -1,12 +1,17 @@
 // From the arguments of a sheet to items and a state: the Rust's `construct`.
 ghost use mathlib.Core.Path.{_≡_};
 ghost use Prim.Native.Nat.{_≤_};
-ghost use lib.ListN.{length, replicate};
+ghost use lib.ListN.{length};
+ghost use Rattle.rules.specs.Base.{all};
+ghost use Rattle.rules.specs.Sheet.{sheetFault, arguments};
 ghost use Rattle.arg.specs.Clusters.{letters};
 ghost use Rattle.groups.specs.Groups.{Fits, Makes};
-ghost use Rattle.args.specs.Construct.{groupAt, markerAfter, rawOf, Marked, Given, Cleared, Ends, Constructs};
+ghost use Rattle.state.specs.Lent.{rawOf as joined};
+ghost use Rattle.args.specs.Construct.{groupAt, markerAfter, plainArgument, rawOf};
+ghost use Rattle.args.specs.Construct.{Marked, Unmarked, Given, Cleared, Ends};
 use groups::Group;
 use rules::State;
+use state::Numbers;
 
 // How splitting ended: 0, 8 or 9; the place of 9 plus 1; how many items there are; the place of the first `--` plus 1. A place
 // is 0 for none.
@@ -15,15 +20,6 @@ pub struct Ended {
     pub place: u32,
     pub count: u32,
     pub marker: u32,
-}
-
-// The same, with the state that the items start in.
-pub struct Split {
-    pub number: u32,
-    pub place: u32,
-    pub count: u32,
-    pub marker: u32,
-    pub state: State,
 }
 
 // The items of the next argument: behind the first `--` all is PosWord.
@@ -96,21 +92,52 @@ fn split_arguments(sheet: &[u8], flags: &[u32], arguments: &[u32], items: &mut [
     }
 }
 
-fn unparsed() -> [u16; 256]
-    ensures { λ r. ⌜ r ≡ replicate 256 0 ⌝ }
+// The items of a sheet. What the state starts as is told by their count and by the place of the first `--`.
+pub fn construct(sheet: &[u8], flags: &[u32], arguments: &[u32], items: &mut [u32]) -> Ended
+    requires { ⌜ Given (now sheet) (now items) ⌝ }
+    ensures { λ r. ⌜ Ends (letters (now (flags .entry)) (now (arguments .entry))) (now (sheet .entry)) (length (now (items .entry))) (now (items .exit)) r ⌝ }
 {
-    [0u16; 256]
+    wire::fill(items, 0, items.len(), 0);
+    split_arguments(sheet, flags, arguments, items)
 }
 
-// The state after splitting: all unparsed but for the first `--`.
-fn state_of(count: u32, marker: u32) -> State
-    requires { ⌜ Marked count marker ⌝ }
-    ensures { λ r. ⌜ r ≡ rawOf count marker ⌝ }
+// Whether an argument is no cluster: that has three bytes or more, and one dash.
+fn is_plain(os: &[u8]) -> bool
+    ensures { λ r. ⌜ r ≡ plainArgument (now (os .entry)) ⌝ }
 {
-    let mut marks = unparsed();
+    if os.len() < 3 {
+        return true;
+    }
+    if os[0] != b'-' {
+        return true;
+    }
+    os[1] == b'-'
+}
+
+// Whether splitting looks no letter up, so that it comes to the same under any letters.
+pub fn all_plain(sheet: &[u8]) -> bool
+    requires { ⌜ sheetFault (now sheet) ≡ 0 ⌝ }
+    ensures { λ r. ⌜ r ≡ all plainArgument (arguments (now (sheet .entry))) ⌝ }
+{
+    let n = wire::u16_at(sheet, 0) as usize;
+    let mut k = 0;
+    while k < n {
+        let os = wire::entry(sheet, 2, n, k);
+        if !is_plain(os) {
+            return false;
+        }
+        k += 1;
+    }
+    true
+}
+
+// The state after splitting, over marks that are 0: all unparsed but for the first `--`.
+pub fn begin(count: u32, marker: u32, marks: &mut [u16; 256]) -> Numbers
+    requires { ⌜ Marked count marker × Unmarked (now marks) ⌝ }
+    ensures { λ r. ⌜ joined (now (marks .exit)) r ≡ rawOf count marker ⌝ }
+{
     if marker == 0 {
-        return State {
-            marks,
+        return Numbers {
             count,
             remaining: count,
             current: 0,
@@ -119,8 +146,7 @@ fn state_of(count: u32, marker: u32) -> State
         };
     }
     marks[(marker - 1) as usize] = 1;
-    State {
-        marks,
+    Numbers {
         count,
         remaining: count - 1,
         current: 0,
@@ -129,18 +155,25 @@ fn state_of(count: u32, marker: u32) -> State
     }
 }
 
-pub fn construct(sheet: &[u8], flags: &[u32], arguments: &[u32], items: &mut [u32]) -> Split
-    requires { ⌜ Given (now sheet) (now items) ⌝ }
-    ensures { λ r. ⌜ Constructs (letters (now (flags .entry)) (now (arguments .entry))) (now (sheet .entry)) (length (now (items .entry))) (now (items .exit)) r ⌝ }
+pub fn unmarked() -> [u16; 256]
+    ensures { λ r. ⌜ Unmarked r ⌝ }
 {
-    wire::fill(items, 0, items.len(), 0);
-    let ended = split_arguments(sheet, flags, arguments, items);
-    let state = state_of(ended.count, ended.marker);
-    Split {
-        number: ended.number,
-        place: ended.place,
-        count: ended.count,
-        marker: ended.marker,
-        state,
+    [0u16; 256]
+}
+
+// The same state by value.
+pub fn state_of(count: u32, marker: u32) -> State
+    requires { ⌜ Marked count marker ⌝ }
+    ensures { λ r. ⌜ r ≡ rawOf count marker ⌝ }
+{
+    let mut marks = unmarked();
+    let p = begin(count, marker, &mut marks);
+    State {
+        marks,
+        count: p.count,
+        remaining: p.remaining,
+        current: p.current,
+        start: p.start,
+        end: p.end,
     }
 }

@@ -1,5 +1,5 @@
 -- What a node hands to its children: the trees below it are sound, light and no lists.
-use mathlib.Core.Bool.{Bool, true, false≢true}
+use mathlib.Core.Bool.{Bool, true, false, false≢true}
 use mathlib.Core.List.{List}
 use mathlib.Core.Option.{Option, some, none, Option·some-injective}
 use mathlib.Core.Path.{_≡_, refl, sym, _∙_, ap, subst}
@@ -14,21 +14,26 @@ use Rattle.rules.specs.Form.{nodeCount, readForm}
 use Rattle.rules.specs.Sheet.{sheetArea, sheetFault}
 use Rattle.rules.specs.Tree as rules
 use Rattle.rules.specs.Tree.{Tree, Flag, Argument, Positional, Optional, Count, Last, Choice, Fallback, Guard, optionalKind, listKind, countKind, lastKind, shapeOf, kindOf, positionOf}
+use Rattle.rules.specs.Split.{Item}
+use Rattle.rules.specs.State.{parsed}
+use Rattle.rules.specs.Take.{matchesArg, isOperand}
 use Rattle.rules.specs.Accept.{lengthGood}
 use Rattle.rules.specs.Demands.{Sound, leaves, isNamed, wellBuilt}
 use Rattle.rules.proofs.KindLaws.{choice-kind, base-kind}
-use Rattle.rules.proofs.Acceptance.{accepted-passed, good-no-fault}
 use Rattle.layout.specs.Layout.{nodeOf}
 use Rattle.layout.specs.declared.Node.{Node}
+use Rattle.layout.proofs.Sizes.{sized}
 use Rattle.state.specs.declared.Numbers.{Numbers}
+use Rattle.state.specs.Lent.{Fine}
 use Rattle.named.specs.Codes.{namedAt}
+use Rattle.known.specs.Known.{Says as Tells, isNamed as isNamedNode, isAdjacent, nodeMatches}
 use Rattle.take.specs.Takes as takes
+use Rattle.take.specs.Takes.{Skips}
 use Rattle.outcome.specs.declared.Ran.{Ran}
 use Rattle.outcome.specs.Told.{Evaluates}
 use Rattle.outcome.specs.Nodes.{treeAt, isScalar, Standing, Scalar}
-use Rattle.outcome.proofs.NodeLaw.{tree-accepted}
-use Rattle.params.specs.Leaves.{Named}
-use Rattle.eval.specs.Cycle.{Wraps, Wrapped, Falls, Both}
+use Rattle.params.specs.Leaves as params
+use Rattle.eval.specs.Cycle.{Wraps, Wrapped, Falls, Both, Hint}
 use Rattle.eval.proofs.Trees.{Leaf, Single, Fallen, Double, form-good, node-inside, sound-at, flag-tree, argument-tree, positional-tree, optional-tree, count-tree, last-tree, choice-tree, fallback-tree, other-tree}
 
 -- ---- kinds of children
@@ -102,21 +107,21 @@ abbrev pub Says : List ℕ → List ℕ → List ℕ → List ℕ → Numbers �
 Says b s words m p mark n m′ r = (t : Tree) → treeAt b n ≡ some t → Evaluates mark (sheetArea s) words t m p m′ r
 
 -- ---- a node, and what its numbers say
-module _ (b codes s words m : List ℕ) (p : Numbers) (mark n : ℕ) (z : Scalar b codes s words m p mark n) where
+module _ (b known s words m : List ℕ) (p : Numbers) (mark n : ℕ) (z : Scalar b known s words m p mark n) where
   pub form-long : lengthGood b ≡ true
   form-long = form-good b n (z .stands .tree) (z .stands .node)
 
   pub node-below : n < nodeCount b
   node-below = node-inside b n (z .stands .tree) (z .stands .node)
 
-  abbrev standing : (i : ℕ) (c : Tree) → treeAt b i ≡ some c → leaves c ≤ 64 → Standing b codes s words m p mark i
+  abbrev standing : (i : ℕ) (c : Tree) → treeAt b i ≡ some c → leaves c ≤ 64 → Standing b known s words m p mark i
   standing i c e l = record {
     tree = c;
     node = e;
     light = l;
-    coded = z .stands .coded;
     made = z .stands .made;
     state = z .stands .state;
+    knows = z .stands .knows;
   }
 
   -- the node has one tree
@@ -136,7 +141,7 @@ module _ (b codes s words m : List ℕ) (p : Numbers) (mark n : ℕ) (z : Scalar
     made-sound : Sound (make (q .child))
     made-sound = subst Sound (sym (q .same)) sound
 
-    abbrev child-scalar : Scalar b codes s words m p mark i
+    abbrev child-scalar : Scalar b known s words m p mark i
     child-scalar =
         let l : leaves (q .child) ≡ leaves (z .stands .tree) = sym (o .light (q .child)) ∙ ap leaves (q .same) in
         let k = z .stands .light in
@@ -145,7 +150,7 @@ module _ (b codes s words m : List ℕ) (p : Numbers) (mark n : ℕ) (z : Scalar
           scalar = o .scalar (q .child) made-sound (subst (λ (t : Tree). isScalar (kindOf t) ≡ true) (sym (q .same)) (z .scalar));
         }
 
-    child-wraps : Wraps make b codes s words m p mark i
+    child-wraps : Wraps make b known s words m p mark i
     child-wraps = record { below = child-scalar; sound = made-sound }
 
     child-says : (m′ : List ℕ) (r : Ran) → Wrapped make mark b s words i m p m′ r → Says b s words m p mark n m′ r
@@ -153,51 +158,116 @@ module _ (b codes s words m : List ℕ) (p : Numbers) (mark n : ℕ) (z : Scalar
 
   module _ (x : Node) (h : getElem? (readForm b .nodes) n ≡ some (nodeOf x)) where
     -- ---- leaves
+    -- the node is told by the table of `known`
+    pub leaf-reaches : takes.Reaches known p n
+    leaf-reaches =
+        let inside = z .stands .state .fine .inside in
+        let same = z .stands .state .same in
+        let long = z .stands .knows .long in
+        let few = sized b form-long .counts .nodes in
+        let below = node-below in
+        record { low = omega arith; long = omega arith }
+
+    node-says : (test : Item → Bool) → ((i : Item) → nodeMatches b (nodeOf x) i ≡ test i)
+        → Tells known (p .end) n (sheetArea s) words test
+    node-says test same i y l e =
+        let inside = z .stands .state .fine .inside in
+        let many = z .stands .state .same in
+        z .stands .knows .at i y (omega arith) e n (nodeOf x) h ∙ same y
+
     named-leaf :
-        (make : ℕ → rules.Named → Tree)
+        (make : ℕ → rules.Named → Tree) (adjacent : Bool)
         → ((k : ℕ) (d : rules.Named) → wellBuilt (make k d) ≡ isNamed d)
+        → ((i : Item) → nodeMatches b (nodeOf x) i ≡ matchesArg (namedAt b (x .p) (x .q)) adjacent i)
         → Leaf make b (x .p) (x .q) (z .stands .tree)
-        → Named b codes s words m p (x .p) (x .q) mark
-    named-leaf make built q =
-        let a = tree-accepted b n (z .stands .tree) (z .stands .node) in
-        record {
-          names = record {
-            checked = record { good = form-long; names = good-no-fault _ 0 _ (accepted-passed b (a .0) (a .1) .names) };
-            coded = z .stands .coded;
-            inside = q .inside;
-          };
-          made = z .stands .made;
-          state = z .stands .state;
-          named = sym (built (q .place) (namedAt b (x .p) (x .q))) ∙ ap wellBuilt (q .same) ∙ sound .built;
-        }
+        → params.Leaf known (sheetArea s) words m p n mark (namedAt b (x .p) (x .q)) adjacent
+    named-leaf make adjacent built same q = record {
+      state = z .stands .state;
+      says = node-says (matchesArg (namedAt b (x .p) (x .q)) adjacent) same;
+      named = sym (built (q .place) (namedAt b (x .p) (x .q))) ∙ ap wellBuilt (q .same) ∙ sound .built;
+    }
 
-    pub flag-ready : x .kind ≡ 1 → Named b codes s words m p (x .p) (x .q) mark
-    unfolding wellBuilt
-    flag-ready k = named-leaf _ (λ i d. refl) (flag-tree b n (z .stands .tree) (z .stands .node) (nodeOf x) h k)
+    flag-leaf : x .kind ≡ 1 → params.Leaf known (sheetArea s) words m p n mark (namedAt b (x .p) (x .q)) false
+    unfolding wellBuilt nodeMatches isNamedNode isAdjacent
+    flag-leaf k = named-leaf _ false (λ i d. refl) (λ i. rw k) (flag-tree b n (z .stands .tree) (z .stands .node) (nodeOf x) h k)
 
-    pub argument-ready : x .kind ≡ 2 → Named b codes s words m p (x .p) (x .q) mark
-    unfolding wellBuilt
-    argument-ready k = named-leaf _ (λ i d. refl) (argument-tree b n (z .stands .tree) (z .stands .node) (nodeOf x) h k)
+    argument-leaf : x .kind ≡ 2 → params.Leaf known (sheetArea s) words m p n mark (namedAt b (x .p) (x .q)) (eqb (x .r % 2) 1)
+    unfolding wellBuilt nodeMatches isNamedNode isAdjacent
+    argument-leaf k =
+        named-leaf _ (eqb (x .r % 2) 1) (λ i d. refl) (λ i. rw k) (argument-tree b n (z .stands .tree) (z .stands .node) (nodeOf x) h k)
+
+    pub flag-ready : Fine m p × (parsed mark ≡ true) × takes.Reaches known p n
+    flag-ready = (z .stands .state .fine, z .stands .state .told, leaf-reaches)
+
+    pub argument-ready : x .kind ≡ 2
+        → (sheetFault s ≡ 0) × takes.Reaches known p n × ((names : rules.Named) × (adjacent : Bool) × params.Leaf known (sheetArea s) words m p n mark names adjacent)
+    argument-ready k = (z .stands .made, leaf-reaches, (_, _, argument-leaf k))
 
     pub positional-ready : (sheetFault s ≡ 0) × takes.Ready (sheetArea s) words m p mark
     positional-ready = (z .stands .made, z .stands .state)
 
+    -- where a leaf may search from
+    module _ (from : ℕ) (k : Hint (z .stands .tree) (sheetArea s) words m p from) where
+      hint-of : {t : Tree} → t ≡ z .stands .tree → Hint t (sheetArea s) words m p from
+      hint-of e = subst (λ (t : Tree). Hint t (sheetArea s) words m p from) (sym e) k
+
+      pub flag-skips : x .kind ≡ 1 → Skips (sheetArea s) words (matchesArg (namedAt b (x .p) (x .q)) false) m p from
+      flag-skips e = hint-of (flag-tree b n (z .stands .tree) (z .stands .node) (nodeOf x) h e .same)
+
+      pub argument-skips : x .kind ≡ 2 → Skips (sheetArea s) words (matchesArg (namedAt b (x .p) (x .q)) (eqb (x .r % 2) 1)) m p from
+      argument-skips e = hint-of (argument-tree b n (z .stands .tree) (z .stands .node) (nodeOf x) h e .same)
+
+      pub argument-turn : x .kind ≡ 2
+          → (sheetFault s ≡ 0) × takes.Reaches known p n
+          × ((names : rules.Named) × (adjacent : Bool) × params.Leaf known (sheetArea s) words m p n mark names adjacent
+          × Skips (sheetArea s) words (matchesArg names adjacent) m p from)
+      argument-turn e = (z .stands .made, leaf-reaches, (_, _, argument-leaf e, argument-skips e))
+
+      pub positional-skips : x .kind ≡ 3 → Skips (sheetArea s) words isOperand m p from
+      positional-skips e = hint-of (positional-tree b n (z .stands .tree) (z .stands .node) (nodeOf x) h e .1)
+
     module _ (m′ : List ℕ) (r : Ran) where
-      pub flag-says :
-          x .kind ≡ 1
+      flag-says : x .kind ≡ 1
           → ((k : ℕ) → Evaluates mark (sheetArea s) words (Flag k (namedAt b (x .p) (x .q)) (eqb (x .r) 1)) m p m′ r)
           → Says b s words m p mark n m′ r
       flag-says k f =
           let q = flag-tree b n (z .stands .tree) (z .stands .node) (nodeOf x) h k in
           says m′ r (q .same) (f (q .place))
 
-      pub argument-says :
-          x .kind ≡ 2
+      argument-says : x .kind ≡ 2
           → ((k : ℕ) → Evaluates mark (sheetArea s) words (Argument k (namedAt b (x .p) (x .q)) (if leb 2 (x .r) then number else text) (eqb (x .r % 2) 1)) m p m′ r)
           → Says b s words m p mark n m′ r
       argument-says k f =
           let q = argument-tree b n (z .stands .tree) (z .stands .node) (nodeOf x) h k in
           says m′ r (q .same) (f (q .place))
+
+      pub flag-node : x .kind ≡ 1
+          → ((area items : List ℕ) (names : rules.Named) → params.Leaf known area items m p n mark names false
+          → (k : ℕ) → Evaluates mark area items (Flag k names (eqb (x .r) 1)) m p m′ r)
+          → Says b s words m p mark n m′ r
+      flag-node k f = flag-says k (f (sheetArea s) words (namedAt b (x .p) (x .q)) (flag-leaf k))
+
+      pub argument-node : x .kind ≡ 2
+          → ((names : rules.Named) (adjacent : Bool) → params.Leaf known (sheetArea s) words m p n mark names adjacent
+          → (k : ℕ) → Evaluates mark (sheetArea s) words (Argument k names (if leb 2 (x .r) then number else text) adjacent) m p m′ r)
+          → Says b s words m p mark n m′ r
+      argument-node k f = argument-says k (f (namedAt b (x .p) (x .q)) (eqb (x .r % 2) 1) (argument-leaf k))
+
+      module _ (from : ℕ) (hint : Hint (z .stands .tree) (sheetArea s) words m p from) where
+        pub flag-again : x .kind ≡ 1
+            → ((area items : List ℕ) (names : rules.Named) → params.Leaf known area items m p n mark names false
+            → Skips area items (matchesArg names false) m p from
+            → (k : ℕ) → Evaluates mark area items (Flag k names (eqb (x .r) 1)) m p m′ r)
+            → Says b s words m p mark n m′ r
+        flag-again k f = flag-says k (f (sheetArea s) words (namedAt b (x .p) (x .q)) (flag-leaf k) (flag-skips from hint k))
+
+        pub argument-again : x .kind ≡ 2
+            → ((names : rules.Named) (adjacent : Bool) → params.Leaf known (sheetArea s) words m p n mark names adjacent
+            → Skips (sheetArea s) words (matchesArg names adjacent) m p from
+            → (k : ℕ) → Evaluates mark (sheetArea s) words (Argument k names (if leb 2 (x .r) then number else text) adjacent) m p m′ r)
+            → Says b s words m p mark n m′ r
+        argument-again k f =
+            argument-says k (f (namedAt b (x .p) (x .q)) (eqb (x .r % 2) 1) (argument-leaf k) (argument-skips from hint k))
 
       pub positional-says :
           x .kind ≡ 3
@@ -214,7 +284,7 @@ module _ (b codes s words m : List ℕ) (p : Numbers) (mark n : ℕ) (z : Scalar
     pub optional-less : x .kind ≡ 4 → x .p < n
     optional-less k = optional-below k .less
 
-    pub optional-ready : x .kind ≡ 4 → Wraps (Optional (eqb (x .r) 1)) b codes s words m p mark (x .p)
+    pub optional-ready : x .kind ≡ 4 → Wraps (Optional (eqb (x .r) 1)) b known s words m p mark (x .p)
     optional-ready k = child-wraps _ (over-optional (eqb (x .r) 1)) (x .p) (optional-below k)
 
     pub optional-says : (m′ : List ℕ) (r : Ran) → x .kind ≡ 4 → Wrapped (Optional (eqb (x .r) 1)) mark b s words (x .p) m p m′ r → Says b s words m p mark n m′ r
@@ -226,7 +296,7 @@ module _ (b codes s words m : List ℕ) (p : Numbers) (mark n : ℕ) (z : Scalar
     pub count-less : x .kind ≡ 7 → x .p < n
     count-less k = count-below k .less
 
-    pub count-ready : x .kind ≡ 7 → Wraps Count b codes s words m p mark (x .p)
+    pub count-ready : x .kind ≡ 7 → Wraps Count b known s words m p mark (x .p)
     count-ready k = child-wraps _ over-count (x .p) (count-below k)
 
     pub count-says : (m′ : List ℕ) (r : Ran) → x .kind ≡ 7 → Wrapped Count mark b s words (x .p) m p m′ r → Says b s words m p mark n m′ r
@@ -238,7 +308,7 @@ module _ (b codes s words m : List ℕ) (p : Numbers) (mark n : ℕ) (z : Scalar
     pub last-less : x .kind ≡ 8 → x .p < n
     last-less k = last-below k .less
 
-    pub last-ready : x .kind ≡ 8 → Wraps Last b codes s words m p mark (x .p)
+    pub last-ready : x .kind ≡ 8 → Wraps Last b known s words m p mark (x .p)
     last-ready k = child-wraps _ over-last (x .p) (last-below k)
 
     pub last-says : (m′ : List ℕ) (r : Ran) → x .kind ≡ 8 → Wrapped Last mark b s words (x .p) m p m′ r → Says b s words m p mark n m′ r
@@ -261,7 +331,7 @@ module _ (b codes s words m : List ℕ) (p : Numbers) (mark n : ℕ) (z : Scalar
         pub guard-less : x .p < n
         guard-less = guard-below .less
 
-        pub guard-ready : Wraps (Guard (x .lo) (x .hi)) b codes s words m p mark (x .p)
+        pub guard-ready : Wraps (Guard (x .lo) (x .hi)) b known s words m p mark (x .p)
         guard-ready = child-wraps _ (over-guard (x .lo) (x .hi)) (x .p) guard-below
 
         pub guard-says : (m′ : List ℕ) (r : Ran) → Wrapped (Guard (x .lo) (x .hi)) mark b s words (x .p) m p m′ r → Says b s words m p mark n m′ r
@@ -274,7 +344,7 @@ module _ (b codes s words m : List ℕ) (p : Numbers) (mark n : ℕ) (z : Scalar
     pub fallback-less : x .kind ≡ 10 → x .p < n
     fallback-less k = fallback-below k .single .less
 
-    pub fallback-ready : x .kind ≡ 10 → Falls b codes s words m p mark n (x .p)
+    pub fallback-ready : x .kind ≡ 10 → Falls b known s words m p mark n (x .p)
     fallback-ready k =
         let q = fallback-below k in
         record {
@@ -292,7 +362,7 @@ module _ (b codes s words m : List ℕ) (p : Numbers) (mark n : ℕ) (z : Scalar
     pub choice-less₂ : x .kind ≡ 9 → x .q < n
     choice-less₂ k = choice-below k .less₂
 
-    pub choice-ready : x .kind ≡ 9 → Both b codes s words m p mark (x .p) (x .q)
+    pub choice-ready : x .kind ≡ 9 → Both b known s words m p mark (x .p) (x .q)
     unfolding leaves kindOf
     choice-ready k =
         let q = choice-below k in

@@ -58,14 +58,14 @@ repeated-numbered mark is t s catch stops told sound flat good =
     child u g l = went-cost (rw flat (le-refl (leaves t))) (went-weaker (le-refl 26) (λ v f. tt) (runs-went (eval-sound mark told is t sound u g)))
 
 module _
-    (b codes s ws m : List ℕ)
+    (b known s ws m : List ℕ)
     (p : Numbers)
     (mark n : ℕ)
-    (z : Scalar b codes s ws m p mark n)
+    (z : Scalar b known s ws m p mark n)
     (flat : hasRepeat (z .stands .tree) ≡ false)
   where
     -- nothing is written
-    abbrev pub repeat-asks : (o : List ℕ) (at : ℕ) → Repeating b codes s ws m p mark n false o at
+    abbrev pub repeat-asks : (o : List ℕ) (at : ℕ) → Repeating b known s ws m p mark n false o at
     repeat-asks o at = record { below = z; flat = flat; space = λ e. absurd (false≢true e) }
 
     module _
@@ -122,15 +122,15 @@ module _
           told = z .stands .state .told;
         }
 
-        abbrev pub last-ready : Scalar b codes s ws m′ (all .numbers) mark n
+        abbrev pub last-ready : Scalar b known s ws m′ (all .numbers) mark n
         last-ready = record {
           stands = record {
             tree = tree;
             node = z .stands .node;
             light = z .stands .light;
-            coded = z .stands .coded;
             made = z .stands .made;
             state = after-ready;
+            knows = z .stands .knows;
           };
           scalar = z .scalar;
         }
@@ -138,7 +138,7 @@ module _
         module _ (m″ : List ℕ) (ran : Ran) (said : Says b s ws m′ (all .numbers) mark n m″ ran) where
           pub last-fits : all .tries + ran .tries < 4294967296
           last-fits =
-              let h = child-tries b codes s ws m′ (all .numbers) mark n last-ready m″ ran said in
+              let h = child-tries b known s ws m′ (all .numbers) mark n last-ready m″ ran said in
               omega (arith, answer .cost)
 
           last-tried :
@@ -150,20 +150,20 @@ module _
           last-tried is i e c =
               last-again (eval mark is tree) (stateOf m p) (listed all m′ (answer .values)) (tells is i) (numbered is i) (answered ran m″) e
               (sym (answer .count) ∙ c)
-              (child-told b codes s ws m′ (all .numbers) mark n last-ready m″ ran said is (i .0, i .1 ∙ sym (answer .left .count)))
+              (child-told b known s ws m′ (all .numbers) mark n last-ready m″ ran said is (i .0, i .1 ∙ sym (answer .left .count)))
 
           last-left : Left m p m″ (ran .numbers)
           last-left =
-              let l = child-left b codes s ws m′ (all .numbers) mark n last-ready m″ ran said in
+              let l = child-left b known s ws m′ (all .numbers) mark n last-ready m″ ran said in
               record { count = l .count ∙ answer .left .count; long = l .long ∙ answer .left .long; fine = l .fine }
 
 -- ---- count
-module _ (b codes s ws m : List ℕ) (p : Numbers) (mark n : ℕ) (z : Wraps Count b codes s ws m p mark n) where
+module _ (b known s ws m : List ℕ) (p : Numbers) (mark n : ℕ) (z : Wraps Count b known s ws m p mark n) where
   count-flat : hasRepeat (z .below .stands .tree) ≡ false
   count-flat = sound-count (z .below .stands .tree) (z .sound) .flat
 
-  pub count-asks : (o : List ℕ) (at : ℕ) → Repeating b codes s ws m p mark n false o at
-  count-asks = repeat-asks b codes s ws m p mark n (z .below) count-flat
+  pub count-asks : (o : List ℕ) (at : ℕ) → Repeating b known s ws m p mark n false o at
+  count-asks = repeat-asks b known s ws m p mark n (z .below) count-flat
 
   module _
       (m′ o : List ℕ)
@@ -191,22 +191,22 @@ module _ (b codes s ws m : List ℕ) (p : Numbers) (mark n : ℕ) (z : Wraps Cou
       pub count-refuses : (all .number ≡ 0 → ⊥) → r ≡ refusedList all → Wrapped Count mark b s ws n m p m′ r
       count-refuses e q =
           count-wraps
-          (λ is i. rw q (count-denied b codes s ws m p mark n (z .below) count-flat m′ o at o′ all f is i e))
+          (λ is i. rw q (count-denied b known s ws m p mark n (z .below) count-flat m′ o at o′ all f is i e))
           (ap (λ (x : Ran). x .numbers) q)
 
       pub count-ends : all .number ≡ 0 → r ≡ countedValues all → Wrapped Count mark b s ws n m p m′ r
       count-ends e q =
           count-wraps
-          (λ is i. rw q (count-counted b codes s ws m p mark n (z .below) count-flat m′ o at o′ all f is i e))
+          (λ is i. rw q (count-counted b known s ws m p mark n (z .below) count-flat m′ o at o′ all f is i e))
           (ap (λ (x : Ran). x .numbers) q)
 
 -- ---- last
-module _ (b codes s ws m : List ℕ) (p : Numbers) (mark n : ℕ) (z : Wraps Last b codes s ws m p mark n) where
+module _ (b known s ws m : List ℕ) (p : Numbers) (mark n : ℕ) (z : Wraps Last b known s ws m p mark n) where
   last-flat : hasRepeat (z .below .stands .tree) ≡ false
   last-flat = sound-last (z .below .stands .tree) (z .sound) .flat
 
-  pub last-asks : (o : List ℕ) (at : ℕ) → Repeating b codes s ws m p mark n false o at
-  last-asks = repeat-asks b codes s ws m p mark n (z .below) last-flat
+  pub last-asks : (o : List ℕ) (at : ℕ) → Repeating b known s ws m p mark n false o at
+  last-asks = repeat-asks b known s ws m p mark n (z .below) last-flat
 
   module _
       (m′ o : List ℕ)
@@ -235,26 +235,26 @@ module _ (b codes s ws m : List ℕ) (p : Numbers) (mark n : ℕ) (z : Wraps Las
       last-refuses e r q =
           rw q
           (last-wraps m′ (refusedList all)
-          (λ is i. last-denied b codes s ws m p mark n (z .below) last-flat m′ o at o′ all f is i e)
+          (λ is i. last-denied b known s ws m p mark n (z .below) last-flat m′ o at o′ all f is i e)
           (f (z .below .stands .tree) (z .below .stands .node) .left))
 
       pub last-ends : all .number ≡ 0 → (all .count ≡ 0 → ⊥) → (r : Ran) → r ≡ lastValue all → Wrapped Last mark b s ws n m p m′ r
       last-ends e c r q =
           rw q
           (last-wraps m′ (lastValue all)
-          (λ is i. last-there b codes s ws m p mark n (z .below) last-flat m′ o at o′ all f is i e c)
+          (λ is i. last-there b known s ws m p mark n (z .below) last-flat m′ o at o′ all f is i e c)
           (f (z .below .stands .tree) (z .below .stands .node) .left))
 
-      pub again-ready : Scalar b codes s ws m′ (all .numbers) mark n
-      again-ready = last-ready b codes s ws m p mark n (z .below) last-flat m′ o at o′ all f
+      pub again-ready : Scalar b known s ws m′ (all .numbers) mark n
+      again-ready = last-ready b known s ws m p mark n (z .below) last-flat m′ o at o′ all f
 
       module _ (m″ : List ℕ) (ran : Ran) (said : Says b s ws m′ (all .numbers) mark n m″ ran) where
         pub again-fits : all .tries + ran .tries < 4294967296
-        again-fits = last-fits b codes s ws m p mark n (z .below) last-flat m′ o at o′ all f m″ ran said
+        again-fits = last-fits b known s ws m p mark n (z .below) last-flat m′ o at o′ all f m″ ran said
 
         pub again-ends : all .number ≡ 0 → all .count ≡ 0 → (r : Ran) → r ≡ moreTries ran (all .tries) → Wrapped Last mark b s ws n m p m″ r
         again-ends e c r q =
             rw q
             (last-wraps m″ (moreTries ran (all .tries))
-            (λ is i. last-tried b codes s ws m p mark n (z .below) last-flat m′ o at o′ all f m″ ran said is i e c)
-            (last-left b codes s ws m p mark n (z .below) last-flat m′ o at o′ all f m″ ran said))
+            (λ is i. last-tried b known s ws m p mark n (z .below) last-flat m′ o at o′ all f m″ ran said is i e c)
+            (last-left b known s ws m p mark n (z .below) last-flat m′ o at o′ all f m″ ran said))

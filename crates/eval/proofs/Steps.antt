@@ -125,10 +125,10 @@ most-few t r l h = go (hasRepeat t)
 
 -- ---- a child that was evaluated
 module _
-    (b codes s words m : List ℕ)
+    (b known s words m : List ℕ)
     (p : Numbers)
     (mark n : ℕ)
-    (z : Scalar b codes s words m p mark n)
+    (z : Scalar b known s words m p mark n)
     (m₁ : List ℕ)
     (ran : Ran)
     (said : Says b s words m p mark n m₁ ran)
@@ -244,10 +244,10 @@ under-optional (some (optionalList b)) s e = absurd (false≢true e)
 
 module _
     (catch : Bool)
-    (b codes s words m : List ℕ)
+    (b known s words m : List ℕ)
     (p : Numbers)
     (mark n : ℕ)
-    (z : Wraps (Optional catch) b codes s words m p mark n)
+    (z : Wraps (Optional catch) b known s words m p mark n)
     (m₁ : List ℕ)
     (ran : Ran)
     (said : Says b s words m p mark n m₁ ran)
@@ -256,14 +256,14 @@ module _
     unfolding kindOf
     len =
         let k = under-optional (kindOf (z .below .stands .tree)) (z .below .scalar) (z .sound .kind) in
-        base-len b codes s words m p mark n (z .below) m₁ ran said (k .0) (k .1)
+        base-len b known s words m p mark n (z .below) m₁ ran said (k .0) (k .1)
 
     pub optional-given : Given m p m₁ ran
     optional-given =
         let h = scalar-short (ran .len) (ran .word) in
         record {
           fine = z .below .stands .state .fine;
-          left = child-left b codes s words m p mark n (z .below) m₁ ran said;
+          left = child-left b known s words m p mark n (z .below) m₁ ran said;
           short = omega (arith, len);
         }
 
@@ -275,11 +275,11 @@ module _
 
         numbered : Numbered (child .outcome)
         unfolding child
-        numbered = runs-numbered (length is) _ (stateOf m p) _ (child-runs b codes s words m p mark n (z .below) m₁ ran said is i)
+        numbered = runs-numbered (length is) _ (stateOf m p) _ (child-runs b known s words m p mark n (z .below) m₁ ran said is i)
 
         tells : told child ≡ some (answered ran m₁)
         unfolding child
-        tells = child-told b codes s words m p mark n (z .below) m₁ ran said is i
+        tells = child-told b known s words m p mark n (z .below) m₁ ran said is i
 
         optioned : told (evalOptional catch (stateOf m p) child) ≡ some (toldWith (o .ran) m′ (optionalWords (o .ran .number) (o .present) (scalarWords (ran .len) (ran .word))))
         optioned = h .same child (scalarWords (ran .len) (ran .word)) numbered tells
@@ -290,7 +290,7 @@ module _
             let k = under-optional (kindOf (z .below .stands .tree)) (z .below .scalar) (z .sound .kind) in
             let w : optionalWords (o .ran .number) (o .present) (scalarWords (ran .len) (ran .word)) ≡ 1 ∷ scalarWords (ran .len) (ran .word) = rw (e, q) in
             let zero = optional-present catch (stateOf m p) child _ _ (scalarWords (ran .len) (ran .word)) numbered tells optioned e w in
-            len ∙ base-one b codes s words m p mark n (z .below) m₁ ran said (k .0) (k .1) zero
+            len ∙ base-one b known s words m p mark n (z .below) m₁ ran said (k .0) (k .1) zero
 
         same-words : optionalWords (o .ran .number) (o .present) (scalarWords (ran .len) (ran .word)) ≡ scalarWords (o .ran .len) (o .ran .word)
         unfolding optionalWords if_then_else_
@@ -324,10 +324,10 @@ module _
 -- ---- a guard
 module _
     (lo hi : ℕ)
-    (b codes s words m : List ℕ)
+    (b known s words m : List ℕ)
     (p : Numbers)
     (mark n : ℕ)
-    (z : Wraps (Guard lo hi) b codes s words m p mark n)
+    (z : Wraps (Guard lo hi) b known s words m p mark n)
     (m₁ : List ℕ)
     (ran : Ran)
     (said : Says b s words m p mark n m₁ ran)
@@ -346,7 +346,7 @@ module _
       guard-numbers : (v : Value) → guarded-child .outcome ≡ ok v → hasKind (one number) v ≡ true
       unfolding guarded-child kindOf
       guard-numbers =
-          let w = child-runs b codes s words m p mark n (z .below) m₁ ran said is i in
+          let w = child-runs b known s words m p mark n (z .below) m₁ ran said is i in
           let k = base-kind number (kindOf (z .below .stands .tree)) (z .sound .kind) .1 in
           number-kind (stateOf m p .remaining + 1) (eval mark is (z .below .stands .tree) (stateOf m p) .outcome)
           (subst (λ (o : Option Kind). EndsOne (stateOf m p .remaining + 1) o (eval mark is (z .below .stands .tree) (stateOf m p) .outcome)) k (w .ends))
@@ -357,8 +357,8 @@ module _
           inside mark (sheetArea s) words m p (z .below .stands .state) (Guard lo hi (z .below .stands .tree)) (z .sound) is i
           (evalGuard lo hi guarded-child) refl
           ∙ h .same m₁ guarded-child
-          (runs-numbered (length is) _ (stateOf m p) _ (child-runs b codes s words m p mark n (z .below) m₁ ran said is i))
-          (child-told b codes s words m p mark n (z .below) m₁ ran said is i)
+          (runs-numbered (length is) _ (stateOf m p) _ (child-runs b known s words m p mark n (z .below) m₁ ran said is i))
+          (child-told b known s words m p mark n (z .below) m₁ ran said is i)
           guard-numbers
 
     pub guard-ends : Wrapped (Guard lo hi) mark b s words n m p m₁ r
@@ -366,15 +366,15 @@ module _
         wrapped (Guard lo hi) b s words n m p mark m₁ r (z .below .stands .tree) (z .below .stands .node)
         (record {
           same = guard-same;
-          left = subst (λ (q : Numbers). Left m p m₁ q) (sym (h .numbers)) (child-left b codes s words m p mark n (z .below) m₁ ran said);
+          left = subst (λ (q : Numbers). Left m p m₁ q) (sym (h .numbers)) (child-left b known s words m p mark n (z .below) m₁ ran said);
         })
 
 -- ---- a choice
 module _
-    (b codes s words m : List ℕ)
+    (b known s words m : List ℕ)
     (p : Numbers)
     (mark i j : ℕ)
-    (z : Both b codes s words m p mark i j)
+    (z : Both b known s words m p mark i j)
     (m₁ : List ℕ)
     (x : Ran)
     (says₁ : Says b s words m p mark i m₁ x)
@@ -384,12 +384,12 @@ module _
   where
     pub choice-sides : Sides m p m₁ x m₂ y
     choice-sides =
-        let k = child-tries b codes s words m p mark i (z .first) m₁ x says₁ in
-        let l = child-tries b codes s words m p mark j (z .second) m₂ y says₂ in
+        let k = child-tries b known s words m p mark i (z .first) m₁ x says₁ in
+        let l = child-tries b known s words m p mark j (z .second) m₂ y says₂ in
         record {
           fine = z .first .stands .state .fine;
-          one = child-left b codes s words m p mark i (z .first) m₁ x says₁;
-          other = child-left b codes s words m p mark j (z .second) m₂ y says₂;
+          one = child-left b known s words m p mark i (z .first) m₁ x says₁;
+          other = child-left b known s words m p mark j (z .second) m₂ y says₂;
           few = omega arith;
         }
 
@@ -420,10 +420,10 @@ module _
           inside mark (sheetArea s) words m p (z .first .stands .state) (Choice (z .first .stands .tree) (z .second .stands .tree)) (z .sound) is a
           (evalChoice (stateOf m p) A B) refl
           ∙ h .same A B (scalarWords (x .len) (x .word)) (scalarWords (y .len) (y .word))
-          (runs-numbered (length is) _ (stateOf m p) A (child-runs b codes s words m p mark i (z .first) m₁ x says₁ is a))
-          (runs-numbered (length is) _ (stateOf m p) B (child-runs b codes s words m p mark j (z .second) m₂ y says₂ is a))
-          (child-told b codes s words m p mark i (z .first) m₁ x says₁ is a)
-          (child-told b codes s words m p mark j (z .second) m₂ y says₂ is a)
+          (runs-numbered (length is) _ (stateOf m p) A (child-runs b known s words m p mark i (z .first) m₁ x says₁ is a))
+          (runs-numbered (length is) _ (stateOf m p) B (child-runs b known s words m p mark j (z .second) m₂ y says₂ is a))
+          (child-told b known s words m p mark i (z .first) m₁ x says₁ is a)
+          (child-told b known s words m p mark j (z .second) m₂ y says₂ is a)
           ∙ told-words (o .ran) m′ chosen-words
 
       pub choice-ends :
@@ -457,10 +457,10 @@ fallback-child v s r x = go (r .outcome)
     go (fault f) nb e q = absurd (Option·none-ne-some x e)
 
 module _
-    (b codes s words m : List ℕ)
+    (b known s words m : List ℕ)
     (p : Numbers)
     (mark k n : ℕ)
-    (z : Falls b codes s words m p mark k n)
+    (z : Falls b known s words m p mark k n)
     (m₁ : List ℕ)
     (ran : Ran)
     (said : Says b s words m p mark n m₁ ran)
@@ -471,7 +471,7 @@ module _
     pub fallback-given : Returned m p m₁ ran
     fallback-given = record {
       fine = z .below .stands .state .fine;
-      left = child-left b codes s words m p mark n (z .below) m₁ ran said;
+      left = child-left b known s words m p mark n (z .below) m₁ ran said;
     }
 
     fallen : (m′ : List ℕ) (r : Ran)
@@ -494,9 +494,9 @@ module _
     fallback-value e =
         fallen m₁ ran
         (λ is i. fallback-child (z .own) (stateOf m p) (eval mark is (z .below .stands .tree) (stateOf m p)) (answered ran m₁)
-        (runs-numbered (length is) _ (stateOf m p) _ (child-runs b codes s words m p mark n (z .below) m₁ ran said is i))
-        (child-told b codes s words m p mark n (z .below) m₁ ran said is i) e)
-        (child-left b codes s words m p mark n (z .below) m₁ ran said)
+        (runs-numbered (length is) _ (stateOf m p) _ (child-runs b known s words m p mark n (z .below) m₁ ran said is i))
+        (child-told b known s words m p mark n (z .below) m₁ ran said is i) e)
+        (child-left b known s words m p mark n (z .below) m₁ ran said)
 
     pub fallback-ends :
         (w : ℕ)
@@ -508,7 +508,7 @@ module _
         fallen m′ r
         (λ is i. h .same (z .own) (sym (q (z .own) (z .below .stands .tree) (z .stands)))
         (eval mark is (z .below .stands .tree) (stateOf m p)) (scalarWords (ran .len) (ran .word))
-        (runs-numbered (length is) _ (stateOf m p) _ (child-runs b codes s words m p mark n (z .below) m₁ ran said is i))
-        (child-told b codes s words m p mark n (z .below) m₁ ran said is i)
+        (runs-numbered (length is) _ (stateOf m p) _ (child-runs b known s words m p mark n (z .below) m₁ ran said is i))
+        (child-told b known s words m p mark n (z .below) m₁ ran said is i)
         refl)
         (h .left)

@@ -139,6 +139,10 @@ module _ (b : List ℕ) (n : ℕ) (t : Tree) (e : treeAt b n ≡ some t) where
     made-by : (k : ℕ) → x .kind ≡ k → treeBy (readForm b) below x k ≡ some t
     made-by k q = sym (tree-by (readForm b) below x k q) ∙ made
 
+    pub no-kind : x .kind ≡ 0 → ⊥
+    unfolding if_then_else_
+    no-kind q = Option·none-ne-some t (made-by 0 q)
+
     named-leaf :
         (make : ℕ → Named → Tree) (k : ℕ)
         → (namedOf (readForm b) x >>? λ m. some (make k m)) ≡ some t

@@ -12,6 +12,7 @@ use borrow.Author.Tests.{eqb-true, ltb-true}
 use Rattle.utf8.specs.Utf8.{if_then_else_}
 use Rattle.rules.specs.Outcome.{ok, refuse}
 use Rattle.rules.specs.Value.{Value, words}
+use Rattle.rules.specs.Form.{Node, readForm}
 use Rattle.rules.specs.Sheet.{sheetArea}
 use Rattle.rules.specs.Tree.{Tree}
 use Rattle.rules.specs.Split.{Item}
@@ -19,7 +20,9 @@ use Rattle.rules.specs.State.{State}
 use Rattle.rules.specs.Calls.{fromRaw}
 use Rattle.rules.specs.Eval.{Ran as Run, Visit, ended, fewer, swallowed, idle, repeat, repeated, eval}
 use Rattle.rules.specs.Demands.{leaves}
-use Rattle.rules.proofs.Steps.{most, Runs}
+use Rattle.rules.proofs.Acceptance.{lookup-some}
+use Rattle.rules.proofs.Steps.{Step, most, Runs}
+use Rattle.layout.proofs.Sizes.{nodes-length}
 use Rattle.structs.specs.declared.Counting.{Counting}
 use Rattle.structs.specs.declared.Counting.the-variants.{Counted, Uncounted, Absent, PassedOn}
 use Rattle.structs.specs.Decisions.{withRemaining, countedOf, optionWay}
@@ -35,10 +38,12 @@ use Rattle.outcome.specs.Lists.{toldList, lastWords, prefixed}
 use Rattle.outcome.proofs.Visits.{runs-numbered}
 use Rattle.outcome.proofs.Repeats.{told-state, told-tries, prefixed-none, Went, turn-uncounted, turn-absent, turn-passed, turn-idle, turn-counted, list-ended, list-refused}
 use Rattle.eval.specs.declared.Repeated.{Repeated}
-use Rattle.eval.specs.Values.{Wrote, noValue, Fits, oneMore, endedWith, passedOn}
-use Rattle.eval.specs.Cycle.{listed, Room, Repeating, Repeats}
+use Rattle.eval.specs.Values.{Wrote, noValue, Fits, oneMore, endedWith, passedOn, nextFrom, keepsMarks}
+use Rattle.eval.specs.Cycle.{Hint, Turns, listed, Room, Repeating, Repeats}
 use Rattle.eval.proofs.Words.{sets-append, sets-back, scalar-short}
-use Rattle.eval.proofs.Given.{Says}
+use Rattle.eval.proofs.Given.{Says, node-below}
+use Rattle.eval.proofs.Hints.{hint-first, hint-next}
+use Rattle.eval.proofs.Absent.{absent-same}
 use Rattle.eval.proofs.Steps.{few-left, child-runs, child-told, child-left}
 
 -- ---- lists
@@ -143,6 +148,10 @@ if-size : (b : Bool) (n k : ℕ) → b ≡ true → n ≡ (if b then k else 0) �
 unfolding if_then_else_
 if-size b n k t h = subst (λ (c : Bool). n ≡ (if c then k else 0)) t h
 
+pub if-taken : {A : Type 0} (b : Bool) (x y z : A) → x ≡ (if b then y else z) → b ≡ true → x ≡ y
+unfolding if_then_else_
+if-taken {A} b x y z h t = subst (λ (c : Bool). x ≡ (if c then y else z)) t h
+
 if-length : (b : Bool) (o w : List ℕ) (at : ℕ) → length (if b then sets o at w else o) ≡ length o
 unfolding if_then_else_
 if-length true o w at = length-sets o at w
@@ -194,8 +203,8 @@ kept-more writes at o₀ o vs all v ran o′ width k e few w =
     writing false p q r = r ∙ q
 
 -- ---- what is still to be run is the whole
-pub record Turning (b codes sh ws m₀ : List ℕ) (n : ℕ) (catch stops writes : Bool) (at : ℕ) (o₀ : List ℕ) (mark : ℕ) (p : Numbers) (m o : List ℕ) (s : Numbers) (last : ℕ) (all : Repeated) : Type 0 where
-  pub asked : Repeating b codes sh ws m₀ p mark n writes o₀ at
+pub record Turning (b known sh ws m₀ : List ℕ) (n : ℕ) (catch stops writes : Bool) (at : ℕ) (o₀ : List ℕ) (mark : ℕ) (p : Numbers) (m o : List ℕ) (s : Numbers) (from last : ℕ) (all : Repeated) : Type 0 where
+  pub asked : Repeating b known sh ws m₀ p mark n writes o₀ at
   pub fuel : ℕ
   pub bound : ℕ
   pub trace : List Visit
@@ -208,16 +217,19 @@ pub record Turning (b codes sh ws m₀ : List ℕ) (n : ℕ) (catch stops writes
   pub more : bound < fuel
   pub few : length values + bound ≤ 257
   pub left : Left m₀ p m s
+  pub hint : Hint (asked .below .stands .tree) (sheetArea sh) ws m s from
   pub kept : Kept writes at o₀ o values all
 
-module _ (b codes sh ws m₀ : List ℕ) (n : ℕ) (catch stops writes : Bool) (at : ℕ) (o₀ : List ℕ) (mark : ℕ) (p : Numbers) where
+module _ (b known sh ws m₀ : List ℕ) (n : ℕ) (catch stops writes : Bool) (at : ℕ) (o₀ : List ℕ) (mark : ℕ) (p : Numbers) where
   pub turn-first :
-      Repeating b codes sh ws m₀ p mark n writes o₀ at
+      Repeating b known sh ws m₀ p mark n writes o₀ at
+      → (from : ℕ)
+      → from ≡ p .start
       → (all : Repeated)
       → all ≡ noValue p
-      → Turning b codes sh ws m₀ n catch stops writes at o₀ mark p m₀ o₀ p 4294967295 all
+      → Turning b known sh ws m₀ n catch stops writes at o₀ mark p m₀ o₀ p from 4294967295 all
   unfolding repeated stateOf fromRaw
-  turn-first z all e =
+  turn-first z from h all e =
       let f = few-left m₀ p (z .below .stands .state .fine) in
       rw e (record {
         asked = z;
@@ -232,15 +244,16 @@ module _ (b codes sh ws m₀ : List ℕ) (n : ℕ) (catch stops writes : Bool) (
         more = omega arith;
         few = omega arith;
         left = left-same m₀ p (z .below .stands .state .fine);
+        hint = hint-first (z .below .stands .tree) (sheetArea sh) ws m₀ p (z .below .stands .state .fine) from h;
         kept = kept-first writes at o₀ p;
       })
 
   module _
       (m o : List ℕ)
       (s : Numbers)
-      (last : ℕ)
+      (from last : ℕ)
       (all : Repeated)
-      (i : Turning b codes sh ws m₀ n catch stops writes at o₀ mark p m o s last all)
+      (i : Turning b known sh ws m₀ n catch stops writes at o₀ mark p m o s from last all)
     where
       abbrev tree : Tree
       tree = i .asked .below .stands .tree
@@ -261,18 +274,21 @@ module _ (b codes sh ws m₀ : List ℕ) (n : ℕ) (catch stops writes : Bool) (
       }
 
       -- the child in the state at hand
-      abbrev pub turn-ready : Scalar b codes sh ws m s mark n
+      abbrev turn-ready : Scalar b known sh ws m s mark n
       turn-ready = record {
         stands = record {
           tree = tree;
           node = i .asked .below .stands .node;
           light = i .asked .below .stands .light;
-          coded = i .asked .below .stands .coded;
           made = i .asked .below .stands .made;
           state = ready;
+          knows = i .asked .below .stands .knows;
         };
         scalar = i .asked .below .scalar;
       }
+
+      abbrev pub turn-asks : Turns b known sh ws m s mark n from
+      turn-asks = record { below = turn-ready; hint = i .hint }
 
       pub long-kept : length o ≡ length o₀
       long-kept = i .kept .long
@@ -291,10 +307,10 @@ module _ (b codes sh ws m₀ : List ℕ) (n : ℕ) (catch stops writes : Bool) (
         these = (ready .table, ready .same)
 
         ran-told : told (run (stateOf m s)) ≡ some (answered ran m′)
-        ran-told = child-told b codes sh ws m s mark n turn-ready m′ ran said items these
+        ran-told = child-told b known sh ws m s mark n turn-ready m′ ran said items these
 
         ran-runs : Runs (length items) tree (stateOf m s) (run (stateOf m s))
-        ran-runs = child-runs b codes sh ws m s mark n turn-ready m′ ran said items these
+        ran-runs = child-runs b known sh ws m s mark n turn-ready m′ ran said items these
 
         ran-numbered : Numbered (run (stateOf m s) .outcome)
         ran-numbered = runs-numbered (length items) tree (stateOf m s) (run (stateOf m s)) ran-runs
@@ -309,7 +325,7 @@ module _ (b codes sh ws m₀ : List ℕ) (n : ℕ) (catch stops writes : Bool) (
 
         ran-left : Left m₀ p m′ (ran .numbers)
         ran-left =
-            let l = child-left b codes sh ws m s mark n turn-ready m′ ran said in
+            let l = child-left b known sh ws m s mark n turn-ready m′ ran said in
             record { count = l .count ∙ i .left .count; long = l .long ∙ i .left .long; fine = l .fine }
 
         ran-fewer : ran .numbers .remaining ≤ s .remaining
@@ -317,6 +333,14 @@ module _ (b codes sh ws m₀ : List ℕ) (n : ℕ) (catch stops writes : Bool) (
         ran-fewer =
             let e = told-state (run (stateOf m s)) (answered ran m′) ran-told in
             subst (λ (u : State). u .remaining ≤ s .remaining) e (ran-runs .step .fewer)
+
+        -- where the next turn may search from
+        ran-hint : (f : ℕ) → f ≡ nextFrom from (s .remaining) (ran .numbers) → Hint tree (sheetArea sh) ws m′ (ran .numbers) f
+        ran-hint f e =
+            let u = told-state (run (stateOf m s)) (answered ran m′) ran-told in
+            let k = subst (λ (v : State). Step (length items) (stateOf m s) v) u (ran-runs .step) in
+            let l = child-left b known sh ws m s mark n turn-ready m′ ran said in
+            rw e (hint-next (sheetArea sh) ws m s mark ready m′ (ran .numbers) l k tree from (i .hint) u)
 
         pub turn-fits : all .tries + ran .tries ≤ 16512
         turn-fits = omega (arith, ran-cheap, i .kept .cost, i .few)
@@ -409,12 +433,38 @@ module _ (b codes sh ws m₀ : List ℕ) (n : ℕ) (catch stops writes : Bool) (
             (this-turn ∙ turn-uncounted catch stops (fuelled .0) (countedOf last) run (stateOf m s) (answered ran m′) ran-told ran-numbered (all .tries) (i .trace) (i .values) w)
             ran-left
 
-        pub turn-stops : Decides Absent → (r : Repeated) → r ≡ endedWith all (ran .tries) s → Answers m o r
+        -- the marks are put back, or are as they were
+        put-back :
+            Decides Absent
+            → (keeps : Bool)
+            → ((x : Node) → getElem? (readForm b .nodes) n ≡ some x → keeps ≡ keepsMarks catch x)
+            → (before : List ℕ)
+            → (keeps ≡ true → before ≡ m)
+            → (if keeps then before else m′) ≡ m
+        unfolding if_then_else_
+        put-back w true k before f = f refl
+        put-back w false k before f =
+            let below = node-below b known sh ws m s mark n turn-ready in
+            let x = lookup-some (readForm b .nodes) n (omega (arith, nodes-length b)) in
+            absent-same b known sh ws m s mark n turn-ready m′ ran said (x .0) (x .1) catch (countedOf last) w (sym (k (x .0) (x .1)))
+
+        pub turn-stops :
+            Decides Absent
+            → (keeps : Bool)
+            → ((x : Node) → getElem? (readForm b .nodes) n ≡ some x → keeps ≡ keepsMarks catch x)
+            → (before : List ℕ)
+            → (keeps ≡ true → before ≡ m)
+            → (m″ : List ℕ)
+            → m″ ≡ (if keeps then before else m′)
+            → (r : Repeated)
+            → r ≡ endedWith all (ran .tries) s
+            → Answers m″ o r
         unfolding Ended stateOf fromRaw
-        turn-stops w r e =
-            ends m s r e
+        turn-stops w keeps k before f m″ em r e =
+            rw (em ∙ put-back w keeps k before f)
+            (ends m s r e
             (this-turn ∙ turn-absent catch stops (fuelled .0) (countedOf last) run (stateOf m s) (answered ran m′) ran-told ran-numbered (all .tries) (i .trace) (i .values) w)
-            (i .left)
+            (i .left))
 
         -- ---- a refusal is passed on, and nothing is written any more
         wiped :
@@ -520,9 +570,13 @@ module _ (b codes sh ws m₀ : List ℕ) (n : ℕ) (catch stops writes : Bool) (
                   turn-fits
                   ran-left)
 
-              pub turn-next : c ≡ false → Turning b codes sh ws m₀ n catch stops writes at o₀ mark p m′ o′ (ran .numbers) (ran .numbers .remaining) r
+              pub turn-next :
+                  c ≡ false
+                  → (next : ℕ)
+                  → next ≡ nextFrom from (s .remaining) (ran .numbers)
+                  → Turning b known sh ws m₀ n catch stops writes at o₀ mark p m′ o′ (ran .numbers) next (ran .numbers .remaining) r
               unfolding stateOf fromRaw fewer
-              turn-next q =
+              turn-next q next en =
                   let x = turn-counted catch stops (fuelled .0) (countedOf last) run (stateOf m s) (answered ran m′) ran-told ran-numbered (all .tries) (i .trace) (i .values) (idles ∙ q) w in
                   let h = few-left m′ (ran .numbers) (ran-left .fine) in
                   let n = length-more (i .values) (x .value) in
@@ -543,5 +597,6 @@ module _ (b codes sh ws m₀ : List ℕ) (n : ℕ) (catch stops writes : Bool) (
                     more = omega (arith, i .more, near);
                     few = omega (arith, i .few, near);
                     left = ran-left;
+                    hint = ran-hint next en;
                     kept = kept-more writes at o₀ o (i .values) all (x .value) ran o′ width (i .kept) (x .words) ran-cheap g;
                   })

@@ -4,15 +4,17 @@ ghost use mathlib.Core.Path.{_≡_};
 ghost use mathlib.Core.Bool.{true};
 ghost use mathlib.Core.Option.{some};
 ghost use Prim.Native.Nat.{_+_, _≤_, _<_};
-ghost use lib.ListN.{length, replicate};
+ghost use lib.ListN.{length, replicate, getElem?};
 ghost use lib.Seq.{sets};
 ghost use Rattle.utf8.specs.Utf8.{if_then_else_};
+ghost use Rattle.rules.specs.Form.{Node, nodeCount, readForm};
+ghost use Rattle.rules.specs.Accept.{lengthGood};
 ghost use Rattle.rules.specs.Sheet.{sheetArea};
 ghost use Rattle.rules.specs.Tree.{Tree, Optional, Count, Last, Choice, Guard};
 ghost use Rattle.outcome.specs.Told.{Evaluates};
 ghost use Rattle.outcome.specs.Nodes.{treeAt, Scalar};
-ghost use Rattle.eval.specs.Cycle.{Wraps, Wrapped, Falls, Both, Repeating, Repeats};
-ghost use Rattle.eval.specs.Values.{Put, Wrote, noValue, Fits, oneMore, endedWith, passedOn, refusedList, countedValues, lastValue, moreTries};
+ghost use Rattle.eval.specs.Cycle.{Wraps, Wrapped, Falls, Both, Turns, Repeating, Repeats};
+ghost use Rattle.eval.specs.Values.{Put, Wrote, noValue, Fits, oneMore, endedWith, passedOn, refusedList, countedValues, lastValue, moreTries, nextFrom, keepsMarks};
 use outcome::Ran;
 use state::Numbers;
 use structs::Counting;
@@ -198,10 +200,45 @@ fn more_tries(ran: Ran, tries: u32) -> Ran
     }
 }
 
+// Where the next turn of a repeat over a leaf searches from: behind what this turn used.
+fn next_from(from: usize, given: u32, after: Numbers) -> usize
+    ensures { λ r. ⌜ r ≡ nextFrom from given after ⌝ }
+{
+    if after.remaining < given {
+        return wide(after.current);
+    }
+    from
+}
+
+// Whether a child that is absent may have used something, so that the marks must be put back. A leaf has not, unless refusals
+// are caught or it is a non-strict positional.
+fn keeps_marks(form: &[u8], child: usize, catch: bool) -> bool
+    requires { ⌜ (lengthGood (now form) ≡ true) × (child < nodeCount (now form)) ⌝ }
+    ensures { λ r. ⌜ ((x : Node) → getElem? (readForm (now (form .entry)) .nodes) child ≡ some x → r ≡ keepsMarks catch x) ⌝ }
+{
+    if catch {
+        return true;
+    }
+    let x = layout::node_at(form, child);
+    if x.kind == 3 {
+        return 2 <= x.p;
+    }
+    3 < x.kind
+}
+
+// Copies marks, if that is wanted.
+fn copy_if(wanted: bool, from: &[u16; 256], to: &mut [u16; 256])
+    ensures { λ _. ⌜ now (to .exit) ≡ (if wanted then now (from .entry) else now (to .entry)) ⌝ }
+{
+    if wanted {
+        *to = *from;
+    }
+}
+
 // A node whose value is no list.
 pub fn run_node(
     form: &[u8],
-    codes: &[u32],
+    known: &[u64],
     sheet: &[u8],
     items: &[u32],
     marks: &mut [u16; 256],
@@ -209,50 +246,27 @@ pub fn run_node(
     node: usize,
     mark: u16,
 ) -> Ran
-    requires { ⌜ Scalar (now form) (now codes) (now sheet) (now items) (now marks) p mark node ⌝ }
+    requires { ⌜ Scalar (now form) (now known) (now sheet) (now items) (now marks) p mark node ⌝ }
     ensures { λ r. ⌜ ((t : Tree) → treeAt (now (form .entry)) node ≡ some t → Evaluates mark (sheetArea (now (sheet .entry))) (now (items .entry)) t (now (marks .entry)) p (now (marks .exit)) r) ⌝ }
 {
     let x = layout::node_at(form, node);
     let kind = x.kind;
     match kind {
-        1 => params::eval_flag(
-            form,
-            codes,
-            sheet,
-            items,
-            marks,
-            p,
-            x.p,
-            x.q,
-            x.r == 1,
-            mark,
-        ),
-        2 => params::eval_argument(
-            form,
-            codes,
-            sheet,
-            items,
-            marks,
-            p,
-            x.p,
-            x.q,
-            2 <= x.r,
-            x.r % 2 == 1,
-            mark,
-        ),
+        1 => params::eval_flag(known, marks, p, node, x.r == 1, mark),
+        2 => params::eval_argument(known, sheet, items, marks, p, node, 2 <= x.r, mark),
         3 => params::eval_positional(sheet, items, marks, p, x.p, x.r == 2, mark),
-        4 => run_optional(form, codes, sheet, items, marks, p, x.p, x.r == 1, mark),
-        7 => run_count(form, codes, sheet, items, marks, p, x.p, mark),
-        8 => run_last(form, codes, sheet, items, marks, p, x.p, mark),
-        9 => run_choice(form, codes, sheet, items, marks, p, x.p, x.q, mark),
-        10 => run_fallback(form, codes, sheet, items, marks, p, node, x.p, mark),
-        _ => run_guard(form, codes, sheet, items, marks, p, x.p, x.lo, x.hi, mark),
+        4 => run_optional(form, known, sheet, items, marks, p, x.p, x.r == 1, mark),
+        7 => run_count(form, known, sheet, items, marks, p, x.p, mark),
+        8 => run_last(form, known, sheet, items, marks, p, x.p, mark),
+        9 => run_choice(form, known, sheet, items, marks, p, x.p, x.q, mark),
+        10 => run_fallback(form, known, sheet, items, marks, p, node, x.p, mark),
+        _ => run_guard(form, known, sheet, items, marks, p, x.p, x.lo, x.hi, mark),
     }
 }
 
 fn run_optional(
     form: &[u8],
-    codes: &[u32],
+    known: &[u64],
     sheet: &[u8],
     items: &[u32],
     marks: &mut [u16; 256],
@@ -261,11 +275,11 @@ fn run_optional(
     catch: bool,
     mark: u16,
 ) -> Ran
-    requires { ⌜ Wraps (Optional catch) (now form) (now codes) (now sheet) (now items) (now marks) p mark child ⌝ }
+    requires { ⌜ Wraps (Optional catch) (now form) (now known) (now sheet) (now items) (now marks) p mark child ⌝ }
     ensures { λ r. ⌜ Wrapped (Optional catch) mark (now (form .entry)) (now (sheet .entry)) (now (items .entry)) child (now (marks .entry)) p (now (marks .exit)) r ⌝ }
 {
     let before = *marks;
-    let ran = run_node(form, codes, sheet, items, marks, p, child, mark);
+    let ran = run_node(form, known, sheet, items, marks, p, child, mark);
     let made = results::optional(ran, p, catch, &before, marks);
     let answer = made.ran;
     answer
@@ -273,7 +287,7 @@ fn run_optional(
 
 fn run_fallback(
     form: &[u8],
-    codes: &[u32],
+    known: &[u64],
     sheet: &[u8],
     items: &[u32],
     marks: &mut [u16; 256],
@@ -282,11 +296,11 @@ fn run_fallback(
     child: usize,
     mark: u16,
 ) -> Ran
-    requires { ⌜ Falls (now form) (now codes) (now sheet) (now items) (now marks) p mark node child ⌝ }
+    requires { ⌜ Falls (now form) (now known) (now sheet) (now items) (now marks) p mark node child ⌝ }
     ensures { λ r. ⌜ ((t : Tree) → treeAt (now (form .entry)) node ≡ some t → Evaluates mark (sheetArea (now (sheet .entry))) (now (items .entry)) t (now (marks .entry)) p (now (marks .exit)) r) ⌝ }
 {
     let before = *marks;
-    let ran = run_node(form, codes, sheet, items, marks, p, child, mark);
+    let ran = run_node(form, known, sheet, items, marks, p, child, mark);
     if ran.number == 0 {
         return ran;
     }
@@ -296,7 +310,7 @@ fn run_fallback(
 
 fn run_guard(
     form: &[u8],
-    codes: &[u32],
+    known: &[u64],
     sheet: &[u8],
     items: &[u32],
     marks: &mut [u16; 256],
@@ -306,16 +320,16 @@ fn run_guard(
     hi: u32,
     mark: u16,
 ) -> Ran
-    requires { ⌜ Wraps (Guard lo hi) (now form) (now codes) (now sheet) (now items) (now marks) p mark child ⌝ }
+    requires { ⌜ Wraps (Guard lo hi) (now form) (now known) (now sheet) (now items) (now marks) p mark child ⌝ }
     ensures { λ r. ⌜ Wrapped (Guard lo hi) mark (now (form .entry)) (now (sheet .entry)) (now (items .entry)) child (now (marks .entry)) p (now (marks .exit)) r ⌝ }
 {
-    let ran = run_node(form, codes, sheet, items, marks, p, child, mark);
+    let ran = run_node(form, known, sheet, items, marks, p, child, mark);
     results::guard(ran, lo, hi)
 }
 
 fn run_choice(
     form: &[u8],
-    codes: &[u32],
+    known: &[u64],
     sheet: &[u8],
     items: &[u32],
     marks: &mut [u16; 256],
@@ -324,14 +338,14 @@ fn run_choice(
     right: usize,
     mark: u16,
 ) -> Ran
-    requires { ⌜ Both (now form) (now codes) (now sheet) (now items) (now marks) p mark left right ⌝ }
+    requires { ⌜ Both (now form) (now known) (now sheet) (now items) (now marks) p mark left right ⌝ }
     ensures { λ r. ⌜ ((t u : Tree) → treeAt (now (form .entry)) left ≡ some t → treeAt (now (form .entry)) right ≡ some u → Evaluates mark (sheetArea (now (sheet .entry))) (now (items .entry)) (Choice t u) (now (marks .entry)) p (now (marks .exit)) r) ⌝ }
 {
     let before = *marks;
-    let x = run_node(form, codes, sheet, items, marks, p, left, mark);
+    let x = run_node(form, known, sheet, items, marks, p, left, mark);
     let first = *marks;
     *marks = before;
-    let y = run_node(form, codes, sheet, items, marks, p, right, mark);
+    let y = run_node(form, known, sheet, items, marks, p, right, mark);
     let made = results::choose(x, y, p, &before, &first, marks);
     let answer = made.ran;
     answer
@@ -340,7 +354,7 @@ fn run_choice(
 // The number of values that a repeat counts. Nothing is written.
 fn run_count(
     form: &[u8],
-    codes: &[u32],
+    known: &[u64],
     sheet: &[u8],
     items: &[u32],
     marks: &mut [u16; 256],
@@ -348,13 +362,13 @@ fn run_count(
     child: usize,
     mark: u16,
 ) -> Ran
-    requires { ⌜ Wraps Count (now form) (now codes) (now sheet) (now items) (now marks) p mark child ⌝ }
+    requires { ⌜ Wraps Count (now form) (now known) (now sheet) (now items) (now marks) p mark child ⌝ }
     ensures { λ r. ⌜ Wrapped Count mark (now (form .entry)) (now (sheet .entry)) (now (items .entry)) child (now (marks .entry)) p (now (marks .exit)) r ⌝ }
 {
     let mut unwritten = [0u32; 1];
     let all = run_repeat(
         form,
-        codes,
+        known,
         sheet,
         items,
         marks,
@@ -376,7 +390,7 @@ fn run_count(
 // The last value; with none, the child is tried once more.
 fn run_last(
     form: &[u8],
-    codes: &[u32],
+    known: &[u64],
     sheet: &[u8],
     items: &[u32],
     marks: &mut [u16; 256],
@@ -384,13 +398,13 @@ fn run_last(
     child: usize,
     mark: u16,
 ) -> Ran
-    requires { ⌜ Wraps Last (now form) (now codes) (now sheet) (now items) (now marks) p mark child ⌝ }
+    requires { ⌜ Wraps Last (now form) (now known) (now sheet) (now items) (now marks) p mark child ⌝ }
     ensures { λ r. ⌜ Wrapped Last mark (now (form .entry)) (now (sheet .entry)) (now (items .entry)) child (now (marks .entry)) p (now (marks .exit)) r ⌝ }
 {
     let mut unwritten = [0u32; 1];
     let all = run_repeat(
         form,
-        codes,
+        known,
         sheet,
         items,
         marks,
@@ -410,15 +424,40 @@ fn run_last(
         return last_value(all);
     }
     let after = all.numbers;
-    let again = run_node(form, codes, sheet, items, marks, after, child, mark);
+    let again = run_node(form, known, sheet, items, marks, after, child, mark);
     more_tries(again, all.tries)
+}
+
+// One evaluation of a repeat's child. A leaf searches from `from` on: the turns before used all that it would find earlier.
+fn run_turn(
+    form: &[u8],
+    known: &[u64],
+    sheet: &[u8],
+    items: &[u32],
+    marks: &mut [u16; 256],
+    p: Numbers,
+    child: usize,
+    from: usize,
+    mark: u16,
+) -> Ran
+    requires { ⌜ Turns (now form) (now known) (now sheet) (now items) (now marks) p mark child from ⌝ }
+    ensures { λ r. ⌜ ((t : Tree) → treeAt (now (form .entry)) child ≡ some t → Evaluates mark (sheetArea (now (sheet .entry))) (now (items .entry)) t (now (marks .entry)) p (now (marks .exit)) r) ⌝ }
+{
+    let x = layout::node_at(form, child);
+    let kind = x.kind;
+    match kind {
+        1 => params::eval_flag_from(known, marks, p, from, child, x.r == 1, mark),
+        2 => params::eval_argument_from(known, sheet, items, marks, p, from, child, 2 <= x.r, mark),
+        3 => params::eval_positional_from(sheet, items, marks, p, from, x.p, x.r == 2, mark),
+        _ => run_node(form, known, sheet, items, marks, p, child, mark),
+    }
 }
 
 // Evaluates the child until it is absent, or a success does not count, or one of `count` and `last` used nothing. Each value is
 // written to the next words of `out`, from the word behind `at` on, where that is asked for.
 pub fn run_repeat(
     form: &[u8],
-    codes: &[u32],
+    known: &[u64],
     sheet: &[u8],
     items: &[u32],
     marks: &mut [u16; 256],
@@ -431,16 +470,18 @@ pub fn run_repeat(
     out: &mut [u32],
     mark: u16,
 ) -> Repeated
-    requires { ⌜ Repeating (now form) (now codes) (now sheet) (now items) (now marks) p mark child writes (now out) at ⌝ }
+    requires { ⌜ Repeating (now form) (now known) (now sheet) (now items) (now marks) p mark child writes (now out) at ⌝ }
     ensures { λ r. ⌜ ((t : Tree) → treeAt (now (form .entry)) child ≡ some t → Repeats mark (sheetArea (now (sheet .entry))) (now (items .entry)) t catch stops writes (now (marks .entry)) p (now (marks .exit)) (now (out .entry)) at (now (out .exit)) r) ⌝ }
 {
+    let keeps = keeps_marks(form, child, catch);
+    let mut before = *marks;
     let mut s = p;
+    let mut from = wide(p.start);
     let mut last: u32 = 4294967295;
     let mut all = nothing(p);
     loop {
-        let before = *marks;
         let given = s.remaining;
-        let ran = run_node(form, codes, sheet, items, marks, s, child, mark);
+        let ran = run_turn(form, known, sheet, items, marks, s, child, from, mark);
         let after = ran.numbers;
         let way = structs::parse_option(ran.number, catch, given, after.remaining, last);
         match way {
@@ -450,14 +491,16 @@ pub fn run_repeat(
                 if structs::idle(stops, given, after.remaining) {
                     return all;
                 }
+                copy_if(keeps, marks, &mut before);
                 s = after;
+                from = next_from(from, given, after);
                 last = after.remaining;
             }
             Counting::Uncounted => {
                 return ended(all, ran.tries, after);
             }
             Counting::Absent => {
-                *marks = before;
+                copy_if(keeps, &before, marks);
                 return ended(all, ran.tries, s);
             }
             Counting::PassedOn => {

@@ -1,21 +1,19 @@
 -- The loop over the nodes: the trees of the nodes below, and their codes.
-use mathlib.Core.Bool.{Bool, true, false}
+use mathlib.Core.Bool.{true}
 use mathlib.Core.List.{List, [], _∷_, _++_, map}
-use mathlib.Core.Option.{Option, some, none, Option·none-ne-some}
+use mathlib.Core.Option.{Option, some, none}
 use mathlib.Core.Path.{_≡_, refl, sym, _∙_, ap}
-use Prim.Native.Nat.{ℕ, zero, suc, _+_, _≤_, _<_}
+use Prim.Native.Nat.{ℕ, suc, _+_, _≤_, _<_}
 use native.Mathlib.Numerals.{add-one}
-use native.Mathlib.Omega.{arith}
-use lib.ListN.{length, getD, getElem?, drop, replicate, length-replicate, length-map, drop-of-length-le}
+use lib.ListN.{length, getD, getElem?, drop, replicate, length-map, drop-of-length-le}
 use Rattle.rules.specs.Base.{isSome}
-use Rattle.rules.specs.Form.{Node, Form, nodeCount, readForm}
+use Rattle.rules.specs.Form.{Node, Form}
 use Rattle.rules.specs.Codes.{checkCode}
 use Rattle.rules.specs.Tree.{Tree, kindOf, treeOf}
-use Rattle.rules.specs.Accept.{Checked, accepted, refusedAt, treesFrom}
+use Rattle.rules.specs.Accept.{refusedAt, treesFrom}
 use Rattle.rules.specs.declared.Refused.{Refused}
 use Rattle.rules.proofs.Acceptance.{Made, flagMade, argumentMade, positionalMade, optionalMade, manyMade, someMade, countMade, lastMade, choiceMade, fallbackMade, guardMade, inside-same, tree-made, lookup-some}
-use Rattle.layout.proofs.Sizes.{nodes-length}
-use Rattle.kinds.specs.Known.{ruled, codeBy, codes, codeAt, Sound, Done}
+use Rattle.kinds.specs.Known.{codeBy, codes, codeAt, Sound, Done}
 use Rattle.kinds.proofs.Steps.{drop-there}
 use Rattle.kinds.proofs.Table.{codes-length, empty-sound}
 use Rattle.kinds.proofs.Trees.{treeCode, codeOf, tree-code, real-code}
@@ -78,7 +76,6 @@ code-by f k ts b x e = rw (e, codeBy, b) (sym (tree-code f ts x))
 
 -- the trees of the nodes below k, and a table that is right
 pub record Climbed (f : Form) (k : ℕ) (m : List ℕ) : Type 0 where
-  pub long : length m ≡ 64
   pub sound : Sound f m
   pub trees : List Tree
   pub built : codes f k ≡ map treeCode trees
@@ -86,7 +83,7 @@ pub record Climbed (f : Form) (k : ℕ) (m : List ℕ) : Type 0 where
 
 pub climbed-first : (f : Form) (m : List ℕ) → m ≡ replicate 64 0 → Climbed f 0 m
 unfolding codes
-climbed-first f m e = rw e (record { long = length-replicate {A = ℕ} 64 0; sound = empty-sound f 64; trees = []; built = refl; same = refl })
+climbed-first f m e = rw e (record { sound = empty-sound f; trees = []; built = refl; same = refl })
 
 module _ (f : Form) (k : ℕ) (m : List ℕ) (c : Climbed f k m) where
   count : length (c .trees) ≡ k
@@ -109,14 +106,13 @@ module _ (f : Form) (k : ℕ) (m : List ℕ) (c : Climbed f k m) where
         let code : codeOf (treeOf f (c .trees) x) ≡ 32 = sym (code-by f k (c .trees) (c .built) x s) ∙ sym (d .here) ∙ z in
         e ∙ rw (add-one k) (sym (ap checkCode (step-from x s ∙ bad-tree f (c .trees) x (drop (suc k) (f .nodes)) code) ∙ rw count))
 
-    pub climbed-next : length m′ ≡ 64 → (getD m′ k 0 ≡ 32 → ⊥) → Climbed f (k + 1) m′
-    climbed-next l z =
+    pub climbed-next : (getD m′ k 0 ≡ 32 → ⊥) → Climbed f (k + 1) m′
+    climbed-next z =
         let (x, s) = node in
         let code : codeOf (treeOf f (c .trees) x) ≡ codeAt f k = sym (code-by f k (c .trees) (c .built) x s) in
         let (t, r) = good-tree f (c .trees) x (λ w. z (d .here ∙ sym code ∙ w)) in
         let tree : treeCode t ≡ codeAt f k = sym (tree-some f (c .trees) x t r) ∙ code in
         record {
-          long = l;
           sound = d .sound;
           trees = c .trees ++ (t ∷ []);
           built = rw (add-one k) (next-codes t tree);

@@ -4,17 +4,17 @@ use mathlib.Core.List.{List, [], _∷_, _++_}
 use mathlib.Core.Logic.{⊎-elim, _⊎_, inl, inr, _≢_}
 use mathlib.Core.Option.{Option, some, none}
 use mathlib.Core.Path.{_≡_, refl, sym, _∙_, ap}
-use Prim.Native.Nat.{ℕ, zero, suc, _+_, _≤_, _<_, min}
+use Prim.Native.Nat.{ℕ, suc, _+_, _≤_, _<_, min}
 use native.Mathlib.Numerals.{add-one}
 use native.Mathlib.Omega.{arith}
-use lib.Dec.{leb, ltb, eqb}
+use lib.Dec.{ltb, eqb}
 use lib.ListN.{length, getD, getElem?, set, drop, replicate, length-set, length-replicate, getD-replicate, drop-of-length-le}
-use lib.Seq.{set-out, getD-set-same, getD-set-other}
+use lib.Seq.{getD-set-same, getD-set-other}
 use borrow.Author.Tests.{eq-eqb, ne-eqb, le-leb, lt-leb, lt-ltb, le-ltb, ltb-true, ltb-false, eqb-true, eqb-false}
 use borrow.Author.Count.{below-more}
 use Rattle.utf8.specs.Utf8.{if_then_else_}
 use Rattle.rules.specs.Base.{all, occurrences, numbers, concatMap, firstFault, _>>?_}
-use Rattle.rules.specs.Form.{Node, Form, nodeCount, fieldCount, readForm}
+use Rattle.rules.specs.Form.{Node, Form}
 use Rattle.rules.specs.Tree.{Tree}
 use Rattle.rules.specs.Accept.{childrenOf, uses, usedOnce, treesAt}
 use Rattle.rules.proofs.Acceptance.{lookup-some}
@@ -22,9 +22,8 @@ use Rattle.names.specs.Names.{faultOr}
 use Rattle.names.proofs.Faults.{fault-here, fault-nowhere, fault-inside, fault-same}
 use Rattle.layout.specs.declared.Node as layout
 use Rattle.layout.specs.Layout.{nodeOf}
-use Rattle.layout.proofs.Sizes.{fields-length, nodes-length}
 use Rattle.kinds.proofs.Steps.{lookup-none, drop-there}
-use Rattle.form.specs.Uses.{added, tally}
+use Rattle.form.specs.Uses.{added, tally, FieldsCounted}
 
 -- ---- one more use
 pub added-more : (c : List ℕ) (k : ℕ) → k < 64 → getD c k 0 < 2 → set c k (getD c k 0 + 1) ≡ added c k
@@ -59,21 +58,32 @@ module _ (x : layout.Node) (c : List ℕ) where
     unfolding childrenOf tally if_then_else_
     children-one k = rw (lt-leb (x .kind) 3 h, ne-eqb (x .kind) 9 k) e
 
--- ---- the loops
-module _ (c₀ l : List ℕ) where
-  pub tally-next :
-      (c d : List ℕ) (i k : ℕ)
-      → tally c₀ l ≡ tally c (drop i l)
-      → getElem? l i ≡ some k
-      → d ≡ added c k
-      → tally c₀ l ≡ tally d (drop (i + 1) l)
-  unfolding tally
-  tally-next c d i k t e r = t ∙ rw (drop-there l i k e, add-one i, r)
+-- ---- the loop over the fields: those below i are nodes, and are counted
+pub record FieldsFrom (n : ℕ) (l c₀ c : List ℕ) (i : ℕ) : Type 0 where
+  pub nodes : all (λ k. ltb k n) l ≡ all (λ k. ltb k n) (drop i l)
+  pub counts : tally c₀ l ≡ tally c (drop i l)
 
-  pub tally-last : (c : List ℕ) (i : ℕ) → tally c₀ l ≡ tally c (drop i l) → length l ≤ i → c ≡ tally c₀ l
-  unfolding tally
-  tally-last c i t h = sym (t ∙ rw (drop-of-length-le l h))
+module _ (n : ℕ) (l c₀ c : List ℕ) (i : ℕ) (s : FieldsFrom n l c₀ c i) where
+  pub fields-next : (k : ℕ) (d : List ℕ) → getElem? l i ≡ some k → k < n → d ≡ added c k → FieldsFrom n l c₀ d (i + 1)
+  unfolding all tally
+  fields-next k d e h r = record {
+    nodes = s .nodes ∙ rw (drop-there l i k e, add-one i, lt-ltb k n h);
+    counts = s .counts ∙ rw (drop-there l i k e, add-one i, r);
+  }
 
+  pub fields-bad : (k : ℕ) → getElem? l i ≡ some k → n ≤ k → FieldsCounted n l c₀ c false
+  unfolding all
+  fields-bad k e h =
+      record { nodes = sym (s .nodes ∙ rw (drop-there l i k e, le-ltb k n h)); counts = λ z. absurd (false≢true z) }
+
+  pub fields-last : length l ≤ i → FieldsCounted n l c₀ c true
+  unfolding all tally
+  fields-last h = record {
+    nodes = sym (s .nodes ∙ rw (drop-of-length-le l h));
+    counts = λ z. sym (s .counts ∙ rw (drop-of-length-le l h));
+  }
+
+-- ---- the loop over the nodes
 module _ (c₀ : List ℕ) (l : List Node) where
   pub children-next :
       (c d : List ℕ) (i : ℕ) (x : Node)
@@ -199,23 +209,7 @@ module _ (f : Form) (n : ℕ) (h : n ≤ 64) (c : List ℕ) (e : c ≡ tally (re
         go none k = sym uses-same ∙ k
         go (some j) k = absurd (omega (arith, by-option (some j) k, fault-inside (onceIn c n) n 0 j k .1))
 
--- ---- fields are nodes
-module _ (n : ℕ) (l : List ℕ) where
-  abbrev pub nodesAll : List ℕ → Bool
-  nodesAll ks = all (λ k. ltb k n) ks
-
-  pub fields-next : (i k : ℕ) → nodesAll l ≡ nodesAll (drop i l) → getElem? l i ≡ some k → k < n → nodesAll l ≡ nodesAll (drop (i + 1) l)
-  unfolding all
-  fields-next i k t e h = t ∙ rw (drop-there l i k e, add-one i, lt-ltb k n h)
-
-  pub fields-bad : (i k : ℕ) → nodesAll l ≡ nodesAll (drop i l) → getElem? l i ≡ some k → n ≤ k → false ≡ nodesAll l
-  unfolding all
-  fields-bad i k t e h = sym (t ∙ rw (drop-there l i k e, le-ltb k n h))
-
-  pub fields-last : (i : ℕ) → nodesAll l ≡ nodesAll (drop i l) → length l ≤ i → true ≡ nodesAll l
-  unfolding all
-  fields-last i t h = sym (t ∙ rw (drop-of-length-le l h))
-
+-- ---- the trees of the fields
 module _ (ts : List Tree) (n : ℕ) (long : length ts ≡ n) where
   pub trees-none : (ks : List ℕ) → all (λ k. ltb k n) ks ≡ false → treesAt ts ks ≡ none
   unfolding all treesAt _>>?_

@@ -3,51 +3,58 @@ use mathlib.Core.Bool.{Bool, true, false, not}
 use mathlib.Core.List.{List, [], _∷_, _++_, map}
 use mathlib.Core.Option.{Option, some, none}
 use mathlib.Core.Path.{_≡_, refl, sym, _∙_, ap, ap₂}
-use Prim.Native.Nat.{ℕ, zero, suc, _+_, _*_, _≤_, _<_}
+use Prim.Native.Nat.{ℕ, suc, _+_, _*_, _≤_, _<_}
 use native.Mathlib.Nat.{zero-add}
 use native.Mathlib.Numerals.{add-one}
 use native.Mathlib.Omega.{arith}
-use lib.Dec.{ltb}
 use lib.ListN.{length, drop, replicate}
 use borrow.Author.Tests.{not-true, not-false}
 use Rattle.utf8.specs.Utf8.{if_then_else_}
-use Rattle.rules.specs.Base.{all, numbers, firstFault}
+use Rattle.rules.specs.Base.{numbers, concatMap, firstFault}
 use Rattle.rules.specs.Codes.{checkCode}
-use Rattle.rules.specs.Form.{Node, Name, Form, nodeCount, nameCount, areaAt, namesAt, readForm, readName, nameGood}
+use Rattle.rules.specs.Form.{Node, Form, nodeCount, nameCount, areaAt, namesAt, readForm, readName, nameGood}
 use Rattle.rules.specs.Tree.{Tree, treeOf}
-use Rattle.rules.specs.Accept.{Checked, accepted, refusedAt, Accepted, lengthGood, treesFrom, uses, usedOnce, treesAt, checkUse, checkRecords, checkForm}
+use Rattle.rules.specs.Accept.{Checked, accepted, refusedAt, lengthGood, treesFrom, childrenOf, uses, treesAt, checkUse, checkRecords, checkForm}
 use Rattle.rules.specs.declared.Refused.{Refused}
 use Rattle.rules.proofs.Acceptance.{trees-length}
 use Rattle.names.specs.Names.{namesIn, faultOr}
-use Rattle.names.proofs.Faults.{fault-map, fault-same, fault-inside}
-use Rattle.layout.proofs.Sizes.{Sized, sized, from, from-drop, record-drop, nodes-length, names-length}
-use Rattle.form.specs.Uses.{tally, recordsFault}
-use Rattle.form.proofs.Counting.{onceIn, some-fault, no-fault-used, trees-none, trees-some}
+use Rattle.layout.proofs.Sizes.{from, from-drop, record-drop, nodes-length, names-length}
+use Rattle.form.specs.Uses.{tally, FieldsCounted, recordsFault}
+use Rattle.form.proofs.Counting.{onceIn, uses-tally, some-fault, no-fault-used, trees-none, trees-some}
 
 abbrev pub said : ℕ → ℕ → Refused
 said n k = record { number = n; place = k }
 
 -- ---- uses
-module _ (b : List ℕ) (ts : List Tree) (long : length ts ≡ nodeCount b) (g : Bool) (e : g ≡ all (λ k. ltb k (nodeCount b)) (readForm b .fields)) (r : Refused) where
+module _ (b : List ℕ) (ts : List Tree) (long : length ts ≡ nodeCount b) (n : ℕ) (en : n ≡ nodeCount b) (c₀ c : List ℕ) (g : Bool) (s : FieldsCounted n (readForm b .fields) c₀ c g) (r : Refused) where
+  trees : length ts ≡ n
+  trees = long ∙ sym en
+
   pub uses-outside : not g ≡ true → r ≡ said 4 0 → r ≡ checkCode (checkUse (readForm b) ts)
   unfolding checkUse
-  uses-outside z s = s ∙ rw (trees-none ts (nodeCount b) long (readForm b .fields) (sym e ∙ not-true g z), checkUse)
+  uses-outside z e = e ∙ rw (trees-none ts n trees (readForm b .fields) (sym (s .nodes) ∙ not-true g z), checkUse)
 
-  module _ (z : not g ≡ false) (few : nodeCount b ≤ 64) (c : List ℕ) (ec : c ≡ tally (replicate 64 0) (uses (readForm b))) (n : ℕ) (en : n ≡ nodeCount b) (i : ℕ) (ei : i ≡ faultOr n (firstFault (onceIn c n) 0 (numbers n 0))) where
+  module _ (z : not g ≡ false) (few : nodeCount b ≤ 64) (e₀ : c₀ ≡ replicate 64 0) (d : List ℕ) (ed : d ≡ tally c (concatMap childrenOf (readForm b .nodes))) (i : ℕ) (ei : i ≡ faultOr n (firstFault (onceIn d n) 0 (numbers n 0))) where
     count : length (readForm b .nodes) ≡ n
     count = nodes-length b ∙ sym en
 
+    used : d ≡ tally (replicate 64 0) (uses (readForm b))
+    used = uses-tally (readForm b) c₀ c d e₀ (s .counts (not-false g z)) ed
+
+    some-trees : (us : List Tree) × (treesAt ts (readForm b .fields) ≡ some us)
+    some-trees = trees-some ts n trees (readForm b .fields) (sym (s .nodes) ∙ not-false g z)
+
     pub uses-fault : i < n → r ≡ said 4 (i + 1) → r ≡ checkCode (checkUse (readForm b) ts)
     unfolding checkUse
-    uses-fault l s =
-        let (us, h) = trees-some ts (nodeCount b) long (readForm b .fields) (sym e ∙ not-false g z) in
-        s ∙ rw (h, count, some-fault (readForm b) n (omega arith) c ec i ei l, checkUse, add-one i)
+    uses-fault l e =
+        let (us, h) = some-trees in
+        e ∙ rw (h, count, some-fault (readForm b) n (omega arith) d used i ei l, checkUse, add-one i)
 
     pub uses-good : n ≤ i → r ≡ said 0 0 → r ≡ checkCode (checkUse (readForm b) ts)
     unfolding checkUse
-    uses-good l s =
-        let (us, h) = trees-some ts (nodeCount b) long (readForm b .fields) (sym e ∙ not-false g z) in
-        s ∙ rw (h, count, no-fault-used (readForm b) n (omega arith) c ec i ei l, checkUse)
+    uses-good l e =
+        let (us, h) = some-trees in
+        e ∙ rw (h, count, no-fault-used (readForm b) n (omega arith) d used i ei l, checkUse)
 
 -- ---- name records
 map-same : {A B : Type 0} (g h : A → B) → ((a : A) → g a ≡ h a) → (l : List A) → map g l ≡ map h l

@@ -2,17 +2,17 @@
 ghost use mathlib.Core.Path.{_≡_};
 ghost use mathlib.Core.Bool.{true};
 ghost use mathlib.Core.List.{List, []};
-ghost use Prim.Native.Nat.{ℕ, _≤_};
-ghost use lib.Dec.{eqb, ltb};
+ghost use Prim.Native.Nat.{_≤_};
+ghost use lib.Dec.{eqb};
 ghost use lib.ListN.{length, getD, replicate};
-ghost use Rattle.rules.specs.Base.{all, numbers, concatMap, firstFault};
+ghost use Rattle.rules.specs.Base.{numbers, concatMap, firstFault};
 ghost use Rattle.rules.specs.Codes.{checkCode};
 ghost use Rattle.rules.specs.Form.{nodeCount, readForm};
 ghost use Rattle.rules.specs.Tree.{Tree};
-ghost use Rattle.rules.specs.Accept.{lengthGood, treesFrom, childrenOf, uses, checkUse, checkForm};
+ghost use Rattle.rules.specs.Accept.{lengthGood, treesFrom, childrenOf, checkUse, checkForm};
 ghost use Rattle.names.specs.Names.{faultOr};
 ghost use Rattle.layout.specs.Layout.{nodeOf};
-ghost use Rattle.form.specs.Uses.{added, tally, recordsFault};
+ghost use Rattle.form.specs.Uses.{added, tally, FieldsCounted, recordsFault};
 
 fn refused(number: u32, place: usize) -> rules::Refused
     requires { ⌜ place ≤ 128 ⌝ }
@@ -30,33 +30,16 @@ fn check_nodes(b: &[u8]) -> rules::Refused
     ensures { λ r. ⌜ r ≡ checkCode (treesFrom (readForm (now (b .entry))) [] (readForm (now (b .entry)) .nodes)) ⌝ }
 {
     let n = layout::node_count(b);
-    let mut m = kinds::empty();
+    let mut codes = kinds::empty();
     let mut k = 0;
     while k < n {
-        m = kinds::fill(b, k, m);
-        if m.codes[k] == 32 {
+        kinds::fill(b, k, &mut codes);
+        if codes[k] == 32 {
             return refused(3, k + 1);
         }
         k += 1;
     }
     refused(0, 0)
-}
-
-// Whether every field is a node.
-fn fields_good(b: &[u8]) -> bool
-    requires { ⌜ lengthGood (now b) ≡ true ⌝ }
-    ensures { λ r. ⌜ r ≡ all (λ k. ltb k (nodeCount (now (b .entry)))) (readForm (now (b .entry)) .fields) ⌝ }
-{
-    let n = layout::node_count(b);
-    let f = layout::field_count(b);
-    let mut i = 0;
-    while i < f {
-        if n <= layout::field_at(b, i) {
-            return false;
-        }
-        i += 1;
-    }
-    true
 }
 
 // One more use of node k: 0, 1, or 2 for more.
@@ -70,16 +53,22 @@ fn add(counts: &mut [u8; 64], k: usize)
     }
 }
 
-fn count_fields(b: &[u8], counts: &mut [u8; 64])
+// Counts the uses of the fields. No if a field is none of n nodes: the counts are then of no use.
+fn count_fields(b: &[u8], n: usize, counts: &mut [u8; 64]) -> bool
     requires { ⌜ lengthGood (now b) ≡ true ⌝ }
-    ensures { λ _. ⌜ now (counts .exit) ≡ tally (now (counts .entry)) (readForm (now (b .entry)) .fields) ⌝ }
+    ensures { λ r. ⌜ FieldsCounted n (readForm (now (b .entry)) .fields) (now (counts .entry)) (now (counts .exit)) r ⌝ }
 {
     let f = layout::field_count(b);
     let mut i = 0;
     while i < f {
-        add(counts, layout::field_at(b, i));
+        let k = layout::field_at(b, i);
+        if n <= k {
+            return false;
+        }
+        add(counts, k);
         i += 1;
     }
+    true
 }
 
 fn add_children(x: layout::Node, counts: &mut [u8; 64])
@@ -113,17 +102,6 @@ fn none() -> [u8; 64]
     [0u8; 64]
 }
 
-// How often each node is used, as child or field.
-fn count_uses(b: &[u8]) -> [u8; 64]
-    requires { ⌜ lengthGood (now b) ≡ true ⌝ }
-    ensures { λ r. ⌜ r ≡ tally (replicate 64 0) (uses (readForm (now (b .entry)))) ⌝ }
-{
-    let mut counts = none();
-    count_fields(b, &mut counts);
-    count_children(b, &mut counts);
-    counts
-}
-
 // The lowest of n nodes that is not used once, or n.
 fn uses_fault(counts: &[u8; 64], n: usize) -> usize
     requires { ⌜ n ≤ 64 ⌝ }
@@ -144,11 +122,12 @@ fn check_uses(b: &[u8]) -> rules::Refused
     requires { ⌜ lengthGood (now b) ≡ true ⌝ }
     ensures { λ r. ⌜ ((ts : List Tree) → length ts ≡ nodeCount (now (b .entry)) → r ≡ checkCode (checkUse (readForm (now (b .entry))) ts)) ⌝ }
 {
-    if !fields_good(b) {
+    let n = layout::node_count(b);
+    let mut counts = none();
+    if !count_fields(b, n, &mut counts) {
         return refused(4, 0);
     }
-    let counts = count_uses(b);
-    let n = layout::node_count(b);
+    count_children(b, &mut counts);
     let fault = uses_fault(&counts, n);
     if fault < n {
         return refused(4, fault + 1);

@@ -1,18 +1,19 @@
 -- The table of codes: what a lookup, a child's code and a store say.
 use mathlib.Core.Bool.{Bool, true, false}
-use mathlib.Core.List.{List, [], _∷_, _++_}
+use mathlib.Core.List.{List, []}
 use mathlib.Core.Logic.{_⊎_, inl, inr, ⊎-elim, _≢_}
-use mathlib.Core.Option.{some, none}
+use mathlib.Core.Option.{some}
 use mathlib.Core.Path.{_≡_, refl, sym, _∙_, ap}
-use Prim.Native.Nat.{ℕ, zero, suc, _+_, _<_, _≤_}
+use Prim.Native.Nat.{ℕ, zero, suc, _<_, _≤_}
 use native.Mathlib.Nat.{eq-or-lt-of-le}
 use native.Mathlib.Omega.{arith}
 use lib.Dec.{eqb}
-use lib.ListN.{length, getD, getElem?, set, replicate, length-append, List·getD-append, List·getD-eq-default}
+use lib.ListN.{length, getD, getElem?, set, replicate, length-append, length-set, length-replicate, List·getD-append, List·getD-eq-default}
 use lib.Seq.{getD-at, getD-set-same, getD-set-other}
-use borrow.Author.Tests.{eqb-true, eqb-false}
+use borrow.Author.Tests.{eqb-true, eqb-false, le-leb, lt-leb}
+use Rattle.utf8.specs.Utf8.{if_then_else_}
 use Rattle.rules.specs.Form.{Node, Form}
-use Rattle.kinds.specs.Kinds.{ruleCode, childP, childQ}
+use Rattle.kinds.specs.Kinds.{leafCode, innerCode, childQ}
 use Rattle.kinds.specs.Known.{ruled, codeBy, codes, codeAt, Sound, Done}
 
 pub codes-length : (f : Form) (n : ℕ) → length (codes f n) ≡ n
@@ -33,35 +34,40 @@ codes-at f (suc n) j h =
     last : (j n : ℕ) → j < suc n → (j ≡ n) ⊎ (j < n)
     last j n h = eq-or-lt-of-le (omega arith)
 
--- what is known of the table and of a child's code, after the child was worked out or found to be none
+-- a child whose code was worked out, or was known
+pub worked : (f : Form) (p : ℕ) (m m′ : List ℕ) → m ≡ m′ → Done f p m′ → Done f p m
+worked f p m m′ e d = rw e d
+
+pub found : (f : Form) (p : ℕ) (m m′ : List ℕ) → m ≡ m′ → Sound f m′ → (getD m′ p 0 ≡ 0 → ⊥) → Done f p m
+found f p m m′ e s n = rw e (record { here = s .right p n; sound = s })
+
+-- what is known of the table and of a child's code k, which is 0 where there is no child
 pub record Known (f : Form) (i p : ℕ) (m : List ℕ) (k : ℕ) : Type 0 where
   pub sound : Sound f m
-  pub long : length m ≡ 64
   pub code : k ≡ getD (codes f i) p 0
 
-pub worked :
-    (f : Form) (i p : ℕ) (m m′ : List ℕ) (k : ℕ)
-    → m ≡ m′ → p < i → length m′ ≡ 64 → Done f p m′ → k ≡ getD m′ p 0
-    → Known f i p m k
-worked f i p m m′ k em h l d e = rw em (record { sound = d .sound; long = l; code = e ∙ d .here ∙ sym (codes-at f i p h) })
+pub child : (f : Form) (i p : ℕ) (m m′ : List ℕ) (k : ℕ) → m ≡ m′ → p < i → Done f p m′ → k ≡ getD m′ p 0 → Known f i p m k
+child f i p m m′ k em h d e = rw em (record { sound = d .sound; code = e ∙ d .here ∙ sym (codes-at f i p h) })
 
-pub no-child :
-    (f : Form) (i p : ℕ) (m m′ : List ℕ) (k : ℕ)
-    → m ≡ m′ → i ≤ p → length m′ ≡ 64 → Sound f m′ → k ≡ 0
-    → Known f i p m k
-no-child f i p m m′ k em h l d e =
-    rw em (record { sound = d; long = l; code = e ∙ sym (List·getD-eq-default (codes f i) 0 (omega (arith, codes-length f i))) })
+pub no-child : (f : Form) (i p : ℕ) (m m′ : List ℕ) (k : ℕ) → m ≡ m′ → i ≤ p → Sound f m′ → k ≡ 0 → Known f i p m k
+no-child f i p m m′ k em h s e =
+    rw em (record { sound = s; code = e ∙ sym (List·getD-eq-default (codes f i) 0 (omega (arith, codes-length f i))) })
 
-pub code-is :
-    (f : Form) (i p q c d : ℕ) (x : Node)
-    → getElem? (f .nodes) i ≡ some x
-    → p ≡ childP x
-    → q ≡ childQ x
-    → c ≡ getD (codes f i) p 0
-    → d ≡ getD (codes f i) q 0
-    → ruleCode f x c d ≡ codeAt f i
-unfolding codeAt codeBy ruled
-code-is f i p q c d x e ep eq ec ed = rw (e, codeBy, ec, ed, ep, eq)
+-- the code of a leaf, and that of any other node from its children's
+module _ (f : Form) (i : ℕ) (x : Node) (e : getElem? (f .nodes) i ≡ some x) where
+  pub leaf-is : x .kind ≤ 3 → leafCode f x ≡ codeAt f i
+  unfolding codeAt codeBy ruled if_then_else_
+  leaf-is h = rw (e, codeBy, le-leb (x .kind) 3 h)
+
+  pub inner-is :
+      (q c d : ℕ)
+      → 3 < x .kind
+      → q ≡ childQ x
+      → c ≡ getD (codes f i) (x .p) 0
+      → d ≡ getD (codes f i) q 0
+      → innerCode f x c d ≡ codeAt f i
+  unfolding codeAt codeBy ruled if_then_else_
+  inner-is q c d h eq ec ed = rw (e, codeBy, lt-leb (x .kind) 3 h, ec, ed, eq)
 
 same-or : (j i : ℕ) → (j ≡ i) ⊎ (j ≢ i)
 same-or j i = by-test (eqb j i) refl
@@ -70,21 +76,24 @@ same-or j i = by-test (eqb j i) refl
     by-test true e = inl (eqb-true j i e)
     by-test false e = inr (eqb-false j i e)
 
-pub stored : (f : Form) (m : List ℕ) (i k : ℕ) → i < 64 → length m ≡ 64 → Sound f m → k ≡ codeAt f i → Done f i (set m i k)
-stored f m i k h l d e = record {
+pub stored : (f : Form) (m : List ℕ) (i k : ℕ) → i < 64 → Sound f m → k ≡ codeAt f i → Done f i (set m i k)
+stored f m i k h s e = record {
   here = here;
-  sound = record { right = λ j ne. ⊎-elim (λ s. ap (λ (j : ℕ). getD (set m i k) j 0) s ∙ here ∙ ap (codeAt f) (sym s)) (λ n. other j n ne) (same-or j i) };
+  sound = record {
+    long = length-set m i k ∙ s .long;
+    right = λ j ne. ⊎-elim (λ s. ap (λ (j : ℕ). getD (set m i k) j 0) s ∙ here ∙ ap (codeAt f) (sym s)) (λ n. other j n ne) (same-or j i);
+  };
 }
   where
     here : getD (set m i k) i 0 ≡ codeAt f i
-    here = getD-set-same m i k 0 (omega arith) ∙ e
+    here = getD-set-same m i k 0 (omega (arith, s .long)) ∙ e
 
     other : (j : ℕ) → j ≢ i → (getD (set m i k) j 0 ≡ 0 → ⊥) → getD (set m i k) j 0 ≡ codeAt f j
-    other j n ne = getD-set-other m i j k 0 n ∙ d .right j (λ z. ne (getD-set-other m i j k 0 n ∙ z))
+    other j n ne = getD-set-other m i j k 0 n ∙ s .right j (λ z. ne (getD-set-other m i j k 0 n ∙ z))
 
 -- an empty table is sound
-pub empty-sound : (f : Form) (n : ℕ) → Sound f (replicate n 0)
-empty-sound f n = record { right = λ j ne. absurd (ne (all-zero n j)) }
+pub empty-sound : (f : Form) → Sound f (replicate 64 0)
+empty-sound f = record { long = length-replicate {A = ℕ} 64 0; right = λ j ne. absurd (ne (all-zero 64 j)) }
   where
     all-zero : (n j : ℕ) → _≡_ {A = ℕ} (getD (replicate n 0) j 0) 0
     all-zero zero j = refl

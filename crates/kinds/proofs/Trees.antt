@@ -17,7 +17,7 @@ use Rattle.rules.specs.Codes.{kindCode}
 use Rattle.rules.specs.Tree.{Named, Tree, Flag, Argument, Positional, Optional, Many, Some, Count, Last, Choice, Fallback, Guard, optionalKind, listKind, countKind, lastKind, shapeOf, innerBase, sameKind, choiceKind, baseKind, kindOf, hasRepeat, zeros, namesOf, namedBy, namedOf, flagOf, argumentOf, positionOf, positionalOf, fitting, repeatOf, fallbackValue, fallbackOf, guardOf, childOf, caughtOf, choiceOf, treeOf}
 use Rattle.rules.proofs.Acceptance.{is-some}
 use Rattle.rules.proofs.KindLaws.{same-kind}
-use Rattle.kinds.specs.Kinds.{namedGood, flagCode, argumentCode, positionalCode, leafCode, childGood, optionalCode, repeatCode, wrapCode, bothCode, choiceCode, textName, fallbackBy, fallbackCode, guardBy, guardCode, ruleCode, childP, childQ}
+use Rattle.kinds.specs.Kinds.{namedGood, flagCode, argumentCode, positionalCode, leafCode, childGood, optionalCode, repeatCode, wrapCode, bothCode, choiceCode, textName, fallbackBy, fallbackCode, guardBy, guardCode, innerCode, childQ}
 use Rattle.kinds.specs.Known.{ruled}
 use Rattle.kinds.proofs.Steps.{eqb-flip}
 
@@ -652,61 +652,61 @@ module _ (f : Form) (below : List Tree) (x : Node) where
     over n = ap (ltb n) z
 
   says-1 : x .kind ≡ 1 → Says
-  unfolding treeOf ruled ruleCode leafCode childP childQ if_then_else_
+  unfolding treeOf ruled innerCode leafCode childQ if_then_else_
   says-1 z = rw (is 1 z 1, most 1 z 3) (flag-leaf f (length below) x)
 
   says-2 : x .kind ≡ 2 → Says
-  unfolding treeOf ruled ruleCode leafCode childP childQ if_then_else_
+  unfolding treeOf ruled innerCode leafCode childQ if_then_else_
   says-2 z = rw (is 2 z 1, is 2 z 2, most 2 z 3) (argument-leaf f (length below) x)
 
   says-3 : x .kind ≡ 3 → Says
-  unfolding treeOf ruled ruleCode leafCode childP childQ if_then_else_
+  unfolding treeOf ruled innerCode leafCode childQ if_then_else_
   says-3 z = rw (is 3 z 1, is 3 z 2, is 3 z 3, most 3 z 3) (positional-leaf (length below) x)
 
   says-4 : x .kind ≡ 4 → Says
-  unfolding treeOf ruled ruleCode wrapCode childGood childP childQ if_then_else_
+  unfolding treeOf ruled innerCode wrapCode childGood childQ if_then_else_
   says-4 z =
       rw (is 4 z 1, is 4 z 2, is 4 z 3, is 4 z 4, most 4 z 3, most 4 z 8, over 4 z 6)
       (caught-code below x (λ c t. fitting (Optional c t)) optionalCode optional-tree optional-none)
 
   says-5 : x .kind ≡ 5 → Says
-  unfolding treeOf ruled ruleCode wrapCode childGood childP childQ if_then_else_
+  unfolding treeOf ruled innerCode wrapCode childGood childQ if_then_else_
   says-5 z =
       rw (is 5 z 1, is 5 z 2, is 5 z 3, is 5 z 4, is 5 z 5, most 5 z 3, most 5 z 8, over 5 z 6)
       (caught-code below x (λ c. repeatOf (Many c)) (repeatCode (x .kind)) (many-tree (x .kind) (most 5 z 6)) (repeat-none (x .kind)))
 
   says-6 : x .kind ≡ 6 → Says
-  unfolding treeOf ruled ruleCode wrapCode childGood childP childQ if_then_else_
+  unfolding treeOf ruled innerCode wrapCode childGood childQ if_then_else_
   says-6 z =
       rw (is 6 z 1, is 6 z 2, is 6 z 3, is 6 z 4, is 6 z 5, is 6 z 6, most 6 z 3, most 6 z 8, over 6 z 6)
       (caught-code below x (λ c. repeatOf (Some c)) (repeatCode (x .kind)) (some-tree (x .kind) (most 6 z 6)) (repeat-none (x .kind)))
 
   says-7 : x .kind ≡ 7 → Says
-  unfolding treeOf ruled ruleCode wrapCode childGood childP childQ if_then_else_
+  unfolding treeOf ruled innerCode wrapCode childGood childQ if_then_else_
   says-7 z =
       rw (is 7 z 1, is 7 z 2, is 7 z 3, is 7 z 4, is 7 z 5, is 7 z 6, is 7 z 7, most 7 z 3, most 7 z 8, over 7 z 6)
       (child-code below x (x .r ∷ x .lo ∷ x .hi ∷ []) (repeatOf Count) (repeatCode (x .kind)) (λ t. count-tree t ∙ ap (λ (n : ℕ). repeatCode n (treeCode t)) (sym z)) (repeat-none (x .kind)))
 
   says-8 : x .kind ≡ 8 → Says
-  unfolding treeOf ruled ruleCode wrapCode childGood childP childQ if_then_else_
+  unfolding treeOf ruled innerCode wrapCode childGood childQ if_then_else_
   says-8 z =
       rw (is 8 z 1, is 8 z 2, is 8 z 3, is 8 z 4, is 8 z 5, is 8 z 6, is 8 z 7, is 8 z 8, most 8 z 3, most 8 z 8, over 8 z 6)
       (child-code below x (x .r ∷ x .lo ∷ x .hi ∷ []) (repeatOf Last) (repeatCode (x .kind)) (λ t. last-tree t ∙ ap (λ (n : ℕ). repeatCode n (treeCode t)) (sym z)) (repeat-none (x .kind)))
 
   says-9 : x .kind ≡ 9 → Says
-  unfolding treeOf ruled ruleCode childP childQ if_then_else_
+  unfolding treeOf ruled innerCode childQ if_then_else_
   says-9 z =
       rw (is 9 z 1, is 9 z 2, is 9 z 3, is 9 z 4, is 9 z 5, is 9 z 6, is 9 z 7, is 9 z 8, is 9 z 9, most 9 z 3, most 9 z 8)
       (choice-code below x)
 
   says-10 : x .kind ≡ 10 → Says
-  unfolding treeOf ruled ruleCode fallbackCode childP childQ if_then_else_ zeros all
+  unfolding treeOf ruled innerCode fallbackCode childQ if_then_else_ zeros all
   says-10 z =
       rw (is 10 z 1, is 10 z 2, is 10 z 3, is 10 z 4, is 10 z 5, is 10 z 6, is 10 z 7, is 10 z 8, is 10 z 9, is 10 z 10, most 10 z 3, most 10 z 8, eqb-flip (x .q))
       (child-code below x [] (fallbackOf f x) (fallbackBy f x) (fallback-tree f x) (fallback-zero f x))
 
   says-11 : x .kind ≡ 11 → Says
-  unfolding treeOf ruled ruleCode guardCode childP childQ if_then_else_
+  unfolding treeOf ruled innerCode guardCode childQ if_then_else_
   says-11 z =
       rw (is 11 z 1, is 11 z 2, is 11 z 3, is 11 z 4, is 11 z 5, is 11 z 6, is 11 z 7, is 11 z 8, is 11 z 9, is 11 z 10, is 11 z 11, most 11 z 3, most 11 z 8)
       (child-code below x (x .r ∷ []) (guardOf x) (guardBy (x .lo) (x .hi)) (guard-tree x) (guard-none (x .lo) (x .hi)))
@@ -722,7 +722,7 @@ module _ (f : Form) (below : List Tree) (x : Node) where
   Not n = x .kind ≡ n → ⊥
 
   says-other : Not 1 → Not 2 → Not 3 → Not 4 → Not 5 → Not 6 → Not 7 → Not 8 → Not 9 → Not 10 → Not 11 → Says
-  unfolding treeOf ruled ruleCode leafCode if_then_else_ codeOf
+  unfolding treeOf ruled innerCode leafCode if_then_else_ codeOf
   says-other a b c d e g h i j k l =
       rw (no 1 a, no 2 b, no 3 c, no 4 d, no 5 e, no 6 g, no 7 h, no 8 i, no 9 j, no 10 k, no 11 l) (go (leb (x .kind) 3) refl)
     where
@@ -732,7 +732,7 @@ module _ (f : Form) (below : List Tree) (x : Node) where
       above : 3 < x .kind → 8 < x .kind
       above s = nine (x .kind) s d e g h i
 
-      go : (t : Bool) → leb (x .kind) 3 ≡ t → 32 ≡ (if leb (x .kind) 3 then 32 else (if leb (x .kind) 8 then wrapCode x (getD (map treeCode below) (childP x) 0) else 32))
+      go : (t : Bool) → leb (x .kind) 3 ≡ t → 32 ≡ (if leb (x .kind) 3 then 32 else (if leb (x .kind) 8 then wrapCode x (getD (map treeCode below) (x .p) 0) else 32))
       go true s = rw s
       go false s = rw (s, lt-leb (x .kind) 8 (above (leb-false (x .kind) 3 s)))
 

@@ -1,5 +1,5 @@
 -- Codes of nodes, by numbers alone. A code is the number of a node's kind (1 to 15), 16 more if there is a repeat here or
--- beneath, and 32 if the node is at fault. A child that is not there has 0. (proofs/Codes.antt: they are those of the trees.)
+-- beneath, and 32 if the node is at fault. A child that is not there has 0. (proofs/Trees.antt: they are those of the trees.)
 use mathlib.Core.Bool.{Bool, true, false, _&&_}
 use mathlib.Core.List.{List, [], _∷_}
 use mathlib.Core.Option.{Option, some, none}
@@ -86,18 +86,14 @@ guardBy lo hi c = if ltb hi lo then 32 else (if eqb (c % 16) 3 then c else 32)
 unfoldable pub guardCode : Node → ℕ → ℕ
 guardCode x c = if zeros (x .q ∷ x .r ∷ []) then guardBy (x .lo) (x .hi) c else 32
 
--- ---- all kinds
-unfoldable pub ruleCode : Form → Node → ℕ → ℕ → ℕ
-ruleCode f x c d =
-    if leb (x .kind) 3 then leafCode f x else
-    (if leb (x .kind) 8 then wrapCode x c else
+-- ---- kinds 4 and above
+unfoldable pub innerCode : Form → Node → ℕ → ℕ → ℕ
+innerCode f x c d =
+    if leb (x .kind) 8 then wrapCode x c else
     (if eqb (x .kind) 9 then choiceCode x c d else
     (if eqb (x .kind) 10 then fallbackCode f x c else
-    (if eqb (x .kind) 11 then guardCode x c else 32))))
+    (if eqb (x .kind) 11 then guardCode x c else 32)))
 
--- the children's numbers, and 64, which no node has
-unfoldable pub childP : Node → ℕ
-childP x = if leb (x .kind) 3 then 64 else x .p
-
+-- the number of the second child, and 64, which no node has
 unfoldable pub childQ : Node → ℕ
 childQ x = if eqb (x .kind) 9 then x .q else 64

@@ -1,21 +1,19 @@
 -- The codes of all nodes, and a table of those that are known.
-use mathlib.Core.Bool.{Bool, true, false, _&&_}
+use mathlib.Core.Bool.{true}
 use mathlib.Core.List.{List, [], _∷_, _++_}
-use mathlib.Core.Option.{Option, some, none}
+use mathlib.Core.Option.{some, none}
 use mathlib.Core.Path.{_≡_}
-use Prim.Native.Nat.{ℕ, zero, suc, _+_, _<_}
-use lib.Dec.{leb, ltb}
-use lib.ListN.{length, getD, getElem?, set}
+use Prim.Native.Nat.{ℕ, zero, suc, _<_}
+use lib.Dec.{leb}
+use lib.ListN.{length, getD, getElem?}
 use Rattle.utf8.specs.Utf8.{if_then_else_}
-use Rattle.rules.specs.Base.{firstFault}
-use Rattle.rules.specs.Form.{Node, Form, nodeCount, readForm, nameGood}
+use Rattle.rules.specs.Form.{Node, Form, nodeCount, readForm}
 use Rattle.rules.specs.Accept.{lengthGood}
-use Rattle.names.specs.Names.{faultOr}
-use Rattle.kinds.specs.Kinds.{ruleCode, childP, childQ}
+use Rattle.kinds.specs.Kinds.{leafCode, innerCode, childQ}
 
 -- the code of node n, from those of the nodes below it
 unfoldable pub ruled : Form → List ℕ → Node → ℕ
-ruled f cs x = ruleCode f x (getD cs (childP x) 0) (getD cs (childQ x) 0)
+ruled f cs x = if leb (x .kind) 3 then leafCode f x else innerCode f x (getD cs (x .p) 0) (getD cs (childQ x) 0)
 
 unfoldable pub codeBy : Form → List ℕ → ℕ → ℕ
 codeBy f cs n = elim (getElem? (f .nodes) n) [ none ↦ 32 | some x ↦ ruled f cs x ]
@@ -28,8 +26,9 @@ codes f (suc n) = codes f n ++ (codeBy f (codes f n) n ∷ [])
 unfoldable pub codeAt : Form → ℕ → ℕ
 codeAt f i = codeBy f (codes f i) i
 
--- an entry that is not 0 is the node's code
+-- a table of codes: an entry that is not 0 is the node's code
 pub record Sound (f : Form) (m : List ℕ) : Type 0 where
+  pub long : length m ≡ 64
   pub right : (j : ℕ) → (getD m j 0 ≡ 0 → ⊥) → getD m j 0 ≡ codeAt f j
 
 pub record Done (f : Form) (i : ℕ) (m : List ℕ) : Type 0 where

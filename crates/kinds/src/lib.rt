@@ -1,4 +1,5 @@
-// The kind of a node, worked out from the kinds of its children.
+// The kind of a node, worked out from the kinds of its children. A node's code is the number of its kind (1 to 15), 16 more
+// if there is a repeat here or beneath, and 32 for a node at fault.
 ghost use mathlib.Core.Path.{_≡_};
 ghost use mathlib.Core.Bool.{true};
 ghost use mathlib.Core.List.{[], _∷_};
@@ -8,14 +9,8 @@ ghost use Rattle.rules.specs.Form.{readForm};
 ghost use Rattle.rules.specs.Tree.{zeros, namesOf};
 ghost use Rattle.rules.specs.Accept.{lengthGood};
 ghost use Rattle.layout.specs.Layout.{nodeOf};
-ghost use Rattle.kinds.specs.Kinds.{namedGood, flagCode, argumentCode, positionalCode, leafCode, childGood, optionalCode, repeatCode, wrapCode, choiceCode, textName, fallbackCode, guardCode, ruleCode, childP, childQ};
+ghost use Rattle.kinds.specs.Kinds.{namedGood, flagCode, argumentCode, positionalCode, leafCode, childGood, optionalCode, repeatCode, wrapCode, choiceCode, textName, fallbackCode, guardCode, innerCode, childQ};
 ghost use Rattle.kinds.specs.Known.{Done, Filling};
-
-// What is known of the nodes: a node's code, or 0. A code is the number of the node's kind (1 to 15), 16 more if there is
-// a repeat here or beneath, and 32 for a node at fault.
-pub struct Memo {
-    pub codes: [u8; 64],
-}
 
 // Whether numbers that a node does not use are 0; a caller puts 0 for those that are used.
 fn unused(q: usize, r: usize, lo: u32, hi: u32) -> bool
@@ -276,14 +271,11 @@ fn guard_code(x: layout::Node, c: u8) -> u8
     32
 }
 
-// The code of node x, from those of its children, c and d.
-fn rule_code(b: &[u8], x: layout::Node, c: u8, d: u8) -> u8
+// Kinds 4 and above, from the codes of the children, c and d.
+fn inner_code(b: &[u8], x: layout::Node, c: u8, d: u8) -> u8
     requires { ⌜ lengthGood (now b) ≡ true ⌝ }
-    ensures { λ r. ⌜ r ≡ ruleCode (readForm (now (b .entry))) (nodeOf x) c d ⌝ }
+    ensures { λ r. ⌜ r ≡ innerCode (readForm (now (b .entry))) (nodeOf x) c d ⌝ }
 {
-    if x.kind <= 3 {
-        return leaf_code(b, x);
-    }
     if x.kind <= 8 {
         return wrap_code(x, c);
     }
@@ -299,16 +291,7 @@ fn rule_code(b: &[u8], x: layout::Node, c: u8, d: u8) -> u8
     32
 }
 
-// The numbers of the children; 64, which no node has, where there is none.
-fn child_p(x: layout::Node) -> usize
-    ensures { λ r. ⌜ r ≡ childP (nodeOf x) ⌝ }
-{
-    if x.kind <= 3 {
-        return 64;
-    }
-    x.p
-}
-
+// The number of a choice's second child; 64, which no node has, where there is none.
 fn child_q(x: layout::Node) -> usize
     ensures { λ r. ⌜ r ≡ childQ (nodeOf x) ⌝ }
 {
@@ -318,36 +301,39 @@ fn child_q(x: layout::Node) -> usize
     64
 }
 
-pub fn empty() -> Memo
-    ensures { λ r. ⌜ r .codes ≡ replicate 64 0 ⌝ }
+// A table of codes in which none is known: 0 is no code.
+pub fn empty() -> [u8; 64]
+    ensures { λ r. ⌜ r ≡ replicate 64 0 ⌝ }
 {
-    Memo { codes: [0u8; 64] }
+    [0u8; 64]
 }
 
-// The code of node k is in the memo that comes back: the codes that it holds are right, and k's is among them.
-// A child has a lower number, and is worked out once however often it is used.
-pub fn fill(b: &[u8], k: usize, memo: Memo) -> Memo
-    requires { ⌜ Filling (now b) k (memo .codes) ⌝ }
-    ensures { λ r. ⌜ Done (readForm (now (b .entry))) k (r .codes) ⌝ }
+// Puts the code of node k into the table, whose codes are right. A child has a lower number, and is worked out first unless
+// its code is known: once however often it is used.
+pub fn fill(b: &[u8], k: usize, codes: &mut [u8; 64])
+    requires { ⌜ Filling (now b) k (now codes) ⌝ }
+    ensures { λ _. ⌜ Done (readForm (now (b .entry))) k (now (codes .exit)) ⌝ }
 {
-    let mut m = memo;
-    if m.codes[k] != 0 {
-        return m;
-    }
     let x = layout::node_at(b, k);
-    let p = child_p(x);
+    if x.kind <= 3 {
+        codes[k] = leaf_code(b, x);
+        return;
+    }
+    let p = x.p;
     let mut c: u8 = 0;
     if p < k {
-        m = fill(b, p, m);
-        c = m.codes[p];
+        if codes[p] == 0 {
+            fill(b, p, codes);
+        }
+        c = codes[p];
     }
     let q = child_q(x);
     let mut d: u8 = 0;
     if q < k {
-        m = fill(b, q, m);
-        d = m.codes[q];
+        if codes[q] == 0 {
+            fill(b, q, codes);
+        }
+        d = codes[q];
     }
-    let code = rule_code(b, x, c, d);
-    m.codes[k] = code;
-    m
+    codes[k] = inner_code(b, x, c, d);
 }

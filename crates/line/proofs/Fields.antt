@@ -27,20 +27,20 @@ use Rattle.line.specs.Line.{Fields, written}
 
 -- ---- one field
 module _
-    (b codes s words m : List ℕ)
+    (b known s words m : List ℕ)
     (p : Numbers)
     (mark n : ℕ)
     (o : List ℕ)
     (at : ℕ)
-    (f : Fields b codes s words m p mark n o at)
+    (f : Fields b known s words m p mark n o at)
     (r : Bool)
     (says : (t : Tree) → treeAt b n ≡ some t → not r ≡ isScalar (kindOf t))
   where
-    pub field-listed : r ≡ true → Listed b codes s words m p mark n o at
+    pub field-listed : r ≡ true → Listed b known s words m p mark n o at
     field-listed h =
         record { stands = f .stands; long = sym (says (f .stands .tree) (f .stands .node)) ∙ ap not h; space = f .space }
 
-    pub field-scalar : r ≡ false → Scalar b codes s words m p mark n
+    pub field-scalar : r ≡ false → Scalar b known s words m p mark n
     field-scalar h = record { stands = f .stands; scalar = sym (says (f .stands .tree) (f .stands .node)) ∙ ap not h }
 
 -- a value that is no list, written

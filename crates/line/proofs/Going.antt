@@ -131,7 +131,7 @@ pub record Going (mark : ℕ) (area words : List ℕ) (fs : List Tree) (m₀ : L
 product-most : (a b : ℕ) → a ≤ 258 → b ≤ 64 → a * b ≤ 16512
 product-most a b h k = mul-le-mul h k
 
-module _ (b codes s words m₀ : List ℕ) (p₀ : Numbers) (o₀ : List ℕ) (mark : ℕ) (start : Starts b codes s words m₀ p₀ o₀ mark) where
+module _ (b known s words m₀ : List ℕ) (p₀ : Numbers) (o₀ : List ℕ) (mark : ℕ) (start : Starts b known s words m₀ p₀ o₀ mark) where
   pub starts-long : 8 ≤ length b
   starts-long = form-long b (start .result) (start .accepts)
 
@@ -166,7 +166,7 @@ module _ (b codes s words m₀ : List ℕ) (p₀ : Numbers) (o₀ : List ℕ) (m
           let z = g .size in
           ap (λ (l : List ℕ). getD l j 0) (g .put) ∙ sets-after (g .values) o₀ 0 j (omega arith) ∙ start .zeros j
 
-      ready : takes.Ready (sheetArea s) words m p mark
+      abbrev ready : takes.Ready (sheetArea s) words m p mark
       ready = record {
         items = start .state .items;
         table = start .state .table;
@@ -201,15 +201,15 @@ module _ (b codes s words m₀ : List ℕ) (p₀ : Numbers) (o₀ : List ℕ) (m
         abbrev mine : Field b (a .fields) k node
         mine = field b a e k node h
 
-        pub going-field : Fields b codes s words m p mark node o at
+        pub going-field : Fields b known s words m p mark node o at
         going-field = record {
           stands = record {
             tree = mine .tree;
             node = mine .node;
             light = mine .light;
-            coded = start .coded;
             made = start .made;
             state = ready;
+            knows = start .knows;
           };
           space = record { room = omega (arith, g .near, few-fields b a e, going-long, start .room); zeros = zeros };
         }

@@ -113,7 +113,7 @@ module _ (m : List ℕ) (p : Numbers) (f : Fine m p) (is : List Item) (n : lengt
       (record { place = place; item = x }, refl, ap (findIn is (λ _. true)) (fine-unused m p f ∙ first-hit m (p .start) (p .end) place (f .order) e h .rest) ∙ find-here is place _ x g)
 
 -- ---- all fields, and then the test
-module _ (b codes s words m₀ : List ℕ) (p₀ : Numbers) (o₀ : List ℕ) (mark : ℕ) (start : Starts b codes s words m₀ p₀ o₀ mark) where
+module _ (b known s words m₀ : List ℕ) (p₀ : Numbers) (o₀ : List ℕ) (mark : ℕ) (start : Starts b known s words m₀ p₀ o₀ mark) where
   module _ (m o : List ℕ) (r : Reached) (a : Accepted) (e : checkForm b ≡ accepted a) (t : RunsFields mark (sheetArea s) words (a .fields) m₀ p₀ m o₀ o r) where
     pub all-refused : (r .number ≡ 0 → ⊥) → Reaches mark (sheetArea s) words (a .fields) m₀ p₀ m o₀ o r
     unfolding runAll

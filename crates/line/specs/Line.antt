@@ -16,7 +16,7 @@ use Rattle.rules.specs.Eval.{Ran as Run}
 use Rattle.rules.specs.Run.{runFields, runAll}
 use Rattle.state.specs.declared.Numbers.{Numbers}
 use Rattle.state.specs.Lent.{stateOf}
-use Rattle.named.specs.Codes.{Coded}
+use Rattle.known.specs.Known.{Known}
 use Rattle.take.specs.Takes.{Left, Items}
 use Rattle.take.specs.Takes as takes
 use Rattle.outcome.specs.declared.Ran.{Ran}
@@ -25,19 +25,19 @@ use Rattle.outcome.specs.Nodes.{Standing}
 use Rattle.eval.specs.Cycle.{Room}
 use Rattle.line.specs.declared.Reached.{Reached}
 
--- an accepted form, its short names as numbers, a checked sheet, a state over the items, and an answer slice of zeros
-pub record Starts (b codes s words m : List ℕ) (p : Numbers) (o : List ℕ) (mark : ℕ) : Type 0 where
+-- an accepted form, a checked sheet, a state over the items, which nodes each item matches, and an answer slice of zeros
+pub record Starts (b known s words m : List ℕ) (p : Numbers) (o : List ℕ) (mark : ℕ) : Type 0 where
   pub result : Accepted
   pub accepts : checkForm b ≡ accepted result
-  pub coded : Coded b codes
   pub made : sheetFault s ≡ 0
   pub state : takes.Ready (sheetArea s) words m p mark
+  pub knows : Known b (sheetArea s) words (length (state .items)) known
   pub room : 8240 ≤ length o
   pub zeros : (k : ℕ) → getD o k 0 ≡ 0
 
 -- a node, and room for its words
-pub record Fields (b codes s words m : List ℕ) (p : Numbers) (mark n : ℕ) (o : List ℕ) (at : ℕ) : Type 0 where
-  pub stands : Standing b codes s words m p mark n
+pub record Fields (b known s words m : List ℕ) (p : Numbers) (mark n : ℕ) (o : List ℕ) (at : ℕ) : Type 0 where
+  pub stands : Standing b known s words m p mark n
   pub space : Room o at
 
 -- a result whose words are written, so many of them

@@ -59,7 +59,7 @@ fn wrote(ran: Ran, len: u32) -> Ran
 // One field: its words go to `out` from `at` on.
 fn run_field(
     form: &[u8],
-    codes: &[u32],
+    known: &[u64],
     sheet: &[u8],
     items: &[u32],
     marks: &mut [u16; 256],
@@ -69,13 +69,13 @@ fn run_field(
     out: &mut [u32],
     mark: u16,
 ) -> Ran
-    requires { ⌜ Fields (now form) (now codes) (now sheet) (now items) (now marks) p mark node (now out) at ⌝ }
+    requires { ⌜ Fields (now form) (now known) (now sheet) (now items) (now marks) p mark node (now out) at ⌝ }
     ensures { λ r. ⌜ ((t : Tree) → treeAt (now (form .entry)) node ≡ some t → Writes mark (sheetArea (now (sheet .entry))) (now (items .entry)) t (now (marks .entry)) p (now (marks .exit)) (now (out .entry)) at (now (out .exit)) r) ⌝ }
 {
     if is_list(form, node) {
-        return lists::run_list(form, codes, sheet, items, marks, p, node, at, out, mark);
+        return lists::run_list(form, known, sheet, items, marks, p, node, at, out, mark);
     }
-    let ran = eval::run_node(form, codes, sheet, items, marks, p, node, mark);
+    let ran = eval::run_node(form, known, sheet, items, marks, p, node, mark);
     let len = eval::put(out, at, ran.len, ran.word);
     wrote(ran, len)
 }
@@ -108,7 +108,7 @@ fn answered(tries: u32, words: usize, numbers: Numbers) -> Reached
 // The fields in order, up to the first that is refused. Each is run on the state that the last one left.
 fn each_field(
     form: &[u8],
-    codes: &[u32],
+    known: &[u64],
     sheet: &[u8],
     items: &[u32],
     marks: &mut [u16; 256],
@@ -116,7 +116,7 @@ fn each_field(
     out: &mut [u32],
     mark: u16,
 ) -> Reached
-    requires { ⌜ Starts (now form) (now codes) (now sheet) (now items) (now marks) p (now out) mark ⌝ }
+    requires { ⌜ Starts (now form) (now known) (now sheet) (now items) (now marks) p (now out) mark ⌝ }
     ensures { λ r. ⌜ ((a : Accepted) → checkForm (now (form .entry)) ≡ accepted a → RunsFields mark (sheetArea (now (sheet .entry))) (now (items .entry)) (a .fields) (now (marks .entry)) p (now (marks .exit)) (now (out .entry)) (now (out .exit)) r) ⌝ }
 {
     let n = layout::field_count(form);
@@ -126,7 +126,7 @@ fn each_field(
     let mut k = 0;
     while k < n {
         let node = layout::field_at(form, k);
-        let ran = run_field(form, codes, sheet, items, marks, s, node, at, out, mark);
+        let ran = run_field(form, known, sheet, items, marks, s, node, at, out, mark);
         let left = ran.numbers;
         tries = tries + ran.tries;
         if ran.number != 0 {
@@ -143,7 +143,7 @@ fn each_field(
 // All fields, then 27 at the first present place that is left in scope. Refused, `out` is all 0 again.
 pub fn run_fields(
     form: &[u8],
-    codes: &[u32],
+    known: &[u64],
     sheet: &[u8],
     items: &[u32],
     marks: &mut [u16; 256],
@@ -151,10 +151,10 @@ pub fn run_fields(
     out: &mut [u32],
     mark: u16,
 ) -> Reached
-    requires { ⌜ Starts (now form) (now codes) (now sheet) (now items) (now marks) p (now out) mark ⌝ }
+    requires { ⌜ Starts (now form) (now known) (now sheet) (now items) (now marks) p (now out) mark ⌝ }
     ensures { λ r. ⌜ ((a : Accepted) → checkForm (now (form .entry)) ≡ accepted a → Reaches mark (sheetArea (now (sheet .entry))) (now (items .entry)) (a .fields) (now (marks .entry)) p (now (marks .exit)) (now (out .entry)) (now (out .exit)) r) ⌝ }
 {
-    let all = each_field(form, codes, sheet, items, marks, p, out, mark);
+    let all = each_field(form, known, sheet, items, marks, p, out, mark);
     if all.number != 0 {
         return all;
     }

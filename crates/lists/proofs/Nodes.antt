@@ -24,12 +24,12 @@ use Rattle.eval.proofs.Trees.{Single, Double, form-good, node-inside, sound-at,
 use Rattle.lists.proofs.Trees.{list-scalar, optional-long, many-tree, some-tree, other-tree}
 
 module _
-    {b codes s items m : List ℕ}
+    {b known s items m : List ℕ}
     {p : Numbers}
     {mark n : ℕ}
     {o : List ℕ}
     {at : ℕ}
-    (r : Listed b codes s items m p mark n o at)
+    (r : Listed b known s items m p mark n o at)
   where
     pub there : (lengthGood b ≡ true) × (n < nodeCount b)
     there = (form-good b n (r .stands .tree) (r .stands .node), node-inside b n (r .stands .tree) (r .stands .node))
@@ -38,15 +38,15 @@ module _
     sound = sound-at b n (r .stands .tree) (r .stands .node)
 
     -- a child stands where its node does
-    abbrev standing : (i : ℕ) (c : Tree) → treeAt b i ≡ some c → leaves c ≤ 64 → Standing b codes s items m p mark i
+    abbrev standing : (i : ℕ) (c : Tree) → treeAt b i ≡ some c → leaves c ≤ 64 → Standing b known s items m p mark i
     standing i c g l =
         record {
           tree = c;
           node = g;
           light = l;
-          coded = r .stands .coded;
           made = r .stands .made;
           state = r .stands .state;
+          knows = r .stands .knows;
         }
 
     -- what was made of the child's tree is the node's
@@ -68,7 +68,7 @@ module _
         → ((c : Tree) → leaves (make c) ≡ leaves c)
         → ((c : Tree) → kindOf (make c) ≡ (kindOf c >>? listKind))
         → Single make b n i (r .stands .tree)
-        → OverScalar make b codes s items m p mark i o at
+        → OverScalar make b known s items m p mark i o at
     over make i same kind w =
         let z = subst Sound (sym (w .same)) sound in
         let l : leaves (w .child) ≤ 64 = subst (λ (k : ℕ). k ≤ 64) (ap leaves (sym (w .same)) ∙ same (w .child)) (r .stands .light) in
@@ -90,11 +90,11 @@ module _
       pub some-is : x .kind ≡ 6 → Single (Some (eqb (x .r) 1)) b n (x .p) T
       some-is k = some-tree b n T (r .stands .node) (nodeOf x) h k
 
-      pub many-ready : x .kind ≡ 5 → OverScalar (Many (eqb (x .r) 1)) b codes s items m p mark (x .p) o at
+      pub many-ready : x .kind ≡ 5 → OverScalar (Many (eqb (x .r) 1)) b known s items m p mark (x .p) o at
       unfolding leaves kindOf
       many-ready k = over (Many (eqb (x .r) 1)) (x .p) (λ c. refl) (λ c. refl) (many-is k)
 
-      pub some-ready : x .kind ≡ 6 → OverScalar (Some (eqb (x .r) 1)) b codes s items m p mark (x .p) o at
+      pub some-ready : x .kind ≡ 6 → OverScalar (Some (eqb (x .r) 1)) b known s items m p mark (x .p) o at
       unfolding leaves kindOf
       some-ready k = over (Some (eqb (x .r) 1)) (x .p) (λ c. refl) (λ c. refl) (some-is k)
 
@@ -105,7 +105,7 @@ module _
       pub optional-less : x .kind ≡ 4 → {t : ℕ} → n * 2 + 1 ≡ t → x .p * 2 + 2 < t
       optional-less k e = omega (arith, optional-is k .less)
 
-      pub optional-ready : x .kind ≡ 4 → OverList (Optional (eqb (x .r) 1)) b codes s items m p mark (x .p) o at
+      pub optional-ready : x .kind ≡ 4 → OverList (Optional (eqb (x .r) 1)) b known s items m p mark (x .p) o at
       unfolding leaves kindOf
       optional-ready k =
           let w = optional-is k in
@@ -125,7 +125,7 @@ module _
         pub choice-less : {t : ℕ} → n * 2 + 1 ≡ t → max (x .p) (x .q) * 2 + 2 < t
         choice-less e = omega (arith, choice-is .less, choice-is .less₂)
 
-        pub choice-ready : Both b codes s items m p mark (x .p) (x .q) o at
+        pub choice-ready : Both b known s items m p mark (x .p) (x .q) o at
         unfolding leaves kindOf
         choice-ready =
             let w = choice-is in

@@ -82,12 +82,12 @@ empty-not-one w e = let z : _≡_ {A = ℕ} 0 (suc (length w)) = ap (λ (l : Lis
 -- ---- the run
 module _
     {catch : Bool}
-    {b codes s items m : List ℕ}
+    {b known s items m : List ℕ}
     {p : Numbers}
     {mark child : ℕ}
     {o : List ℕ}
     {at : ℕ}
-    (r : OverList (Optional catch) b codes s items m p mark child o at)
+    (r : OverList (Optional catch) b known s items m p mark child o at)
     {m′ o′ : List ℕ}
     {ran : Ran}
     (h : (t : Tree) → treeAt b child ≡ some t → Writes mark (sheetArea s) items t m p m′ o at o′ ran)

@@ -288,14 +288,14 @@ RepeatsOver mark b s items child catch m p m′ o at o′ all =
 module _
     {make : Tree → Tree}
     (flat : (t : Tree) → Sound (make t) → Flat t)
-    {b codes s items m : List ℕ}
+    {b known s items m : List ℕ}
     {p : Numbers}
     {mark child : ℕ}
     {o : List ℕ}
     {at : ℕ}
-    (r : OverScalar make b codes s items m p mark child o at)
+    (r : OverScalar make b known s items m p mark child o at)
   where
-    pub asks : Repeating b codes s items m p mark child true o at
+    pub asks : Repeating b known s items m p mark child true o at
     asks = record { below = r .below; flat = flat (r .below .stands .tree) (r .sound) .flat; space = λ e. r .space }
 
     child-sound : (t : Tree) → treeAt b child ≡ some t → Sound (make t)
@@ -308,7 +308,7 @@ module _
 
 module _
     {catch : Bool}
-    {b codes s items m : List ℕ}
+    {b known s items m : List ℕ}
     {p : Numbers}
     {mark child : ℕ}
     {o : List ℕ}
@@ -317,7 +317,7 @@ module _
     {all : Repeated}
   where
     module _
-        (r : OverScalar (Many catch) b codes s items m p mark child o at)
+        (r : OverScalar (Many catch) b known s items m p mark child o at)
         (h : RepeatsOver mark b s items child catch m p m′ o at o′ all)
       where
         pub many-refuses :
@@ -335,7 +335,7 @@ module _
             (child-sound (sound-many catch) r t g) n o″ q c
 
     module _
-        (r : OverScalar (Some catch) b codes s items m p mark child o at)
+        (r : OverScalar (Some catch) b known s items m p mark child o at)
         (h : RepeatsOver mark b s items child catch m p m′ o at o′ all)
       where
         pub some-refuses :

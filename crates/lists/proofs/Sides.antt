@@ -46,12 +46,12 @@ module _ (number : ℕ) (first : Bool) (a b : List ℕ) where
 
 -- ---- the first side
 module _
-    {b codes s items m : List ℕ}
+    {b known s items m : List ℕ}
     {p : Numbers}
     {mark left right : ℕ}
     {o : List ℕ}
     {at : ℕ}
-    (r : Both b codes s items m p mark left right o at)
+    (r : Both b known s items m p mark left right o at)
     {m₁ o₁ : List ℕ}
     {x : Ran}
     (h : (t : Tree) → treeAt b left ≡ some t → Writes mark (sheetArea s) items t m p m₁ o at o₁ x)
@@ -82,7 +82,7 @@ module _
           ∙ ap₂ (λ (l : List ℕ) (k : ℕ). sets l at (replicate k 0)) (w .put) (en ∙ w .len)
           ∙ sets-back (w .value) o at (r .first .space .zeros)
 
-      pub second-ready : Listed b codes s items m p mark right o₂ at
+      pub second-ready : Listed b known s items m p mark right o₂ at
       second-ready =
           record {
             stands = r .second .stands;

@@ -23,8 +23,8 @@ use Rattle.eval.specs.Cycle.{Room}
 use Rattle.eval.specs.declared.Repeated.{Repeated}
 
 -- ---- a node whose value is a list or an optional list, and room for its words
-pub record Listed (b codes s words m : List ℕ) (p : Numbers) (mark n : ℕ) (o : List ℕ) (at : ℕ) : Type 0 where
-  pub stands : Standing b codes s words m p mark n
+pub record Listed (b known s words m : List ℕ) (p : Numbers) (mark n : ℕ) (o : List ℕ) (at : ℕ) : Type 0 where
+  pub stands : Standing b known s words m p mark n
   pub long : isScalar (kindOf (stands .tree)) ≡ false
   pub space : Room o at
 
@@ -38,13 +38,13 @@ pub record Writes (mark : ℕ) (area words : List ℕ) (t : Tree) (m : List ℕ)
   pub left : Left m p m′ (r .numbers)
 
 -- ---- a node with one child: no list in a repeat, a list in an optional
-pub record OverScalar (make : Tree → Tree) (b codes s words m : List ℕ) (p : Numbers) (mark child : ℕ) (o : List ℕ) (at : ℕ) : Type 0 where
-  pub below : Scalar b codes s words m p mark child
+pub record OverScalar (make : Tree → Tree) (b known s words m : List ℕ) (p : Numbers) (mark child : ℕ) (o : List ℕ) (at : ℕ) : Type 0 where
+  pub below : Scalar b known s words m p mark child
   pub sound : Sound (make (below .stands .tree))
   pub space : Room o at
 
-pub record OverList (make : Tree → Tree) (b codes s words m : List ℕ) (p : Numbers) (mark child : ℕ) (o : List ℕ) (at : ℕ) : Type 0 where
-  pub below : Listed b codes s words m p mark child o at
+pub record OverList (make : Tree → Tree) (b known s words m : List ℕ) (p : Numbers) (mark child : ℕ) (o : List ℕ) (at : ℕ) : Type 0 where
+  pub below : Listed b known s words m p mark child o at
   pub sound : Sound (make (below .stands .tree))
 
 -- what it answers, for the tree of the child
@@ -53,9 +53,9 @@ WritesOver make mark b s words child m p m′ o at o′ r =
     (t : Tree) → treeAt b child ≡ some t → Writes mark (sheetArea s) words (make t) m p m′ o at o′ r
 
 -- ---- a choice between lists
-pub record Both (b codes s words m : List ℕ) (p : Numbers) (mark left right : ℕ) (o : List ℕ) (at : ℕ) : Type 0 where
-  pub first : Listed b codes s words m p mark left o at
-  pub second : Listed b codes s words m p mark right o at
+pub record Both (b known s words m : List ℕ) (p : Numbers) (mark left right : ℕ) (o : List ℕ) (at : ℕ) : Type 0 where
+  pub first : Listed b known s words m p mark left o at
+  pub second : Listed b known s words m p mark right o at
   pub sound : Sound (Choice (first .stands .tree) (second .stands .tree))
 
 -- ---- what the small functions make

@@ -103,7 +103,7 @@ fn counted(all: Repeated, at: usize, out: &mut [u32]) -> Ran
 
 fn run_many(
     form: &[u8],
-    codes: &[u32],
+    known: &[u64],
     sheet: &[u8],
     items: &[u32],
     marks: &mut [u16; 256],
@@ -114,12 +114,12 @@ fn run_many(
     out: &mut [u32],
     mark: u16,
 ) -> Ran
-    requires { ⌜ OverScalar (Many catch) (now form) (now codes) (now sheet) (now items) (now marks) p mark child (now out) at ⌝ }
+    requires { ⌜ OverScalar (Many catch) (now form) (now known) (now sheet) (now items) (now marks) p mark child (now out) at ⌝ }
     ensures { λ r. ⌜ WritesOver (Many catch) mark (now (form .entry)) (now (sheet .entry)) (now (items .entry)) child (now (marks .entry)) p (now (marks .exit)) (now (out .entry)) at (now (out .exit)) r ⌝ }
 {
     let all = eval::run_repeat(
         form,
-        codes,
+        known,
         sheet,
         items,
         marks,
@@ -142,7 +142,7 @@ fn run_many(
 // A list of no values is refused.
 fn run_some(
     form: &[u8],
-    codes: &[u32],
+    known: &[u64],
     sheet: &[u8],
     items: &[u32],
     marks: &mut [u16; 256],
@@ -153,12 +153,12 @@ fn run_some(
     out: &mut [u32],
     mark: u16,
 ) -> Ran
-    requires { ⌜ OverScalar (Some catch) (now form) (now codes) (now sheet) (now items) (now marks) p mark child (now out) at ⌝ }
+    requires { ⌜ OverScalar (Some catch) (now form) (now known) (now sheet) (now items) (now marks) p mark child (now out) at ⌝ }
     ensures { λ r. ⌜ WritesOver (Some catch) mark (now (form .entry)) (now (sheet .entry)) (now (items .entry)) child (now (marks .entry)) p (now (marks .exit)) (now (out .entry)) at (now (out .exit)) r ⌝ }
 {
     let all = eval::run_repeat(
         form,
-        codes,
+        known,
         sheet,
         items,
         marks,
@@ -185,7 +185,7 @@ fn run_some(
 // A node whose value is a list or an optional list: its words go to `out` from `at` on, where all is 0.
 pub fn run_list(
     form: &[u8],
-    codes: &[u32],
+    known: &[u64],
     sheet: &[u8],
     items: &[u32],
     marks: &mut [u16; 256],
@@ -195,7 +195,7 @@ pub fn run_list(
     out: &mut [u32],
     mark: u16,
 ) -> Ran
-    requires { ⌜ Listed (now form) (now codes) (now sheet) (now items) (now marks) p mark node (now out) at ⌝ }
+    requires { ⌜ Listed (now form) (now known) (now sheet) (now items) (now marks) p mark node (now out) at ⌝ }
     ensures { λ r. ⌜ ((t : Tree) → treeAt (now (form .entry)) node ≡ some t → Writes mark (sheetArea (now (sheet .entry))) (now (items .entry)) t (now (marks .entry)) p (now (marks .exit)) (now (out .entry)) at (now (out .exit)) r) ⌝ }
 {
     let x = layout::node_at(form, node);
@@ -203,17 +203,17 @@ pub fn run_list(
     let i = x.p;
     let catch = x.r == 1;
     match kind {
-        4 => run_optional_list(form, codes, sheet, items, marks, p, i, catch, at, out, mark),
-        5 => run_many(form, codes, sheet, items, marks, p, i, catch, at, out, mark),
-        6 => run_some(form, codes, sheet, items, marks, p, i, catch, at, out, mark),
-        _ => run_either(form, codes, sheet, items, marks, p, i, x.q, at, out, mark),
+        4 => run_optional_list(form, known, sheet, items, marks, p, i, catch, at, out, mark),
+        5 => run_many(form, known, sheet, items, marks, p, i, catch, at, out, mark),
+        6 => run_some(form, known, sheet, items, marks, p, i, catch, at, out, mark),
+        _ => run_either(form, known, sheet, items, marks, p, i, x.q, at, out, mark),
     }
 }
 
 // A list that is present has 1 before its words. Absent or refused, the child wrote nothing, and the word of an absent value is 0.
 fn run_optional_list(
     form: &[u8],
-    codes: &[u32],
+    known: &[u64],
     sheet: &[u8],
     items: &[u32],
     marks: &mut [u16; 256],
@@ -224,11 +224,11 @@ fn run_optional_list(
     out: &mut [u32],
     mark: u16,
 ) -> Ran
-    requires { ⌜ OverList (Optional catch) (now form) (now codes) (now sheet) (now items) (now marks) p mark child (now out) at ⌝ }
+    requires { ⌜ OverList (Optional catch) (now form) (now known) (now sheet) (now items) (now marks) p mark child (now out) at ⌝ }
     ensures { λ r. ⌜ WritesOver (Optional catch) mark (now (form .entry)) (now (sheet .entry)) (now (items .entry)) child (now (marks .entry)) p (now (marks .exit)) (now (out .entry)) at (now (out .exit)) r ⌝ }
 {
     let before = *marks;
-    let ran = run_list(form, codes, sheet, items, marks, p, child, at, out, mark);
+    let ran = run_list(form, known, sheet, items, marks, p, child, at, out, mark);
     let made = results::optional(ran, p, catch, &before, marks);
     if made.present {
         shift(out, at, wide(ran.len));
@@ -240,7 +240,7 @@ fn run_optional_list(
 // Of two lists the one that wins. Both are run on the same marks and write to the same words.
 fn run_either(
     form: &[u8],
-    codes: &[u32],
+    known: &[u64],
     sheet: &[u8],
     items: &[u32],
     marks: &mut [u16; 256],
@@ -251,16 +251,16 @@ fn run_either(
     out: &mut [u32],
     mark: u16,
 ) -> Ran
-    requires { ⌜ Both (now form) (now codes) (now sheet) (now items) (now marks) p mark left right (now out) at ⌝ }
+    requires { ⌜ Both (now form) (now known) (now sheet) (now items) (now marks) p mark left right (now out) at ⌝ }
     ensures { λ r. ⌜ ((t u : Tree) → treeAt (now (form .entry)) left ≡ some t → treeAt (now (form .entry)) right ≡ some u → Writes mark (sheetArea (now (sheet .entry))) (now (items .entry)) (Choice t u) (now (marks .entry)) p (now (marks .exit)) (now (out .entry)) at (now (out .exit)) r) ⌝ }
 {
     let before = *marks;
-    let x = run_list(form, codes, sheet, items, marks, p, left, at, out, mark);
+    let x = run_list(form, known, sheet, items, marks, p, left, at, out, mark);
     let first = *marks;
     let n = wide(x.len);
     let kept = set_aside(out, at, n);
     *marks = before;
-    let y = run_list(form, codes, sheet, items, marks, p, right, at, out, mark);
+    let y = run_list(form, known, sheet, items, marks, p, right, at, out, mark);
     let made = results::choose(x, y, p, &before, &first, marks);
     let answer = made.ran;
     settle(out, at, answer.number, made.first, &kept, n, wide(y.len));

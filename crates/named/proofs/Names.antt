@@ -40,7 +40,7 @@ and-false : (a : Bool) → (a && false) ≡ false
 and-false true = refl
 and-false false = refl
 
-map-at : {A B : Type 0} (f : A → B) (l : List A) (k : ℕ) (x : A) → getElem? l k ≡ some x → getElem? (map f l) k ≡ some (f x)
+pub map-at : {A B : Type 0} (f : A → B) (l : List A) (k : ℕ) (x : A) → getElem? l k ≡ some x → getElem? (map f l) k ≡ some (f x)
 map-at f [] k x e = let z : _≡_ {A = ℕ} 0 1 = cc in absurd (omega arith)
 map-at f (y ∷ l) zero x e = let z : y ≡ x = cc in rw z
 map-at f (y ∷ l) (suc k) x e = map-at f l k x e
@@ -70,7 +70,7 @@ at-getD [] i h = absurd (not-suc-le-zero h)
 at-getD (x ∷ l) zero h = refl
 at-getD (x ∷ l) (suc i) h = at-getD l i (le-of-suc-le-suc h)
 
-getD-of : (l : List ℕ) (i x : ℕ) → getElem? l i ≡ some x → getD l i 0 ≡ x
+pub getD-of : (l : List ℕ) (i x : ℕ) → getElem? l i ≡ some x → getD l i 0 ≡ x
 getD-of [] i x e = let z : _≡_ {A = ℕ} 0 1 = cc in absurd (omega arith)
 getD-of (y ∷ l) zero x e = cc
 getD-of (y ∷ l) (suc i) x e = getD-of l i x e
@@ -148,7 +148,7 @@ module _ (b out₀ : List ℕ) (n : ℕ) (out : List ℕ) (k : ℕ) (few : n ≡
 
 -- ---- short names
 
-contains-append : (l m : List ℕ) (c : ℕ) → contains (l ++ m) c ≡ (contains l c || contains m c)
+pub contains-append : (l m : List ℕ) (c : ℕ) → contains (l ++ m) c ≡ (contains l c || contains m c)
 unfolding contains
 contains-append [] m c = refl
 contains-append (x ∷ l) m c = rw (contains-append l m c) (sym (or-assoc (eqb x c) (contains l c) (contains m c)))
@@ -160,7 +160,7 @@ short-shape true none c = sym (eqb·zero-suc c)
 short-shape true (some d) c = or-false (eqb d c) ∙ sym (eqb·suc-suc d c)
 short-shape false o c = sym (eqb·zero-suc c)
 
-short-code : (area : List ℕ) (x : Name) (c : ℕ) → contains (shortOf area x) c ≡ eqb (codeOf area x) (suc c)
+pub short-code : (area : List ℕ) (x : Name) (c : ℕ) → contains (shortOf area x) c ≡ eqb (codeOf area x) (suc c)
 unfolding shortOf codeOf
 short-code area x c = short-shape (eqb (x .type) 0) (oneCharacter (nameBytes area x)) c
 
@@ -259,7 +259,7 @@ module _ (a b : List ℕ) (i : ℕ) (z : Comparing a b i) where
 
 -- ---- long names
 
-names-append : (l m : List (List ℕ)) (n : List ℕ) → containsName (l ++ m) n ≡ (containsName l n || containsName m n)
+pub names-append : (l m : List (List ℕ)) (n : List ℕ) → containsName (l ++ m) n ≡ (containsName l n || containsName m n)
 unfolding containsName
 names-append [] m n = refl
 names-append (x ∷ l) m n = rw (names-append l m n) (sym (or-assoc (same x n) (containsName l n) (containsName m n)))

@@ -1,16 +1,17 @@
 -- Laws of the searches: the loop's invariant, and what a search answers.
 use mathlib.Core.Path.{_≡_, refl, sym, ap, subst, _∙_}
-use mathlib.Core.Bool.{Bool, true, false}
+use mathlib.Core.Bool.{Bool, true, false, false≢true}
 use mathlib.Core.List.{List, [], _∷_}
 use mathlib.Core.Logic.{_⊎_, inl, inr, ⊎-elim}
-use mathlib.Core.Option.{some, none}
-use Prim.Native.Nat.{ℕ, _+_, _-_, _≤_, _<_}
+use mathlib.Core.Option.{some, none, Option·some-injective}
+use Prim.Native.Nat.{ℕ, zero, suc, _+_, _-_, _≤_, _<_}
+use native.Mathlib.Nat.{eq-or-lt-of-le}
 use native.Mathlib.Omega.{arith}
 use lib.ListN.{length, getD, getElem?}
 use Rattle.utf8.specs.Utf8.{if_then_else_}
 use Rattle.rules.specs.Outcome.{ok, at, _>>=_}
 use Rattle.rules.specs.Split.{Item}
-use Rattle.rules.specs.State.{presentAt, presentFrom, findIn}
+use Rattle.rules.specs.State.{Found, presentAt, presentFrom, findIn}
 use Rattle.rules.specs.Calls.{itemFrom}
 use Rattle.rules.specs.Demands.{All}
 use Rattle.rules.proofs.Acceptance.{lookup-some}
@@ -18,7 +19,7 @@ use Rattle.rules.proofs.Places.{from-each}
 use Rattle.arg.specs.Items.{recordAt}
 use Rattle.state.proofs.Marks.{from-used, from-hit, from-none}
 use Rattle.named.specs.Items.{Table}
-use Rattle.named.specs.Search.{HasItem, HasItems, placeOr, seek, Sought}
+use Rattle.named.specs.Search.{HasItem, HasItems, placeOr, seek, Sought, Passed}
 
 pub item-there : (s words marks : List ℕ) (from end i : ℕ) → HasItems s words marks from end → i < end → HasItem s words i
 item-there s words marks from end i g h =
@@ -152,3 +153,92 @@ module _ (is : List Item) (test : Item → Bool) (marks : List ℕ) (from end r 
       } in
       subst (Hits is test marks from end) z k)
       (hits-case is test marks from end h o)
+
+-- ---- where a search may begin
+
+-- no place of a..b is present with an item that passes the test
+abbrev pub NoneIn : List Item → (Item → Bool) → List ℕ → ℕ → ℕ → Type 0
+NoneIn is test marks a b = (k : ℕ) → a ≤ k → k < b → presentAt marks k ≡ true → (x : Item) → getElem? is k ≡ some x → test x ≡ false
+
+module _ (is : List Item) (test : Item → Bool) (marks : List ℕ) where
+  -- a place that is not present, or whose item fails, adds nothing
+  find-past : (n a : ℕ) → a < length is → ((x : Item) → presentAt marks a ≡ true → getElem? is a ≡ some x → test x ≡ false)
+      → findIn is test (presentFrom marks (suc n) a) ≡ findIn is test (presentFrom marks n (suc a))
+  unfolding presentFrom findIn at _>>=_ if_then_else_
+  find-past n a h f = go (presentAt marks a) refl
+    where
+      go : (b : Bool) → presentAt marks a ≡ b
+          → findIn is test (if b then a ∷ presentFrom marks n (suc a) else presentFrom marks n (suc a))
+          ≡ findIn is test (presentFrom marks n (suc a))
+      go true e =
+          let x = lookup-some is a h in
+          let w : test (x .0) ≡ false = f (x .0) e (x .1) in
+          rw (x .1, w)
+      go false e = refl
+
+  find-behind : (d n a : ℕ) → a + d + n ≤ length is → NoneIn is test marks a (a + d)
+      → findIn is test (presentFrom marks (d + n) a) ≡ findIn is test (presentFrom marks n (a + d))
+  find-behind zero n a h f =
+      let y : zero + n ≡ n = omega arith in
+      let z : a + zero ≡ a = omega arith in
+      rw (y, z)
+  find-behind (suc d) n a h f =
+      let y : suc d + n ≡ suc (d + n) = omega arith in
+      let z : a + suc d ≡ suc a + d = omega arith in
+      rw (y, z)
+      (find-past (d + n) a (omega arith) (λ x p e. f a (omega arith) (omega arith) p x e)
+      ∙ find-behind d n (suc a) (omega arith) (λ k l b. f k (omega arith) (omega arith)))
+
+  -- before the place that is found none is
+  pub found-first : (n a : ℕ) → a + n ≤ length is → (y : Found) → findIn is test (presentFrom marks n a) ≡ ok (some y)
+      → NoneIn is test marks a (y .place)
+  unfolding presentFrom findIn at _>>=_ if_then_else_
+  found-first zero a h y e k l b p x g = let z : _≡_ {A = ℕ} 0 1 = cc in absurd (omega arith)
+  found-first (suc n) a h y e k l b p x g =
+      go (presentAt marks a) refl e (λ e l. found-first n (suc a) (omega arith) y e k l b p x g)
+    where
+      Later : Type 0
+      Later = findIn is test (presentFrom marks n (suc a)) ≡ ok (some y) → suc a ≤ k → test x ≡ false
+
+      -- the item at a place that is present
+      here : (v : Item) → getElem? is a ≡ some v → (t : Bool) → test v ≡ t
+          → (if t then ok (some (record { place = a; item = v })) else findIn is test (presentFrom marks n (suc a))) ≡ ok (some y)
+          → Later
+          → test x ≡ false
+      here v i true t e later =
+          let w : a ≡ y .place = ap (placeOr 0) e in
+          absurd (omega arith)
+      here v i false t e later =
+          ⊎-elim
+          (λ (z : a ≡ k).
+          let u : getElem? is a ≡ some x = rw z g in
+          let w : v ≡ x = Option·some-injective v x (sym i ∙ u) in
+          rw (← w) t)
+          (λ (z : a < k). later e z)
+          (eq-or-lt-of-le l)
+
+      go : (c : Bool) → presentAt marks a ≡ c
+          → findIn is test (if c then a ∷ presentFrom marks n (suc a) else presentFrom marks n (suc a)) ≡ ok (some y)
+          → Later
+          → test x ≡ false
+      go true q e later =
+          let v = lookup-some is a (omega arith) in
+          here (v .0) (v .1) (test (v .0)) refl (rw (v .1) at e) later
+      go false q e later =
+          ⊎-elim
+          (λ (z : a ≡ k). absurd (false≢true (sym q ∙ rw z p)))
+          (λ (z : a < k). later e z)
+          (eq-or-lt-of-le l)
+
+-- what a search from behind the places that were passed finds, the search of all finds
+module _ (area words : List ℕ) (test : Item → Bool) (marks : List ℕ) (start from end r : ℕ) where
+  pub sought-all : Passed area words test marks start from → start ≤ from → from ≤ end
+      → Sought area words test marks from end r
+      → Sought area words test marks start end r
+  sought-all f o w sought is t l =
+      let y : end - start ≡ from - start + (end - from) = omega arith in
+      let z : start + (from - start) ≡ from = omega arith in
+      let past : NoneIn is test marks start (start + (from - start)) = λ k a b p x e. f k a (omega arith) p x (t .at k x e) in
+      let same = find-behind is test marks (from - start) (end - from) start (omega arith) past in
+      let whole : seek is test marks start end ≡ seek is test marks from end = rw y (rw z at same) in
+      sought is t l ∙ ap (placeOr end) (sym whole)

@@ -1,15 +1,15 @@
 -- Matching one item, and searching the present places for the first that matches.
-use mathlib.Core.Bool.{Bool}
+use mathlib.Core.Bool.{Bool, true, false}
 use mathlib.Core.List.{List}
 use mathlib.Core.Option.{Option, some, none}
 use mathlib.Core.Path.{_≡_}
-use Prim.Native.Nat.{ℕ, _+_, _-_, _*_, _≤_}
+use Prim.Native.Nat.{ℕ, _+_, _-_, _*_, _≤_, _<_}
 use lib.ListN.{length}
 use Rattle.rules.specs.Form.{nameCount}
 use Rattle.rules.specs.Outcome.{Outcome, ok, refused, fault}
 use Rattle.rules.specs.Sheet.{sheetArea, sheetFault}
 use Rattle.rules.specs.Split.{Item}
-use Rattle.rules.specs.State.{Found, presentFrom, findIn}
+use Rattle.rules.specs.State.{Found, presentAt, presentFrom, findIn}
 use Rattle.rules.specs.Calls.{itemFrom}
 use Rattle.arg.specs.Items.{recordAt}
 use Rattle.named.specs.Codes.{Checked, Coded}
@@ -52,3 +52,14 @@ seek is test marks from end = findIn is test (presentFrom marks (end - from) fro
 abbrev pub Sought : List ℕ → List ℕ → (Item → Bool) → List ℕ → ℕ → ℕ → ℕ → Type 0
 Sought area words test marks from end r =
     (is : List Item) → Table area words is → end ≤ length is → r ≡ placeOr end (seek is test marks from end)
+
+-- no place of start..from is present with an item that passes the test
+abbrev pub Passed : List ℕ → List ℕ → (Item → Bool) → List ℕ → ℕ → ℕ → Type 0
+Passed area words test marks start from =
+    (k : ℕ)
+    → start ≤ k
+    → k < from
+    → presentAt marks k ≡ true
+    → (x : Item)
+    → itemFrom area (recordAt words k) ≡ some x
+    → test x ≡ false

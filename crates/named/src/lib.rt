@@ -85,7 +85,7 @@ pub fn same_bytes(a: &[u8], b: &[u8]) -> bool
 }
 
 // Whether name record k is long, and this name.
-fn is_long(form: &[u8], k: usize, name: &[u8]) -> bool
+pub fn is_long(form: &[u8], k: usize, name: &[u8]) -> bool
     requires { ⌜ HasName (now form) k ⌝ }
     ensures { λ r. ⌜ ((x : Name) → getElem? (readForm (now (form .entry)) .names) k ≡ some x → r ≡ containsName (longOf (readForm (now (form .entry)) .area) x) (now (name .entry))) ⌝ }
 {

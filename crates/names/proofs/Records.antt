@@ -6,10 +6,11 @@ use mathlib.Core.Path.{_≡_, refl, sym, _∙_, ap}
 use Prim.Native.Nat.{ℕ, suc, _+_, _-_, _*_, _≤_, _<_}
 use native.Mathlib.Omega.{arith}
 use lib.Dec.{leb, eqb}
-use lib.ListN.{length, take, drop}
+use lib.ListN.{length, getD, take, drop}
 use borrow.Author.Tests.{eq-eqb, ne-eqb, le-leb, lt-leb, not-true, not-false}
 use borrow.Author.Count.{below-more}
 use Rattle.utf8.specs.Utf8.{if_then_else_, decode, decodeAt, wellFormed}
+use Rattle.utf8.specs.Laws.{decode-ascii}
 use Rattle.utf8.specs.declared.Decoded.{Decoded}
 use Rattle.utf8.specs.declared.Decoded.the-variants.{Char, Bad}
 use Rattle.wire.specs.Wire.{numberAt}
@@ -41,6 +42,9 @@ module _ (s : List ℕ) (d : Decoded) (v n : ℕ) (e : d ≡ decodeAt s 0) (k : 
   pub character-more : (n ≡ length s → ⊥) → 0 ≡ placeCode (oneCharacter s)
   unfolding oneCharacter decodeAt if_then_else_
   character-more h = rw (← e, k, oneCharacter, ne-eqb n (length s) h)
+
+pub character-ascii : (s : List ℕ) → length s ≡ 1 → getD s 0 0 < 0x80 → getD s 0 0 + 1 ≡ placeCode (oneCharacter s)
+character-ascii s l h = character-one s _ (getD s 0 0) 1 (decode-ascii s 0 (getD s 0 0) (omega arith) refl h) refl (sym l)
 
 pub character-bad : (s : List ℕ) (d : Decoded) → d ≡ decodeAt s 0 → d ≡ Bad → 0 ≡ placeCode (oneCharacter s)
 unfolding oneCharacter decodeAt

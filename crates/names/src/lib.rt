@@ -38,10 +38,16 @@ pub fn bytes(area: &[u8], x: Name) -> &[u8]
     &area[from..to]
 }
 
-// The one character that the bytes are, plus 1; 0 if they are anything else.
+// The one character that the bytes are, plus 1; 0 if they are anything else. Most names are one ASCII byte.
 pub fn character(s: &[u8]) -> u32
     ensures { λ r. ⌜ r ≡ placeCode (oneCharacter (now (s .entry))) ⌝ }
 {
+    if s.len() == 1 {
+        let b = s[0];
+        if b < 0x80 {
+            return b as u32 + 1;
+        }
+    }
     let d = utf8::decode_at(s, 0);
     let utf8::Decoded::Char(value, size) = d else {
         return 0;

@@ -11,7 +11,7 @@ use Rattle.rules.specs.Base.{_>>?_}
 use Rattle.rules.specs.Outcome.{Outcome, ok, refused, fault}
 use Rattle.rules.specs.Value.{Value, words}
 use Rattle.rules.specs.Form.{nameCount}
-use Rattle.rules.specs.Sheet.{sheetArea}
+use Rattle.rules.specs.Sheet.{sheetArea, sheetFault}
 use Rattle.rules.specs.Tree.{Tree}
 use Rattle.rules.specs.Split.{Item}
 use Rattle.rules.specs.State.{parsed}
@@ -28,7 +28,9 @@ use Rattle.state.specs.declared.Numbers.{Numbers}
 use Rattle.state.specs.Lent.{rawOf, numbersOf, stateOf}
 use Rattle.state.proofs.Laws.{raw-back, in-kept, kept-fine}
 use Rattle.named.specs.Codes.{Checked, Coded}
+use Rattle.known.specs.Known.{Matchable, Known}
 use Rattle.take.specs.Takes as takes
+use Rattle.table.specs.Given.{Holds}
 use Rattle.outcome.specs.declared.Ran.{Ran}
 use Rattle.outcome.specs.Told.{Told, told, toldWith}
 use Rattle.outcome.specs.Nodes.{treeAt}
@@ -72,6 +74,26 @@ codes-room b l c e =
     let long : length l ≡ 128 = ap length e ∙ length-replicate {A = ℕ} 128 0 in
     omega arith
 
+pub known-room : (n : ℕ) (l : List ℕ) (area words : List ℕ) → Holds area words n → l ≡ replicate 256 0 → n ≤ length l
+known-room n l area words h e = omega (arith, h .count, h .table .small, ap length e ∙ length-replicate {A = ℕ} 256 0)
+
+pub known-matchable : (b codes s words : List ℕ) (n : ℕ) → Checked b → Coded b codes → sheetFault s ≡ 0 → Holds (sheetArea s) words n
+    → Matchable b codes s words n
+known-matchable b codes s words n c w made h = record {
+  checked = c;
+  coded = w;
+  made = made;
+  items = h .items;
+  table = h .table;
+  inside = omega (arith, h .count);
+}
+
+pub cleared-holds : (b s words o : List ℕ) (x : Raw) (k : ℕ) → Cleared b s words o x k → (n : ℕ) → n ≡ x .count → Holds (sheetArea s) words n
+cleared-holds b s words o x k c n e = rw e (c .input .holds)
+
+pub cleared-made : (b s words o : List ℕ) (x : Raw) (k : ℕ) → Cleared b s words o x k → sheetFault s ≡ 0
+cleared-made b s words o x k c = c .input .made
+
 pub cleared-checked : (b s words o : List ℕ) (x : Raw) (k : ℕ) → Cleared b s words o x k → Checked b
 cleared-checked b s words o x k c =
     let a = c .input .accepts in
@@ -101,9 +123,9 @@ told-handed n r x e = go (r .outcome) refl
     go (fault d) h = absurd (Option·none-ne-some x (rw (h, told) at e))
 
 module _ (b s words o : List ℕ) (x : Raw) (k : ℕ) (c : Cleared b s words o x k) (p : Numbers) (ep : p ≡ numbersOf x) where
-  pub node-stands : (codes : List ℕ) → Coded b codes → Fields b codes s words (x .marks) p 1 k o 0
+  pub node-stands : (n : ℕ) → n ≡ x .count → (known : List ℕ) → Known b (sheetArea s) words n known → Fields b known s words (x .marks) p 1 k o 0
   unfolding parsed
-  node-stands codes w =
+  node-stands n same known w =
       let i = c .input in
       let stands : getElem? (i .result .trees) k ≡ some (i .tree) = sym (at-tree b (i .result) (i .accepts) k) ∙ i .node in
       let room = i .room in
@@ -112,7 +134,6 @@ module _ (b s words o : List ℕ) (x : Raw) (k : ℕ) (c : Cleared b s words o x
           tree = i .tree;
           node = i .node;
           light = few-leaves b (i .result) (i .accepts) k (i .tree) stands;
-          coded = w;
           made = i .made;
           state = record {
             items = i .holds .items;
@@ -121,6 +142,7 @@ module _ (b s words o : List ℕ) (x : Raw) (k : ℕ) (c : Cleared b s words o x
             fine = kept-fine (x .count) x (in-kept (x .count) x (i .good));
             told = refl;
           };
+          knows = subst (λ (l : ℕ). Known b (sheetArea s) words l known) (same ∙ sym (i .holds .count)) w;
         };
         space = record { room = omega arith; zeros = λ j _. ap (λ (l : List ℕ). getD l j 0) (c .zeros) ∙ zero-at (length o) j };
       })

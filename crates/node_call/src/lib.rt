@@ -2,11 +2,13 @@
 ghost use mathlib.Core.Path.{_≡_};
 ghost use mathlib.Core.Option.{some};
 ghost use lib.ListN.{length, replicate};
-ghost use Rattle.rules.specs.Sheet.{sheetArea};
+ghost use Rattle.rules.specs.Sheet.{sheetArea, sheetFault};
 ghost use Rattle.rules.specs.Tree.{Tree};
 ghost use Rattle.rules.specs.Calls.{callEval};
 ghost use Rattle.state.specs.Lent.{rawOf, numbersOf};
 ghost use Rattle.named.specs.Codes.{Checked, Coded};
+ghost use Rattle.known.specs.Known.{Known};
+ghost use Rattle.table.specs.Given.{Holds};
 ghost use Rattle.outcome.specs.Nodes.{treeAt};
 ghost use Rattle.lists.specs.Lists.{Writes};
 ghost use Rattle.line.specs.Line.{Fields, written};
@@ -66,6 +68,29 @@ fn codes_of(form: &[u8]) -> [u32; 128]
     let mut codes = no_codes();
     named::codes(form, &mut codes);
     codes
+}
+
+fn nothing_known() -> [u64; 256]
+    ensures { λ r. ⌜ r ≡ replicate 256 0 ⌝ }
+{
+    [0u64; 256]
+}
+
+fn wide(x: u32) -> usize
+    ensures { λ r. ⌜ r ≡ x ⌝ }
+{
+    x as usize
+}
+
+// Which nodes each of the items matches.
+fn known_of(form: &[u8], sheet: &[u8], items: &[u32], count: usize) -> [u64; 256]
+    requires { ⌜ Checked (now form) × (sheetFault (now sheet) ≡ 0) × Holds (sheetArea (now sheet)) (now items) count ⌝ }
+    ensures { λ r. ⌜ Known (now (form .entry)) (sheetArea (now (sheet .entry))) (now (items .entry)) count r ⌝ }
+{
+    let codes = codes_of(form);
+    let mut known = nothing_known();
+    known::known(form, &codes, sheet, items, count, &mut known);
+    known
 }
 
 fn refused(number: u32) -> Refused
@@ -130,7 +155,7 @@ fn wrote(ran: Ran, len: u32) -> Ran
 // One node: its words go to `out` from `at` on.
 fn run_value(
     form: &[u8],
-    codes: &[u32],
+    known: &[u64],
     sheet: &[u8],
     items: &[u32],
     marks: &mut [u16; 256],
@@ -140,13 +165,13 @@ fn run_value(
     out: &mut [u32],
     mark: u16,
 ) -> Ran
-    requires { ⌜ Fields (now form) (now codes) (now sheet) (now items) (now marks) p mark node (now out) at ⌝ }
+    requires { ⌜ Fields (now form) (now known) (now sheet) (now items) (now marks) p mark node (now out) at ⌝ }
     ensures { λ r. ⌜ ((t : Tree) → treeAt (now (form .entry)) node ≡ some t → Writes mark (sheetArea (now (sheet .entry))) (now (items .entry)) t (now (marks .entry)) p (now (marks .exit)) (now (out .entry)) at (now (out .exit)) r) ⌝ }
 {
     if line::is_list(form, node) {
-        return lists::run_list(form, codes, sheet, items, marks, p, node, at, out, mark);
+        return lists::run_list(form, known, sheet, items, marks, p, node, at, out, mark);
     }
-    let ran = eval::run_node(form, codes, sheet, items, marks, p, node, mark);
+    let ran = eval::run_node(form, known, sheet, items, marks, p, node, mark);
     let len = eval::put(out, at, ran.len, ran.word);
     wrote(ran, len)
 }
@@ -190,11 +215,11 @@ fn run_admitted(
     requires { ⌜ Cleared (now form) (now sheet) (now items) (now answers) s node ⌝ }
     ensures { λ r. ⌜ Runs (now (form .entry)) (now (sheet .entry)) (now (items .entry)) (length (now (answers .entry))) s node (now (answers .exit)) r ⌝ }
 {
-    let codes = codes_of(form);
+    let known = known_of(form, sheet, items, wide(s.count));
     let mut marks = s.marks;
     let ran = run_value(
         form,
-        &codes,
+        &known,
         sheet,
         items,
         &mut marks,

@@ -4,7 +4,7 @@ use mathlib.Core.List.{List}
 use mathlib.Core.Option.{Option, some, none}
 use mathlib.Core.Path.{_≡_}
 use Prim.Native.Nat.{ℕ, _≤_}
-use lib.ListN.{getElem?}
+use lib.ListN.{length, getElem?}
 use lib.Dec.{leb}
 use Rattle.rules.specs.Value.{Kind}
 use Rattle.rules.specs.Sheet.{sheetArea, sheetFault}
@@ -12,7 +12,7 @@ use Rattle.rules.specs.Tree.{Tree, kindOf, shapeOf}
 use Rattle.rules.specs.Accept.{Accepted, accepted, refusedAt, checkForm}
 use Rattle.rules.specs.Demands.{leaves}
 use Rattle.state.specs.declared.Numbers.{Numbers}
-use Rattle.named.specs.Codes.{Coded}
+use Rattle.known.specs.Known.{Known}
 use Rattle.take.specs.Takes as takes
 
 -- the tree of a node of an accepted form
@@ -24,16 +24,16 @@ unfoldable pub isScalar : Option Kind → Bool
 isScalar none = false
 isScalar (some k) = leb (shapeOf k) 1
 
--- a node, and a state over the items of the words
-pub record Standing (b codes s words m : List ℕ) (p : Numbers) (mark n : ℕ) : Type 0 where
+-- a node, a state over the items of the words, and which nodes each item matches
+pub record Standing (b known s words m : List ℕ) (p : Numbers) (mark n : ℕ) : Type 0 where
   pub tree : Tree
   pub node : treeAt b n ≡ some tree
   pub light : leaves tree ≤ 64
-  pub coded : Coded b codes
   pub made : sheetFault s ≡ 0
   pub state : takes.Ready (sheetArea s) words m p mark
+  pub knows : Known b (sheetArea s) words (length (state .items)) known
 
 -- whose value is no list
-pub record Scalar (b codes s words m : List ℕ) (p : Numbers) (mark n : ℕ) : Type 0 where
-  pub stands : Standing b codes s words m p mark n
+pub record Scalar (b known s words m : List ℕ) (p : Numbers) (mark n : ℕ) : Type 0 where
+  pub stands : Standing b known s words m p mark n
   pub scalar : isScalar (kindOf (stands .tree)) ≡ true

@@ -1,5 +1,5 @@
 -- What the evaluation of a leaf asks for, and what it answers.
-use mathlib.Core.Bool.{true}
+use mathlib.Core.Bool.{Bool, true}
 use mathlib.Core.List.{List, []}
 use mathlib.Core.Option.{Option, some, none}
 use mathlib.Core.Path.{_≡_}
@@ -8,24 +8,23 @@ use lib.Dec.{eqb}
 use Rattle.utf8.specs.Utf8.{if_then_else_}
 use Rattle.rules.specs.Outcome.{Outcome}
 use Rattle.rules.specs.Value.{Value}
-use Rattle.rules.specs.Sheet.{sheetArea, sheetFault}
+use Rattle.rules.specs.Tree.{Named}
 use Rattle.rules.specs.State.{State}
+use Rattle.rules.specs.Take.{matchesArg}
 use Rattle.rules.specs.Eval.{Ran as Run}
 use Rattle.rules.specs.Demands.{isNamed}
 use Rattle.state.specs.declared.Numbers.{Numbers}
 use Rattle.state.specs.Lent.{stateOf}
-use Rattle.named.specs.Codes.{namedAt}
-use Rattle.named.specs.Search.{HasNames}
+use Rattle.known.specs.Known.{Says}
 use Rattle.take.specs.Takes.{Ready}
 use Rattle.outcome.specs.declared.Ran.{Ran}
 use Rattle.outcome.specs.Told.{told, answered}
 
--- a leaf with names: one or more names of a checked form, and a state over the items of the words
-pub record Named (b codes s words m : List ℕ) (p : Numbers) (first count mark : ℕ) : Type 0 where
-  pub names : HasNames b codes first count
-  pub made : sheetFault s ≡ 0
-  pub state : Ready (sheetArea s) words m p mark
-  pub named : isNamed (namedAt b first count) ≡ true
+-- a leaf with one or more names, which the table of `known` tells by the node, and a state over the items of the words
+pub record Leaf (known area words m : List ℕ) (p : Numbers) (node mark : ℕ) (names : Named) (adjacent : Bool) : Type 0 where
+  pub state : Ready area words m p mark
+  pub says : Says known (p .end) node area words (matchesArg names adjacent)
+  pub named : isNamed names ≡ true
 
 -- ---- how a leaf ends, as numbers: always after one try
 abbrev pub valueRan : ℕ → Numbers → Ran

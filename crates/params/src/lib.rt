@@ -1,20 +1,31 @@
-// The evaluation of leaves: flags, arguments and positionals. Each is one try, and is told the mark of what it uses.
+// The evaluation of leaves: flags, arguments and positionals. Each is one try, and is told the mark of what it uses. One that is
+// told where to search from answers the same: its caller knows that no earlier place is the one that is sought.
 ghost use mathlib.Core.Path.{_≡_};
-ghost use Prim.Native.Nat.{ℕ, _<_, min};
+ghost use mathlib.Core.Bool.{Bool, true, false};
+ghost use mathlib.Core.List.{List};
+ghost use Prim.Native.Nat.{ℕ, _≤_, _<_, min};
 ghost use Rattle.utf8.specs.Utf8.{if_then_else_};
 ghost use Rattle.rules.specs.Sheet.{sheetArea, sheetFault};
 ghost use Rattle.rules.specs.Value.{text, number};
-ghost use Rattle.rules.specs.Tree.{Flag, Argument, Positional, positionOf};
+ghost use Rattle.rules.specs.State.{parsed as isParsed};
+ghost use Rattle.rules.specs.Tree.{Named, Flag, Argument, Positional, positionOf};
+ghost use Rattle.rules.specs.Take.{isOperand, matchesArg};
 ghost use Rattle.rules.specs.Eval.{parseText, wrongPosition, placedValue};
-ghost use Rattle.named.specs.Codes.{namedAt};
+ghost use Rattle.state.specs.Lent.{Fine};
 ghost use Rattle.named.specs.Items.{partBytes};
-ghost use Rattle.take.specs.Takes.{Ready};
+ghost use Rattle.take.specs.Takes.{Ready, Reaches, Skips};
 ghost use Rattle.outcome.specs.Told.{Evaluates};
-ghost use Rattle.params.specs.Leaves.{Named, valueRan, refusedRan, Tells, refusalOf};
+ghost use Rattle.params.specs.Leaves.{Leaf, valueRan, refusedRan, Tells, refusalOf};
 use arg::Part;
 use number::Number;
 use outcome::Ran;
 use state::Numbers;
+
+fn wide(x: u32) -> usize
+    ensures { λ r. ⌜ r ≡ x ⌝ }
+{
+    x as usize
+}
 
 fn value(word: u32, numbers: Numbers) -> Ran
     ensures { λ r. ⌜ r ≡ valueRan word numbers ⌝ }
@@ -106,23 +117,35 @@ fn placed(
     parsed(sheet, place, t, numeric, numbers)
 }
 
-// A flag with `count` names from `first` on. A switch that is missing is "no".
+// A flag. Which items have its names, the table `known` tells by the node. A switch that is missing is "no".
 pub fn eval_flag(
-    form: &[u8],
-    codes: &[u32],
-    sheet: &[u8],
-    items: &[u32],
+    known: &[u64],
     marks: &mut [u16; 256],
     p: Numbers,
-    first: usize,
-    count: usize,
+    node: usize,
     switch: bool,
     mark: u16,
 ) -> Ran
-    requires { ⌜ Named (now form) (now codes) (now sheet) (now items) (now marks) p first count mark ⌝ }
-    ensures { λ r. ⌜ ((n : ℕ) → Evaluates mark (sheetArea (now (sheet .entry))) (now (items .entry)) (Flag n (namedAt (now (form .entry)) first count) switch) (now (marks .entry)) p (now (marks .exit)) r) ⌝ }
+    requires { ⌜ Fine (now marks) p × (isParsed mark ≡ true) × Reaches (now known) p node ⌝ }
+    ensures { λ r. ⌜ ((area words : List ℕ) (names : Named) → Leaf (now (known .entry)) area words (now (marks .entry)) p node mark names false → (n : ℕ) → Evaluates mark area words (Flag n names switch) (now (marks .entry)) p (now (marks .exit)) r) ⌝ }
 {
-    let taken = take::take_flag(form, codes, sheet, items, marks, p, first, count, mark);
+    let start = wide(p.start);
+    eval_flag_from(known, marks, p, start, node, switch, mark)
+}
+
+pub fn eval_flag_from(
+    known: &[u64],
+    marks: &mut [u16; 256],
+    p: Numbers,
+    from: usize,
+    node: usize,
+    switch: bool,
+    mark: u16,
+) -> Ran
+    requires { ⌜ Fine (now marks) p × (isParsed mark ≡ true) × Reaches (now known) p node × (from ≤ p .end) ⌝ }
+    ensures { λ r. ⌜ ((area words : List ℕ) (names : Named) → Leaf (now (known .entry)) area words (now (marks .entry)) p node mark names false → Skips area words (matchesArg names false) (now (marks .entry)) p from → (n : ℕ) → Evaluates mark area words (Flag n names switch) (now (marks .entry)) p (now (marks .exit)) r) ⌝ }
+{
+    let taken = take::take_flag_known(known, marks, p, from, node, mark);
     let left = taken.numbers;
     if taken.found {
         return value(1, left);
@@ -133,35 +156,39 @@ pub fn eval_flag(
     refused(20, 0, left)
 }
 
-// An argument with `count` names from `first` on. A key that has no value behind it is refused with 22.
+// An argument. A key that has no value behind it is refused with 22.
 pub fn eval_argument(
-    form: &[u8],
-    codes: &[u32],
+    known: &[u64],
     sheet: &[u8],
     items: &[u32],
     marks: &mut [u16; 256],
     p: Numbers,
-    first: usize,
-    count: usize,
+    node: usize,
     numeric: bool,
-    adjacent: bool,
     mark: u16,
 ) -> Ran
-    requires { ⌜ Named (now form) (now codes) (now sheet) (now items) (now marks) p first count mark ⌝ }
-    ensures { λ r. ⌜ ((n : ℕ) → Evaluates mark (sheetArea (now (sheet .entry))) (now (items .entry)) (Argument n (namedAt (now (form .entry)) first count) (if numeric then number else text) adjacent) (now (marks .entry)) p (now (marks .exit)) r) ⌝ }
+    requires { ⌜ (sheetFault (now sheet) ≡ 0) × Reaches (now known) p node × ((names : Named) × (adjacent : Bool) × Leaf (now known) (sheetArea (now sheet)) (now items) (now marks) p node mark names adjacent) ⌝ }
+    ensures { λ r. ⌜ ((names : Named) (adjacent : Bool) → Leaf (now (known .entry)) (sheetArea (now (sheet .entry))) (now (items .entry)) (now (marks .entry)) p node mark names adjacent → (n : ℕ) → Evaluates mark (sheetArea (now (sheet .entry))) (now (items .entry)) (Argument n names (if numeric then number else text) adjacent) (now (marks .entry)) p (now (marks .exit)) r) ⌝ }
 {
-    let taken = take::take_arg(
-        form,
-        codes,
-        sheet,
-        items,
-        marks,
-        p,
-        first,
-        count,
-        adjacent,
-        mark,
-    );
+    let start = wide(p.start);
+    eval_argument_from(known, sheet, items, marks, p, start, node, numeric, mark)
+}
+
+pub fn eval_argument_from(
+    known: &[u64],
+    sheet: &[u8],
+    items: &[u32],
+    marks: &mut [u16; 256],
+    p: Numbers,
+    from: usize,
+    node: usize,
+    numeric: bool,
+    mark: u16,
+) -> Ran
+    requires { ⌜ (sheetFault (now sheet) ≡ 0) × Reaches (now known) p node × ((names : Named) × (adjacent : Bool) × Leaf (now known) (sheetArea (now sheet)) (now items) (now marks) p node mark names adjacent × Skips (sheetArea (now sheet)) (now items) (matchesArg names adjacent) (now marks) p from) ⌝ }
+    ensures { λ r. ⌜ ((names : Named) (adjacent : Bool) → Leaf (now (known .entry)) (sheetArea (now (sheet .entry))) (now (items .entry)) (now (marks .entry)) p node mark names adjacent → Skips (sheetArea (now (sheet .entry))) (now (items .entry)) (matchesArg names adjacent) (now (marks .entry)) p from → (n : ℕ) → Evaluates mark (sheetArea (now (sheet .entry))) (now (items .entry)) (Argument n names (if numeric then number else text) adjacent) (now (marks .entry)) p (now (marks .exit)) r) ⌝ }
+{
+    let taken = take::take_arg_known(known, items, marks, p, from, node, mark);
     let left = taken.numbers;
     let found = taken.value;
     match found {
@@ -184,7 +211,24 @@ pub fn eval_positional(
     requires { ⌜ (sheetFault (now sheet) ≡ 0) × Ready (sheetArea (now sheet)) (now items) (now marks) p mark ⌝ }
     ensures { λ r. ⌜ ((n : ℕ) → Evaluates mark (sheetArea (now (sheet .entry))) (now (items .entry)) (Positional n (positionOf position) (if numeric then number else text)) (now (marks .entry)) p (now (marks .exit)) r) ⌝ }
 {
-    let taken = take::take_positional_word(items, marks, p, mark);
+    let start = wide(p.start);
+    eval_positional_from(sheet, items, marks, p, start, position, numeric, mark)
+}
+
+pub fn eval_positional_from(
+    sheet: &[u8],
+    items: &[u32],
+    marks: &mut [u16; 256],
+    p: Numbers,
+    from: usize,
+    position: usize,
+    numeric: bool,
+    mark: u16,
+) -> Ran
+    requires { ⌜ (sheetFault (now sheet) ≡ 0) × Ready (sheetArea (now sheet)) (now items) (now marks) p mark × Skips (sheetArea (now sheet)) (now items) isOperand (now marks) p from ⌝ }
+    ensures { λ r. ⌜ ((n : ℕ) → Evaluates mark (sheetArea (now (sheet .entry))) (now (items .entry)) (Positional n (positionOf position) (if numeric then number else text)) (now (marks .entry)) p (now (marks .exit)) r) ⌝ }
+{
+    let taken = take::take_positional_word_from(items, marks, p, from, mark);
     let left = taken.numbers;
     let operand = taken.operand;
     match operand {

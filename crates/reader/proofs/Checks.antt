@@ -1,28 +1,27 @@
 -- What the form check's answer says, and how a call goes on from it.
 use mathlib.Core.Bool.{Bool, true, false}
 use mathlib.Core.List.{List, [], _∷_}
-use mathlib.Core.Option.{Option, some, none}
+use mathlib.Core.Option.{some, none}
 use mathlib.Core.Path.{_≡_, refl, sym, ap, _∙_}
 use Prim.Native.Nat.{ℕ, zero, suc, _≤_, _<_}
 use native.Mathlib.Omega.{arith}
 use lib.ListN.{length, getElem?}
 use Rattle.utf8.specs.Utf8.{if_then_else_}
-use Rattle.rules.specs.Base.{isSome, firstFault, _>>?_}
-use Rattle.rules.specs.Outcome.{Outcome, ok, refused, fault, _>>=_, refuse}
+use Rattle.rules.specs.Base.{firstFault, _>>?_}
+use Rattle.rules.specs.Outcome.{Outcome, ok, _>>=_, refuse}
 use Rattle.rules.specs.Value.{Kind}
-use Rattle.rules.specs.Form.{Form, nodeCount, readForm, nameGood, portable}
+use Rattle.rules.specs.Form.{Form, nodeCount, readForm, portable}
 use Rattle.rules.specs.Tree.{Tree, kindOf}
 use Rattle.rules.specs.Accept.{Checked, accepted, refusedAt, Accepted, checkForm, lengthGood}
-use Rattle.rules.specs.Codes.{placeCode, checkCode, kindCode}
+use Rattle.rules.specs.Codes.{checkCode, kindCode}
 use Rattle.rules.specs.Calls.{formIn, asked, callKind, callPortable}
 use Rattle.rules.specs.declared.Refused.{Refused}
 use Rattle.rules.specs.Demands.{All, Sound}
 use Rattle.rules.proofs.Acceptance.{All-at, is-some, lookup-some, accepted-form, accepted-trees, accepted-trees-sound, accepted-length, accepted-passed}
 use Rattle.rules.proofs.WellMadeLaws.{check-numbers, well-made}
 use Rattle.layout.proofs.Sizes.{nodes-length}
-use Rattle.fields.specs.Letters.{GoodNames}
+use Rattle.fields.specs.Names.{GoodNames}
 use Rattle.reader.specs.Reader.{told, yesCode}
-use Rattle.reader.specs.declared.Told.{Told}
 
 positive : (n : ℕ) → 1 ≤ n → n ≡ 0 → ⊥
 positive n h e = omega arith

@@ -3,12 +3,12 @@ use mathlib.Core.Bool.{Bool, true, false, and-eq-true-iff, _&&_}
 use mathlib.Core.List.{List, [], _∷_, _++_}
 use mathlib.Core.Option.{Option, some, none}
 use mathlib.Core.Path.{_≡_, refl, sym, ap, _∙_}
-use Prim.Native.Nat.{ℕ, zero, suc, _+_, _-_, _≤_, _<_}
+use Prim.Native.Nat.{ℕ, suc, _+_, _-_, _≤_, _<_}
 use native.Mathlib.Omega.{arith}
 use borrow.Author.Tests.{ne-eqb, lt-ltb, le-ltb, leb-true}
-use lib.Dec.{eqb, ltb, leb}
+use lib.Dec.{eqb, leb}
 use lib.ListN.{length, replicate, take, length-append, length-replicate}
-use lib.Seq.{sets, sets-eq}
+use lib.Seq.{sets, sets-eq, length-sets}
 use native.Mathlib.Nat.{sub-zero}
 use Rattle.utf8.specs.Utf8.{if_then_else_}
 use Rattle.rules.specs.Outcome.{Outcome, ok, _>>=_, Refusal}
@@ -17,34 +17,31 @@ use Rattle.rules.specs.Form.{Form, Name, readForm, nameBytes, oneCharacter, nod
 use Rattle.rules.specs.Accept.{Checked, accepted, refusedAt, Accepted, checkForm, lengthGood, namedAt, lettersFrom, lettersOf}
 use Rattle.rules.specs.Tree.{shortOf}
 use Rattle.rules.specs.Codes.{placeCode, checkCode}
-use Rattle.rules.specs.State.{emptyState}
 use Rattle.rules.specs.Run.{Line, padded, split}
-use Rattle.rules.specs.Calls.{toRaw, splitRefused, splitReport, splitChecked, callSplit}
+use Rattle.rules.specs.Calls.{toRaw, Splitting, splitRefused, splitReport, splitChecked, callSplit}
 use Rattle.rules.specs.declared.Refused.{Refused}
 use Rattle.rules.specs.declared.State.{State as Raw}
-use Rattle.args.proofs.States.{all-zero}
-use Rattle.args.specs.Construct.{Given, Constructs, refusalNumber, refusalPlace}
-use Rattle.args.specs.declared.Split.{Split as Constructed}
+use Rattle.named.specs.Codes.{Checked as GoodNames}
+use Rattle.args.proofs.States.{all-zero, empty-raw}
+use Rattle.args.specs.declared.Ended.{Ended}
+use Rattle.args.specs.Construct.{rawOf, Given, Ends, refusalNumber, refusalPlace}
 use Rattle.arg.specs.Clusters.{letters}
-use Rattle.fields.specs.Letters.{GoodNames, Wrote}
+use Rattle.letters.specs.Letters.{WroteLetters}
 use Rattle.layout.proofs.Sizes.{names-length}
 use Rattle.rules.proofs.Acceptance.{accepted-form}
-use Rattle.reader.specs.Reader.{placeOf, splittingOf}
-use Rattle.reader.specs.Ready.{Ready, Holds}
-use Rattle.reader.specs.declared.SplitAnswer.{SplitAnswer}
+use Rattle.reader.specs.Reader.{placeOf, splittingOf, answerOf, Answers}
+use Rattle.reader.specs.Ready.{Ready}
 use Rattle.reader.proofs.Checks.{check-accepted, names-good}
 
-pub empty-raw : (m : List ℕ) → m ≡ replicate 256 0 → record { marks = m; count = 0; remaining = 0; current = 0; start = 0; end = 0 } ≡ toRaw emptyState
-unfolding toRaw emptyState padded
-empty-raw m e = ap (λ (l : List ℕ). record { marks = l; count = 0; remaining = 0; current = 0; start = 0; end = 0 }) e
-
 pub refused-splitting :
-    (l o : List ℕ) (number place : ℕ) (s : Raw)
+    (l o : List ℕ) (number place : ℕ)
     → o ≡ sets l 0 (replicate (length l) 0)
-    → s ≡ toRaw emptyState
-    → splittingOf (record { number = number; place = place; state = s }) o ≡ splitRefused (length l) number (placeOf place)
+    → Answers (ok (splitRefused (length l) number (placeOf place))) o (record { number = number; place = place; count = 0; marker = 0 })
 unfolding splittingOf splitRefused padded
-refused-splitting l o number place s e h = rw (e ∙ all-zero l (length l) refl, h, sub-zero (length l)) refl
+refused-splitting l o number place e = record {
+  same = rw (e ∙ all-zero l (length l) refl, empty-raw, sub-zero (length l)) refl;
+  marked = record { few = omega arith; within = omega arith };
+}
 
 before-next : (i : ℕ) → suc i - 1 ≡ i
 before-next i = omega arith
@@ -56,39 +53,49 @@ place-code none = refl
 place-code (some i) = rw (ne-eqb (suc i) 0 (λ e. omega arith)) (ap {B = Option ℕ} some (before-next i))
 
 -- ---- what is refused
-module _ (form sheet : List ℕ) (n : ℕ) (r : Refused) (e : r ≡ checkCode (checkForm form)) where
-  pub form-refused : (r .number ≡ 0 → ⊥) → (x : SplitAnswer) (items : List ℕ)
-      → splittingOf x items ≡ splitRefused n (r .number) (placeOf (r .place))
-      → callSplit form sheet n ≡ ok (splittingOf x items)
+module _ (form sheet : List ℕ) (n : ℕ) (r : Refused) (e : r ≡ checkCode (checkForm form)) (items : List ℕ) (x : Ended) where
+  pub form-refused : (r .number ≡ 0 → ⊥)
+      → Answers (ok (splitRefused n (r .number) (placeOf (r .place)))) items x
+      → Answers (callSplit form sheet n) items x
   unfolding callSplit
-  form-refused z x items h = go (checkForm form) refl
+  form-refused z h = go (checkForm form) refl
     where
-      go : (c : Checked Accepted) → checkForm form ≡ c → callSplit form sheet n ≡ ok (splittingOf x items)
+      go : (c : Checked Accepted) → checkForm form ≡ c → Answers (callSplit form sheet n) items x
       go (accepted a) g = absurd (z (ap (λ (y : Refused). y .number) (e ∙ ap checkCode g)))
       go (refusedAt m k) g =
           let same = e ∙ ap checkCode g in
-          rw (g, callSplit, h, same, place-code k)
+          rw (g, callSplit) (rw (same, place-code k) at h)
 
-  pub sheet-refused : r .number ≡ 0 → (m : ℕ) → m ≡ sheetFault sheet → (m ≡ 0 → ⊥) → (x : SplitAnswer) (items : List ℕ)
-      → splittingOf x items ≡ splitRefused n m (placeOf 0)
-      → callSplit form sheet n ≡ ok (splittingOf x items)
+  pub sheet-refused : r .number ≡ 0 → (m : ℕ) → m ≡ sheetFault sheet → (m ≡ 0 → ⊥)
+      → Answers (ok (splitRefused n m (placeOf 0))) items x
+      → Answers (callSplit form sheet n) items x
   unfolding callSplit splitChecked if_then_else_ placeOf
-  sheet-refused z m f y x items h =
+  sheet-refused z m f y h =
       let (a, g) = check-accepted form r e z in
-      rw (g, callSplit, lt-ltb 0 (sheetFault sheet) (omega (arith, f, y)), h, f)
+      rw (g, callSplit, lt-ltb 0 (sheetFault sheet) (omega (arith, f, y)), ← f) h
 
-  pub slice-refused : r .number ≡ 0 → (m : ℕ) → m ≡ sheetFault sheet → m ≡ 0 → n < 1792 → (x : SplitAnswer) (items : List ℕ)
-      → splittingOf x items ≡ splitRefused n 7 (placeOf 0)
-      → callSplit form sheet n ≡ ok (splittingOf x items)
+  pub slice-refused : r .number ≡ 0 → (m : ℕ) → m ≡ sheetFault sheet → m ≡ 0 → n < 1792
+      → Answers (ok (splitRefused n 7 (placeOf 0))) items x
+      → Answers (callSplit form sheet n) items x
   unfolding callSplit splitChecked if_then_else_ placeOf
-  slice-refused z m f y k x items h =
+  slice-refused z m f y k h =
       let (a, g) = check-accepted form r e z in
-      rw (g, callSplit, le-ltb 0 (sheetFault sheet) (omega (arith, f, y)), lt-ltb n 1792 k, h)
+      rw (g, callSplit, le-ltb 0 (sheetFault sheet) (omega (arith, f, y)), lt-ltb n 1792 k) h
 
-  pub all-ready : r .number ≡ 0 → (m : ℕ) → m ≡ sheetFault sheet → m ≡ 0 → (items : List ℕ) → length items ≡ n → 1792 ≤ n → Ready form sheet items
-  all-ready z m f y items l k =
-      let (a, g) = check-accepted form r e z in
-      record { result = a; accepts = g; checked = sym f ∙ y; room = omega (arith, l, k) }
+pub all-ready :
+    (form sheet : List ℕ) (n : ℕ) (r : Refused)
+    → r ≡ checkCode (checkForm form)
+    → r .number ≡ 0
+    → (m : ℕ)
+    → m ≡ sheetFault sheet
+    → m ≡ 0
+    → (items : List ℕ)
+    → length items ≡ n
+    → 1792 ≤ n
+    → Ready form sheet items
+all-ready form sheet n r e z m f y items l k =
+    let (a, g) = check-accepted form r e z in
+    record { result = a; accepts = g; checked = sym f ∙ y; room = omega (arith, l, k) }
 
 -- ---- the letters of a form
 short-few : (a : List ℕ) (m : Name) → length (shortOf a m) ≤ 1
@@ -125,22 +132,35 @@ take-front (x ∷ w) l = ap {B = List ℕ} (λ r. x ∷ r) (take-front w l)
 take-set : (w o : List ℕ) → length w ≤ length o → take (length w) (sets o 0 w) ≡ w
 take-set w o h = ap (λ (l : List ℕ). take (length w) l) (sets-eq w o 0 (omega (arith, h))) ∙ take-front w _
 
-pub held-letters :
-    (b : List ℕ) (kind : ℕ) (o p : List ℕ) (n : ℕ)
-    → GoodNames b
-    → o ≡ replicate 128 0
-    → Wrote o (lettersFrom (readForm b) kind 0 (readForm b .names)) p n
-    → Holds p n (lettersFrom (readForm b) kind 0 (readForm b .names))
-held-letters b kind o p n g z w =
-    let l = lettersFrom (readForm b) kind 0 (readForm b .names) in
-    let few : length l ≤ 128 = omega (arith, letters-few (readForm b) kind 0 (readForm b .names), names-length b, names-few b (g .good)) in
-    let long : length o ≡ 128 = ap length z ∙ length-replicate {A = ℕ} 128 0 in
-    record {
-      few = omega (arith, w .count, few);
-      same = ap (λ (k : ℕ). take k p) (w .count) ∙ ap (λ (x : List ℕ). take (length l) x) (w .words) ∙ take-set l o (omega (arith, few, long));
-    }
+-- a buffer of 128 words that holds the letters of a kind
+module _ (b : List ℕ) (kind : ℕ) (o p : List ℕ) (n : ℕ) (g : GoodNames b) (z : o ≡ replicate 128 0)
+    (w : WroteLetters b kind o p n) where
+  long : length o ≡ 128
+  long = ap length z ∙ length-replicate {A = ℕ} 128 0
+
+  few : length (lettersFrom (readForm b) kind 0 (readForm b .names)) ≤ 128
+  few = omega (arith, letters-few (readForm b) kind 0 (readForm b .names), names-length b, names-few b (g .good))
+
+  pub letters-fit : n ≤ length p
+  letters-fit =
+      omega (arith, w .count, few, long, ap length (w .words) ∙ length-sets o 0 (lettersFrom (readForm b) kind 0 (readForm b .names)))
+
+  letters-taken : take n p ≡ lettersFrom (readForm b) kind 0 (readForm b .names)
+  letters-taken =
+      let l = lettersFrom (readForm b) kind 0 (readForm b .names) in
+      ap (λ (k : ℕ). take k p) (w .count)
+      ∙ ap (λ (x : List ℕ). take (length l) x) (w .words)
+      ∙ take-set l o (omega (arith, few, long))
 
 -- ---- an accepted form and a checked sheet
+pub ready-names : (form sheet items : List ℕ) → Ready form sheet items → GoodNames form
+ready-names form sheet items r =
+    let g = names-good form (r .result) (r .accepts) in
+    record { good = g .good; names = g .names }
+
+pub ready-given : (form sheet items : List ℕ) → Ready form sheet items → Given sheet items
+ready-given form sheet items r = record { checked = r .checked; room = r .room }
+
 split-goes :
     (form sheet : List ℕ) (n : ℕ) (a : Accepted) (l : Line)
     → checkForm form ≡ accepted a
@@ -153,40 +173,57 @@ split-goes form sheet n a l e f h g =
     rw (e, callSplit, accepted-form form a e, f, le-ltb n 1792 h, g) refl
 
 reports :
-    (n : ℕ) (l : Line) (s : Constructed) (out : List ℕ)
-    → s .number ≡ refusalNumber (l .refusal)
-    → s .place ≡ refusalPlace (l .refusal)
-    → s .state ≡ toRaw (l .state)
+    (n : ℕ) (l : Line) (r : Ended) (out : List ℕ)
+    → r .number ≡ refusalNumber (l .refusal)
+    → r .place ≡ refusalPlace (l .refusal)
+    → rawOf (r .count) (r .marker) ≡ toRaw (l .state)
     → out ≡ padded n (l .records)
-    → splitReport n l ≡ splittingOf (record { number = s .number; place = s .place; state = s .state }) out
+    → splitReport n l ≡ splittingOf (answerOf r) out
 unfolding splitReport splittingOf placeOf if_then_else_
-reports n l s out a b c d = go (l .refusal) refl
+reports n l r out a b c d = go (l .refusal) refl
   where
-    go : (o : Option Refusal) → l .refusal ≡ o → splitReport n l ≡ splittingOf (record { number = s .number; place = s .place; state = s .state }) out
+    go : (o : Option Refusal) → l .refusal ≡ o → splitReport n l ≡ splittingOf (answerOf r) out
     go none e = rw (a, b, c, d, e, splitReport) refl
     go (some x) e = rw (a, b, c, d, e, splitReport, place-code (x .place)) refl
 
-pub ready-names : (form sheet items : List ℕ) → Ready form sheet items → GoodNames form
-ready-names form sheet items r = names-good form (r .result) (r .accepts)
-
-pub ready-given : (form sheet items : List ℕ) → Ready form sheet items → Given sheet items
-ready-given form sheet items r = record { checked = r .checked; room = r .room }
-
-pub prefix-fits : (w : List ℕ) (n : ℕ) (l : List ℕ) → length w ≡ 128 → Holds w n l → n ≤ length w
-prefix-fits w n l e h = omega (arith, e, h .few)
-
 pub split-answers :
-    (form sheet items : List ℕ) (f a : List ℕ) (m k : ℕ) (u v : List ℕ) (out : List ℕ) (s : Constructed)
+    (form sheet items : List ℕ) (out : List ℕ) (r : Ended)
     → Ready form sheet items
-    → Holds f m (lettersFrom (readForm form) 1 0 (readForm form .names))
-    → Holds a k (lettersFrom (readForm form) 2 0 (readForm form .names))
-    → u ≡ take m f
-    → v ≡ take k a
-    → Constructs (letters u v) sheet (length items) out s
-    → callSplit form sheet (length items) ≡ ok (splittingOf (record { number = s .number; place = s .place; state = s .state }) out)
-unfolding callSplit splitChecked split lettersOf
-split-answers form sheet items f a m k u v out s r hf ha eu ev c =
-    let same : letters u v ≡ lettersOf (readForm form) = λ i. record { flags = (eu ∙ hf .same) i; arguments = (ev ∙ ha .same) i } in
-    let line : split (readForm form) sheet ≡ ok (c .line) = rw (← same) (c .same) in
-    let goes = split-goes form sheet (length items) (r .result) (c .line) (r .accepts) (r .checked) (r .room) line in
-    goes ∙ ap ok (reports (length items) (c .line) s out (c .number) (c .place) (c .state) (c .words))
+    → Ends (lettersOf (readForm form)) sheet (length items) out r
+    → Answers (callSplit form sheet (length items)) out r
+unfolding split
+split-answers form sheet items out r g c = record {
+  same =
+      split-goes form sheet (length items) (g .result) (c .line) (g .accepts) (g .checked) (g .room) (c .same)
+      ∙ ap ok (reports (length items) (c .line) r out (c .number) (c .place) (c .state) (c .words));
+  marked = c .marked;
+}
+
+-- the letters of both buffers are those of the form
+pub split-letters :
+    (form sheet items : List ℕ) (o p : List ℕ) (n : ℕ) (q s : List ℕ) (m : ℕ) (k : ℕ) (out : List ℕ) (r : Ended)
+    → Ready form sheet items
+    → o ≡ replicate 128 0
+    → q ≡ replicate 128 0
+    → WroteLetters form 1 o p n
+    → WroteLetters form 2 q s m
+    → Ends (letters (take (n - 0) p) (take (m - 0) s)) sheet k out r
+    → Ends (lettersOf (readForm form)) sheet k out r
+unfolding lettersOf
+split-letters form sheet items o p n q s m k out r g zo zq wo wq c =
+    let names = ready-names form sheet items g in
+    let flags = ap (λ (j : ℕ). take j p) (sub-zero n) ∙ letters-taken form 1 o p n names zo wo in
+    let arguments = ap (λ (j : ℕ). take j s) (sub-zero m) ∙ letters-taken form 2 q s m names zq wq in
+    rw (flags, arguments) at c
+
+pub codes-fit : (form sheet items o : List ℕ) → Ready form sheet items → o ≡ replicate 128 0 → nameCount form ≤ length o
+codes-fit form sheet items o r z =
+    omega (arith, names-few form (ready-names form sheet items r .good), ap length z ∙ length-replicate {A = ℕ} 128 0)
+
+-- the state that the items start in
+pub split-state :
+    (o : Outcome Splitting) (items : List ℕ) (r : Ended) (s : Raw)
+    → Answers o items r
+    → s ≡ rawOf (r .count) (r .marker)
+    → o ≡ ok (splittingOf (record { number = r .number; place = r .place; state = s }) items)
+split-state o items r s a e = a .same ∙ rw e

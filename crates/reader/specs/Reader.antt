@@ -2,6 +2,7 @@
 use mathlib.Core.Bool.{Bool, true, false}
 use mathlib.Core.List.{List}
 use mathlib.Core.Option.{Option, some, none}
+use mathlib.Core.Path.{_≡_}
 use Prim.Native.Nat.{ℕ, _-_}
 use lib.Dec.{eqb}
 use Rattle.utf8.specs.Utf8.{if_then_else_}
@@ -9,6 +10,8 @@ use Rattle.rules.specs.Outcome.{Outcome, ok, refused, fault}
 use Rattle.rules.specs.Codes.{placeCode}
 use Rattle.rules.specs.Calls.{Splitting}
 use Rattle.rules.specs.declared.Refused.{Refused}
+use Rattle.args.specs.declared.Ended.{Ended}
+use Rattle.args.specs.Construct.{rawOf, Marked}
 use Rattle.reader.specs.declared.Told.{Told}
 use Rattle.reader.specs.declared.SplitAnswer.{SplitAnswer}
 
@@ -34,3 +37,11 @@ placeOf c = if eqb c 0 then none else some (c - 1)
 -- what a split handed back, with the words of the item slice
 unfoldable pub splittingOf : SplitAnswer → List ℕ → Splitting
 splittingOf r items = record { number = r .number; place = placeOf (r .place); state = r .state; items = items }
+
+-- how splitting ended, with the state that the items start in
+abbrev pub answerOf : Ended → SplitAnswer
+answerOf r = record { number = r .number; place = r .place; state = rawOf (r .count) (r .marker) }
+
+pub record Answers (o : Outcome Splitting) (items : List ℕ) (r : Ended) : Type 0 where
+  pub same : o ≡ ok (splittingOf (answerOf r) items)
+  pub marked : Marked (r .count) (r .marker)

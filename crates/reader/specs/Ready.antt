@@ -2,7 +2,7 @@
 use mathlib.Core.List.{List}
 use mathlib.Core.Path.{_≡_}
 use Prim.Native.Nat.{ℕ, _≤_}
-use lib.ListN.{length, take}
+use lib.ListN.{length}
 use Rattle.rules.specs.Sheet.{sheetFault}
 use Rattle.rules.specs.Accept.{Accepted, accepted, checkForm}
 
@@ -11,8 +11,3 @@ pub record Ready (form sheet items : List ℕ) : Type 0 where
   pub accepts : checkForm form ≡ accepted result
   pub checked : sheetFault sheet ≡ 0
   pub room : 1792 ≤ length items
-
--- a buffer whose first words are these
-pub record Holds (words : List ℕ) (count : ℕ) (letters : List ℕ) : Type 0 where
-  pub few : count ≤ 128
-  pub same : take count words ≡ letters

@@ -1,18 +1,18 @@
 // The entry points. None asks anything of its input: what is not well made is refused under its number.
 ghost use mathlib.Core.Path.{_≡_};
 ghost use mathlib.Core.Option.{some};
-ghost use Prim.Native.Nat.{_≤_};
-ghost use lib.ListN.{length, take, replicate};
+ghost use lib.ListN.{length, replicate};
 ghost use Rattle.rules.specs.Outcome.{ok};
 ghost use Rattle.rules.specs.Sheet.{sheetFault};
 ghost use Rattle.rules.specs.Form.{readForm};
-ghost use Rattle.rules.specs.Accept.{checkForm, lettersFrom};
-ghost use Rattle.fields.specs.Letters.{GoodNames};
+ghost use Rattle.rules.specs.Accept.{checkForm, lettersOf};
 ghost use Rattle.rules.specs.Codes.{checkCode, kindCode};
-ghost use Rattle.rules.specs.State.{emptyState};
-ghost use Rattle.rules.specs.Calls.{toRaw, callKind, callPortable, callSplit, splitRefused};
-ghost use Rattle.reader.specs.Reader.{sheetCode, told, yesCode, placeOf, splittingOf};
-ghost use Rattle.reader.specs.Ready.{Ready, Holds};
+ghost use Rattle.rules.specs.Calls.{callKind, callPortable, callSplit, splitRefused};
+ghost use Rattle.named.specs.Codes.{Coded};
+ghost use Rattle.args.specs.Construct.{Ends};
+ghost use Rattle.reader.specs.Reader.{sheetCode, told, yesCode, placeOf, splittingOf, Answers};
+ghost use Rattle.reader.specs.Ready.{Ready};
+use args::Ended;
 use rules::Refused;
 use rules::State;
 
@@ -100,92 +100,63 @@ pub fn portable(form: &[u8]) -> Told
     }
 }
 
-fn no_marks() -> [u16; 256]
-    ensures { λ r. ⌜ r ≡ replicate 256 0 ⌝ }
-{
-    [0u16; 256]
-}
-
-// An empty state.
-fn empty() -> State
-    ensures { λ r. ⌜ r ≡ toRaw emptyState ⌝ }
-{
-    State {
-        marks: no_marks(),
-        count: 0,
-        remaining: 0,
-        current: 0,
-        start: 0,
-        end: 0,
-    }
-}
-
-// Refused because of the input: all 0, an empty state.
-fn split_refused(number: u32, place: u32, items: &mut [u32]) -> SplitAnswer
-    ensures { λ r. ⌜ splittingOf r (now (items .exit)) ≡ splitRefused (length (now (items .entry))) number (placeOf place) ⌝ }
+// Refused because of the input: all 0, and no items.
+fn split_refused(number: u32, place: u32, items: &mut [u32]) -> Ended
+    ensures { λ r. ⌜ Answers (ok (splitRefused (length (now (items .entry))) number (placeOf place))) (now (items .exit)) r ⌝ }
 {
     wire::fill(items, 0, items.len(), 0);
-    SplitAnswer {
+    Ended {
         number,
         place,
-        state: empty(),
+        count: 0,
+        marker: 0,
     }
 }
 
-fn no_letters() -> [u32; 128]
+fn zeros() -> [u32; 128]
     ensures { λ r. ⌜ r ≡ replicate 128 0 ⌝ }
 {
     [0u32; 128]
 }
 
-// The letters of a form's nodes of a kind.
-struct Held {
-    words: [u32; 128],
-    count: usize,
+// The same as `split_accepted`, with the letters of the form worked out.
+fn split_clusters(form: &[u8], codes: &[u32], sheet: &[u8], items: &mut [u32]) -> Ended
+    requires { ⌜ Ready (now form) (now sheet) (now items) × Coded (now form) (now codes) ⌝ }
+    ensures { λ r. ⌜ Ends (lettersOf (readForm (now (form .entry)))) (now (sheet .entry)) (length (now (items .entry))) (now (items .exit)) r ⌝ }
+{
+    let mut flags = zeros();
+    let mut arguments = zeros();
+    let counts = letters::letters(form, codes, &mut flags, &mut arguments);
+    let n = counts.flags;
+    let m = counts.arguments;
+    args::construct(sheet, &flags[0..n], &arguments[0..m], items)
 }
 
-fn letters_of(form: &[u8], kind: u32) -> Held
-    requires { ⌜ GoodNames (now form) ⌝ }
-    ensures { λ r. ⌜ Holds (r .words) (r .count) (lettersFrom (readForm (now (form .entry))) kind 0 (readForm (now (form .entry)) .names)) ⌝ }
+// An accepted form with its short names as numbers, a checked sheet, and room for the items. The letters are worked out only
+// where one can be looked up.
+pub fn split_accepted(form: &[u8], codes: &[u32], sheet: &[u8], items: &mut [u32]) -> Ended
+    requires { ⌜ Ready (now form) (now sheet) (now items) × Coded (now form) (now codes) ⌝ }
+    ensures { λ r. ⌜ Ends (lettersOf (readForm (now (form .entry)))) (now (sheet .entry)) (length (now (items .entry))) (now (items .exit)) r ⌝ }
 {
-    let mut words = no_letters();
-    let count = fields::letters(form, kind, &mut words);
-    Held { words, count }
-}
-
-fn prefix(s: &[u32], n: usize) -> &[u32]
-    requires { ⌜ n ≤ length (now s) ⌝ }
-    ensures { λ r. ⌜ now r ≡ take n (now (s .entry)) ⌝ }
-{
-    &s[0..n]
+    if args::all_plain(sheet) {
+        return args::construct(sheet, &codes[0..0], &codes[0..0], items);
+    }
+    split_clusters(form, codes, sheet, items)
 }
 
 // An accepted form, a checked sheet, and room for the items.
-pub fn split_accepted(form: &[u8], sheet: &[u8], items: &mut [u32]) -> SplitAnswer
+fn split_ready(form: &[u8], sheet: &[u8], items: &mut [u32]) -> Ended
     requires { ⌜ Ready (now form) (now sheet) (now items) ⌝ }
-    ensures { λ r. ⌜ callSplit (now (form .entry)) (now (sheet .entry)) (length (now (items .entry))) ≡ ok (splittingOf r (now (items .exit))) ⌝ }
+    ensures { λ r. ⌜ Answers (callSplit (now (form .entry)) (now (sheet .entry)) (length (now (items .entry)))) (now (items .exit)) r ⌝ }
 {
-    let flags = letters_of(form, 1);
-    let arguments = letters_of(form, 2);
-    let flag_words = flags.words;
-    let argument_words = arguments.words;
-    let split = args::construct(
-        sheet,
-        prefix(&flag_words, flags.count),
-        prefix(&argument_words, arguments.count),
-        items,
-    );
-    let state = split.state;
-    SplitAnswer {
-        number: split.number,
-        place: split.place,
-        state,
-    }
+    let mut codes = zeros();
+    named::codes(form, &mut codes);
+    split_accepted(form, &codes, sheet, items)
 }
 
-// From a form and a sheet to items and a state.
-pub fn split(form: &[u8], sheet: &[u8], items: &mut [u32]) -> SplitAnswer
-    ensures { λ r. ⌜ callSplit (now (form .entry)) (now (sheet .entry)) (length (now (items .entry))) ≡ ok (splittingOf r (now (items .exit))) ⌝ }
+// What the input is refused with, or its items.
+fn split_input(form: &[u8], sheet: &[u8], items: &mut [u32]) -> Ended
+    ensures { λ r. ⌜ Answers (callSplit (now (form .entry)) (now (sheet .entry)) (length (now (items .entry)))) (now (items .exit)) r ⌝ }
 {
     let checked = form::check(form);
     if checked.number != 0 {
@@ -198,5 +169,18 @@ pub fn split(form: &[u8], sheet: &[u8], items: &mut [u32]) -> SplitAnswer
     if items.len() < 1792 {
         return split_refused(7, 0, items);
     }
-    split_accepted(form, sheet, items)
+    split_ready(form, sheet, items)
+}
+
+// From a form and a sheet to items and a state.
+pub fn split(form: &[u8], sheet: &[u8], items: &mut [u32]) -> SplitAnswer
+    ensures { λ r. ⌜ callSplit (now (form .entry)) (now (sheet .entry)) (length (now (items .entry))) ≡ ok (splittingOf r (now (items .exit))) ⌝ }
+{
+    let ended = split_input(form, sheet, items);
+    let state = args::state_of(ended.count, ended.marker);
+    SplitAnswer {
+        number: ended.number,
+        place: ended.place,
+        state,
+    }
 }

@@ -7,8 +7,8 @@ use lib.ListN.{length, take, drop}
 use Rattle.utf8.specs.declared.Decoded.{Decoded}
 use Rattle.utf8.specs.declared.Decoded.the-variants.{Char, Bad}
 use Rattle.utf8.specs.Utf8.{decodeAt, wellFormed}
-use Rattle.replay.specs.declared.list.Decimal.{Decimal}
-use Rattle.replay.specs.List.{First, bytesOf, decimalOf, isNumber, isNone}
+use Rattle.tokens.specs.declared.read.Decimal.{Decimal}
+use Rattle.tokens.specs.Read.{First, bytesOf, decimalOf, isNumber, isNone}
 
 -- the tokens are the character and its size, or a dash and 0 for no character
 abbrev pub characterMatches : Decoded → Decimal → Decimal → Bool
@@ -21,7 +21,7 @@ answersMatch s valid character size =
     isNumber valid (cond (wellFormed s) 1 0) && characterMatches (decodeAt s 0) character size
 
 -- the line is four tokens, and the last three are what the definition of UTF-8 says of the bytes of the first
-pub record LineMatches (line : List ℕ) : Type 0 where
+pub record Utf8Line (line : List ℕ) : Type 0 where
   pub a : ℕ
   pub b : ℕ
   pub c : ℕ
@@ -60,6 +60,6 @@ pub line-same :
     → character ≡ decimalOf (take (c - (b + 1)) (drop (b + 1) line))
     → size ≡ decimalOf (take (d - (c + 1)) (drop (c + 1) line))
     → answersMatch (bytesOf (take a line)) valid character size ≡ true
-    → LineMatches line
+    → Utf8Line line
 line-same line a b c d valid character size p q r s e f g h t =
     record { a = a; b = b; c = c; first = p; second = q; third = r; fourth = rw (← e) s; told = rw (← e, ← f, ← g, ← h) t }

@@ -3,42 +3,43 @@ use mathlib.Core.Bool.{Bool, true, false, _||_, true≢false}
 use mathlib.Core.List.{List, []}
 use mathlib.Core.Logic.{⊎-elim}
 use mathlib.Core.Option.{Option, some, none, Option·some-injective, Option·none-ne-some}
-use mathlib.Core.Path.{_≡_, refl, sym, ap, _∙_}
+use mathlib.Core.Path.{_≡_, refl, sym, ap, _∙_, subst}
 use Prim.Native.Nat.{ℕ, _-_, _≤_, _<_}
 use native.Mathlib.Omega.{arith}
-use lib.Dec.{eqb, ltb}
+use lib.Dec.{ltb}
 use lib.ListN.{length, getD, replicate, length-append, length-replicate}
-use lib.Seq.{sets}
-use borrow.Author.Tests.{lt-ltb, le-ltb, ltb-false, eqb-true, eqb-false}
+use lib.Seq.{sets, length-sets}
+use borrow.Author.Tests.{lt-ltb, le-ltb, ltb-false}
 use Rattle.utf8.specs.Utf8.{if_then_else_}
 use Rattle.rules.specs.Outcome.{Outcome, ok, refused, fault, _>>=_, Refusal}
 use Rattle.rules.specs.Value.{Value}
 use Rattle.rules.specs.Codes.{placeCode, checkCode}
+use Rattle.rules.specs.Form.{readForm}
 use Rattle.rules.specs.Sheet.{sheetArea, sheetFault, arguments}
-use Rattle.rules.specs.Accept.{Checked as Tested, accepted, refusedAt, Accepted, checkForm}
+use Rattle.rules.specs.Accept.{Checked as Tested, accepted, refusedAt, Accepted, checkForm, lettersOf}
 use Rattle.rules.specs.State.{parsed, emptyState}
 use Rattle.rules.specs.Eval.{Ran as Run}
 use Rattle.rules.specs.Eval as eval
 use Rattle.rules.specs.Run.{Line, split, padded, refusedInput, reportWith, report, shortSlices, runChecked, run, runAll, runLine, parsedMark}
-use Rattle.rules.specs.Calls.{toRaw, Splitting, splitReport, splitChecked, callSplit}
+use Rattle.rules.specs.Calls.{toRaw}
 use Rattle.rules.specs.declared.State.{State as Raw}
 use Rattle.rules.specs.declared.Refused.{Refused}
-use Rattle.rules.proofs.SplitLaws.{LineGood, split-line, line-accepted, line-refusal, ok-injective}
+use Rattle.rules.proofs.Acceptance.{accepted-form, accepted-length, accepted-passed, good-no-fault}
+use Rattle.rules.proofs.SplitLaws.{LineGood, line-accepted, line-refusal}
 use Rattle.state.specs.declared.Numbers.{Numbers}
-use Rattle.state.specs.Lent.{numbersOf, rawOf, stateOf, placeOf, Fine}
+use Rattle.state.specs.Lent.{rawOf, numbersOf, stateOf, placeOf, Fine}
 use Rattle.state.proofs.Laws.{raw-back, code-of}
-use Rattle.named.specs.Codes.{Checked as GoodNames, Coded}
+use Rattle.named.specs.Codes.{Coded}
 use Rattle.named.specs.Items.{Table}
+use Rattle.known.specs.Known.{Matchable, Known}
 use Rattle.outcome.specs.Told.{Told}
-use Rattle.args.proofs.States.{padded-words, all-zero}
-use Rattle.fields.specs.Letters as fields
-use Rattle.reader.specs.declared.SplitAnswer.{SplitAnswer}
-use Rattle.reader.specs.Reader.{splittingOf}
-use Rattle.reader.specs.Reader as reader
-use Rattle.reader.proofs.Checks.{check-accepted, names-good}
-use Rattle.line.specs.Line.{Starts, toldAll, Reaches}
+use Rattle.args.proofs.States.{padded-words, all-zero, fill-long}
+use Rattle.args.specs.declared.Ended.{Ended as Split}
+use Rattle.args.specs.Construct.{rawOf as begun, Unmarked, Ends, refusalNumber, refusalPlace}
+use Rattle.reader.proofs.Checks.{check-accepted}
+use Rattle.line.specs.Line.{Starts, toldAll, Reaches, refusedWith}
 use Rattle.line.specs.declared.Reached.{Reached}
-use Rattle.runner.specs.Runner.{Ended, runAnswer, ended, Checked, Begun}
+use Rattle.runner.specs.Runner.{Ended, runAnswer, ended, answerOf, Checked, Begins}
 use Rattle.runner.proofs.States.{place-back, from-to, zero-at, raw-fine}
 use Rattle.runner.proofs.Back.{line-table}
 
@@ -91,17 +92,23 @@ answer-same a b c d e f g =
     λ z. ended (record { number = a z; place = b z; tries = c z; words = d z; state = e z }) (f z) (g z)
 
 pub refused-answer :
-    (number place : ℕ) (i a i′ a′ : List ℕ) (s : Raw)
+    (number place : ℕ) (i a i′ a′ : List ℕ) (r : Reached)
     → i′ ≡ sets i 0 (replicate (length i) 0)
     → a′ ≡ sets a 0 (replicate (length a) 0)
-    → s ≡ toRaw emptyState
-    → runAnswer (ok (refusedInput (length i) (length a) number (placeOf place)))
-    ≡ ended (record { number = number; place = place; tries = 0; words = 0; state = s }) i′ a′
-unfolding runAnswer refusedInput
-refused-answer number place i a i′ a′ s p q r =
-    answer-same refl (code-of place) refl refl (sym r)
+    → r ≡ refusedWith number place 0 (record { count = 0; remaining = 0; current = 0; start = 0; end = 0 })
+    → runAnswer (ok (refusedInput (length i) (length a) number (placeOf place))) ≡ ended (answerOf r (replicate 256 0)) i′ a′
+unfolding runAnswer refusedInput toRaw emptyState padded
+refused-answer number place i a i′ a′ r p q e =
+    rw e (answer-same refl (code-of place) refl refl refl
     (nothing-padded (length i) ∙ sym (p ∙ all-zero i (length i) refl))
-    (nothing-padded (length a) ∙ sym (q ∙ all-zero a (length a) refl))
+    (nothing-padded (length a) ∙ sym (q ∙ all-zero a (length a) refl)))
+
+pub unmarked-answer :
+    (x : Option Ended) (r : Reached) (m i a : List ℕ)
+    → Unmarked m
+    → x ≡ ended (answerOf r (replicate 256 0)) i a
+    → x ≡ ended (answerOf r m) i a
+unmarked-answer x r m i a u e = e ∙ ap (λ (l : List ℕ). ended (answerOf r l) i a) (sym (u .zeros))
 
 -- ---- the tests of the input
 module _ (b s : List ℕ) (ni na : ℕ) (r : Refused) (e : r ≡ checkCode (checkForm b)) where
@@ -145,65 +152,10 @@ module _ (b s : List ℕ) (ni na : ℕ) (r : Refused) (e : r ≡ checkCode (chec
             space = omega (arith, o, p);
           }
 
--- ---- splitting
-place-code : (c : ℕ) → placeCode (reader.placeOf c) ≡ c
-unfolding reader.placeOf if_then_else_
-place-code c = go (eqb c 0) refl
-  where
-    go : (b : Bool) → eqb c 0 ≡ b → placeCode (if b then none else some (c - 1)) ≡ c
-    go true e = sym (eqb-true c 0 e)
-    go false e = omega (arith, eqb-false c 0 e)
-
--- what splitting an accepted form gave
-pub record Splitted (form sheet : List ℕ) (n : ℕ) (a : Accepted) (items : List ℕ) (x : SplitAnswer) : Type 0 where
-  pub line : Line
-  pub splits : split (a .form) sheet ≡ ok line
-  pub same : splitReport n line ≡ splittingOf x items
-
-split-gave :
-    (form sheet : List ℕ) (n : ℕ) (a : Accepted) (items : List ℕ) (x : SplitAnswer)
-    → checkForm form ≡ accepted a
-    → sheetFault sheet ≡ 0
-    → 1792 ≤ n
-    → callSplit form sheet n ≡ ok (splittingOf x items)
-    → Splitted form sheet n a items x
-unfolding callSplit splitChecked if_then_else_ _>>=_
-split-gave form sheet n a items x e f r h =
-    let (l, g) = split-line (a .form) sheet in
-    let is : splitChecked n sheet (a .form) ≡ ok (splitReport n l) = rw (f, le-ltb n 1792 r, g) in
-    record { line = l; splits = g; same = ok-injective (sym is ∙ (rw (e, callSplit) at h)) }
-
-module _ (form sheet : List ℕ) (n : ℕ) (a : Accepted) (items : List ℕ) (x : SplitAnswer) (w : Splitted form sheet n a items x) where
-  split-state : x .state ≡ toRaw (w .line .state)
-  unfolding splitReport splittingOf
-  split-state = sym (ap (λ (y : Splitting). y .state) (w .same))
-
-  split-words : items ≡ padded n (w .line .records)
-  unfolding splitReport splittingOf
-  split-words = sym (ap (λ (y : Splitting). y .items) (w .same))
-
-  -- 8 or 9
-  split-refused : (x .number ≡ 0 → ⊥) → (e : Refusal) × (w .line .refusal ≡ some e) × (e .number ≡ x .number) × (placeCode (e .place) ≡ x .place)
-  unfolding splitReport splittingOf
-  split-refused z = go (w .line .refusal) refl (ap (λ (y : Splitting). y .number) (w .same)) (ap (λ (y : Splitting). y .place) (w .same))
-    where
-      go :
-          (o : Option Refusal)
-          → w .line .refusal ≡ o
-          → (elim o [ none ↦ 0 | some e ↦ e .number ]) ≡ x .number
-          → (elim o [ none ↦ none | some e ↦ e .place ]) ≡ reader.placeOf (x .place)
-          → (e : Refusal) × (w .line .refusal ≡ some e) × (e .number ≡ x .number) × (placeCode (e .place) ≡ x .place)
-      go none q h k = absurd (z (sym h))
-      go (some e) q h k = (e, q, h, ap placeCode k ∙ place-code (x .place))
-
-  split-free : x .number ≡ 0 → w .line .refusal ≡ none
-  unfolding splitReport splittingOf
-  split-free z = go (w .line .refusal) refl (ap (λ (y : Splitting). y .number) (w .same))
-    where
-      go : (o : Option Refusal) → w .line .refusal ≡ o → (elim o [ none ↦ 0 | some e ↦ e .number ]) ≡ x .number → w .line .refusal ≡ none
-      go none q h = q
-      go (some e) q h =
-          absurd (⊎-elim (λ (y : e .number ≡ 8). omega arith) (λ (y : e .number ≡ 9). omega arith) (line-refusal (a .form) sheet (w .line) e (w .splits) q))
+-- ---- what splitting gave
+refusal-there : (o : Option Refusal) → (refusalNumber o ≡ 0 → ⊥) → (e : Refusal) × (o ≡ some e)
+refusal-there none z = absurd (z refl)
+refusal-there (some e) z = (e, refl)
 
 -- ---- what is reported
 run-is :
@@ -235,112 +187,136 @@ reported-told ni na l r x h = go (r .outcome) h
     go (refused v) e = ap (handed ni na l) (Option·some-injective _ x e)
     go (fault v) e = absurd (Option·none-ne-some x e)
 
--- ---- refused by splitting
-module _ (form sheet i a : List ℕ) (c : Checked form sheet i a) (a′ : List ℕ) (z : a′ ≡ sets a 0 (replicate (length a) 0)) (i′ : List ℕ) (x : SplitAnswer)
-    (h : callSplit form sheet (length i) ≡ ok (splittingOf x i′)) where
-  abbrev gave : Splitted form sheet (length i) (c .ready .result) i′ x
-  gave = split-gave form sheet (length i) (c .ready .result) i′ x (c .ready .accepts) (c .ready .checked) (c .ready .room) h
-
+-- ---- a checked input, its answer slice cleared, its sheet split
+module _ (form sheet i a : List ℕ) (c : Checked form sheet i a) (a′ : List ℕ) (z : a′ ≡ sets a 0 (replicate (length a) 0)) (i′ : List ℕ) (x : Split)
+    (w : Ends (lettersOf (readForm form)) sheet (length i) i′ x) (m : List ℕ) (p : Numbers) (q : rawOf m p ≡ begun (x .count) (x .marker)) where
   cleared : a′ ≡ replicate (length a) 0
   cleared = z ∙ all-zero a (length a) refl
 
-  pub splitting-refused : (x .number ≡ 0 → ⊥)
-      → runAnswer (run form sheet (length i) (length a))
-      ≡ ended (record { number = x .number; place = x .place; tries = 0; words = 0; state = x .state }) i′ a′
+  state : rawOf m p ≡ toRaw (w .line .state)
+  state = q ∙ w .state
+
+  splits : split (c .ready .result .form) sheet ≡ ok (w .line)
+  unfolding split
+  splits = rw (accepted-form form (c .ready .result) (c .ready .accepts)) (w .same)
+
+  runs : run form sheet (length i) (length a) ≡ report (length i) (length a) (w .line) (runLine (c .ready .result .fields) (w .line))
+  runs = run-is form sheet (length i) (length a) (c .ready .result) (w .line) (c .ready .accepts) (c .ready .checked) (c .ready .room) (c .space) splits
+
+  -- 8 or 9
+  pub splitting-refused : (x .number ≡ 0 → ⊥) → (r : Reached) → r ≡ refusedWith (x .number) (x .place) 0 p
+      → runAnswer (run form sheet (length i) (length a)) ≡ ended (answerOf r m) i′ a′
   unfolding report reportWith runAnswer runLine eval.ended
-  splitting-refused y =
-      let w = gave in
-      let (e, p, q, r) = split-refused form sheet (length i) (c .ready .result) i′ x w y in
-      let line = run-is form sheet (length i) (length a) (c .ready .result) (w .line) (c .ready .accepts) (c .ready .checked) (c .ready .room) (c .space) (w .splits) in
-      ap runAnswer line ∙ rw (p, runLine)
-      (answer-same q r refl refl (sym (split-state form sheet (length i) (c .ready .result) i′ x w)) (sym (split-words form sheet (length i) (c .ready .result) i′ x w)) (nothing-padded (length a) ∙ sym cleared))
+  splitting-refused y r h =
+      let (e, there) = refusal-there (w .line .refusal) (λ n. y (w .number ∙ n)) in
+      let number : e .number ≡ x .number = sym (w .number ∙ ap refusalNumber there) in
+      let place : placeCode (e .place) ≡ x .place = sym (w .place ∙ ap refusalPlace there) in
+      ap runAnswer runs ∙ rw (there, runLine, h)
+      (answer-same number place refl refl (sym state) (sym (w .words)) (nothing-padded (length a) ∙ sym cleared))
 
-  long-records : x .number ≡ 0 → length i′ ≡ length i
-  long-records y =
-      let w = gave in
-      let free = split-free form sheet (length i) (c .ready .result) i′ x w y in
-      let g = line-accepted (c .ready .result .form) sheet (w .line) (w .splits) free in
-      ap length (split-words form sheet (length i) (c .ready .result) i′ x w)
-      ∙ padded-long (length i) (w .line .records) (omega (arith, g .records, g .few, c .ready .room))
+  module _ (y : x .number ≡ 0) where
+    free : w .line .refusal ≡ none
+    free = go (w .line .refusal) refl
+      where
+        go : (o : Option Refusal) → w .line .refusal ≡ o → w .line .refusal ≡ none
+        go none e = e
+        go (some e) h =
+            let number : e .number ≡ 0 = sym (w .number ∙ ap refusalNumber h) ∙ y in
+            absurd (⊎-elim (λ (n : e .number ≡ 8). omega arith) (λ (n : e .number ≡ 9). omega arith) (line-refusal (c .ready .result .form) sheet (w .line) e splits h))
 
-  pub begun : x .number ≡ 0 → Begun form sheet i′ a′ (x .state)
-  begun y =
-      let w = gave in
-      let long = long-records y in
-      let size : length a′ ≡ length a = ap length cleared ∙ length-replicate {A = ℕ} (length a) 0 in
-      record {
-        result = c .ready .result;
-        accepts = c .ready .accepts;
-        checked = c .ready .checked;
-        line = w .line;
-        splits = w .splits;
-        free = split-free form sheet (length i) (c .ready .result) i′ x w y;
-        words = split-words form sheet (length i) (c .ready .result) i′ x w ∙ ap (λ (n : ℕ). padded n (w .line .records)) (sym long);
-        state = split-state form sheet (length i) (c .ready .result) i′ x w;
-        room = omega (arith, long, c .ready .room);
-        clear = cleared ∙ ap (λ (n : ℕ). replicate n 0) (sym size);
-        space = omega (arith, size, c .space);
-      }
+    good : LineGood (arguments sheet) (w .line)
+    good = line-accepted (c .ready .result .form) sheet (w .line) splits free
 
-  pub went-on : x .number ≡ 0 → (r : Option Ended) → runAnswer (run form sheet (length i′) (length a′)) ≡ r → runAnswer (run form sheet (length i) (length a)) ≡ r
-  went-on y r h =
-      let size : length a′ ≡ length a = ap length cleared ∙ length-replicate {A = ℕ} (length a) 0 in
-      rw (← long-records y, ← size) h
+    table : Table (sheetArea sheet) i′ (w .line .items)
+    table = rw (w .words) (line-table (c .ready .result .form) sheet (w .line) (length i) (c .ready .checked) splits free (c .ready .room))
 
--- ---- the fields
-module _ (form sheet i a : List ℕ) (s : Raw) (b : Begun form sheet i a s) where
-  pub begun-names : GoodNames form
-  begun-names = let g = names-good form (b .result) (b .accepts) in record { good = g .good; names = g .names }
+    fine : Fine m p
+    fine =
+        subst (λ (u : Raw). Fine (u .marks) (numbersOf u)) (sym state)
+        (raw-fine (length (w .line .items)) (w .line .state) (good .few) (good .good))
 
-  good : LineGood (arguments sheet) (b .line)
-  good = line-accepted (b .result .form) sheet (b .line) (b .splits) (b .free)
+    long : length m ≡ 256
+    unfolding toRaw
+    long = ap (λ (u : Raw). length (u .marks)) state ∙ padded-long 256 (w .line .state .marks) (omega (arith, good .good .long, good .few))
 
-  fine : Fine (s .marks) (numbersOf s)
-  fine = rw (b .state) (raw-fine (length (b .line .items)) (b .line .state) (good .few) (good .good))
+    count : length (w .line .items) ≡ p .count
+    unfolding toRaw
+    count = sym (good .good .long) ∙ sym (ap (λ (u : Raw). u .count) state)
 
-  table : Table (sheetArea sheet) i (b .line .items)
-  table = rw (b .words) (line-table (b .result .form) sheet (b .line) (length i) (b .checked) (b .splits) (b .free) (b .room))
+    same-state : stateOf m p ≡ w .line .state
+    unfolding stateOf
+    same-state = rw state (from-to (w .line .state))
 
-  count : length (b .line .items) ≡ s .count
-  unfolding toRaw
-  count = sym (good .good .long) ∙ sym (ap (λ (x : Raw). x .count) (b .state))
-
-  same-state : stateOf (s .marks) (numbersOf s) ≡ b .line .state
-  unfolding stateOf
-  same-state = rw (b .state) (from-to (b .line .state))
-
-  module _ (codes : List ℕ) (k : Coded form codes) (p : Numbers) (q : p ≡ numbersOf s) where
-    pub fields-start : Starts form codes sheet i (s .marks) p a 1
+    pub fields-start : (codes : List ℕ) → Coded form codes → Begins form codes sheet i′ m p a′
     unfolding parsed
-    fields-start =
-        rw q
-        (record {
-          result = b .result;
-          accepts = b .accepts;
-          coded = k;
-          made = b .checked;
-          state = record { items = b .line .items; table = table; same = count; fine = fine; told = refl };
-          room = b .space;
-          zeros = λ j. ap (λ (l : List ℕ). getD l j 0) (b .clear) ∙ zero-at (length a) j;
-        })
+    fields-start codes k = record {
+      result = c .ready .result;
+      accepts = c .ready .accepts;
+      coded = k;
+      made = c .ready .checked;
+      state = record { items = w .line .items; table = table; same = count; fine = fine; told = refl };
+      room = omega (arith, c .space, ap length cleared ∙ length-replicate {A = ℕ} (length a) 0);
+      zeros = λ j. ap (λ (l : List ℕ). getD l j 0) cleared ∙ zero-at (length a) j;
+    }
 
     pub fields-end :
-        (m a′ : List ℕ) (r : Reached) (u : Raw)
-        → length (s .marks) ≡ 256
-        → ((x : Accepted) → checkForm form ≡ accepted x → Reaches 1 (sheetArea sheet) i (x .fields) (s .marks) p m a a′ r)
-        → u ≡ rawOf m (r .numbers)
-        → runAnswer (run form sheet (length i) (length a))
-        ≡ ended (record { number = r .number; place = r .place; tries = r .tries; words = r .words; state = u }) i a′
+        (m′ a″ : List ℕ) (r : Reached)
+        → ((k : Accepted) → checkForm form ≡ accepted k → Reaches 1 (sheetArea sheet) i′ (k .fields) m p m′ a′ a″ r)
+        → runAnswer (run form sheet (length i) (length a)) ≡ ended (answerOf r m′) i′ a″
     unfolding runLine parsedMark
-    fields-end m a′ r u long reaches v =
-        let w = reaches (b .result) (b .accepts) in
-        let l = b .line in
-        let line = run-is form sheet (length i) (length a) (b .result) l (b .accepts) (b .checked) (b .room) (b .space) (b .splits) in
-        let all : runLine (b .result .fields) l ≡ runAll 1 (l .items) (b .result .fields) (stateOf (s .marks) p) = rw (b .free, runLine, q, same-state) in
-        let told = w .same (l .items) (table, count ∙ sym (ap (λ (y : Numbers). y .count) q)) in
-        ap runAnswer (line ∙ ap (report (length i) (length a) l) all)
-        ∙ reported-told (length i) (length a) l (runAll 1 (l .items) (b .result .fields) (stateOf (s .marks) p)) _ told
-        ∙ answer-same refl refl refl (sym (w .count))
-        (raw-back m (r .numbers) (w .left .fine) (w .left .long ∙ long) ∙ sym v)
-        (sym (b .words))
-        (sym (w .put ∙ ap (λ (o : List ℕ). sets o 0 (w .values)) (b .clear) ∙ padded-words (w .values) (length a) (omega (arith, w .few, b .space))))
+    fields-end m′ a″ r reaches =
+        let u = reaches (c .ready .result) (c .ready .accepts) in
+        let l = w .line in
+        let all : runLine (c .ready .result .fields) l ≡ runAll 1 (l .items) (c .ready .result .fields) (stateOf m p) = rw (free, runLine, same-state) in
+        let told = u .same (l .items) (table, count) in
+        ap runAnswer (runs ∙ ap (report (length i) (length a) l) all)
+        ∙ reported-told (length i) (length a) l (runAll 1 (l .items) (c .ready .result .fields) (stateOf m p)) _ told
+        ∙ answer-same refl refl refl (sym (u .count))
+        (raw-back m′ (r .numbers) (u .left .fine) (u .left .long ∙ long))
+        (sym (w .words))
+        (sym (u .put ∙ ap (λ (o : List ℕ). sets o 0 (u .values)) cleared ∙ padded-words (u .values) (length a) (omega (arith, u .few, c .space))))
+
+    pub fields-long :
+        (m′ a″ : List ℕ) (r : Reached)
+        → ((k : Accepted) → checkForm form ≡ accepted k → Reaches 1 (sheetArea sheet) i′ (k .fields) m p m′ a′ a″ r)
+        → length a″ ≡ length a
+    fields-long m′ a″ r reaches =
+        let u = reaches (c .ready .result) (c .ready .accepts) in
+        ap length (u .put) ∙ length-sets a′ 0 (u .values) ∙ fill-long a′ a 0 (length a) z
+
+-- ---- which nodes each item matches
+pub table-room : (n : ℕ) (l : List ℕ) → n ≤ 256 → l ≡ replicate 256 0 → n ≤ length l
+table-room n l h e = omega (arith, ap length e ∙ length-replicate {A = ℕ} 256 0)
+
+module _ (b codes s words m : List ℕ) (p : Numbers) (o : List ℕ) (g : Begins b codes s words m p o) (n : ℕ) (e : n ≡ p .count) where
+  pub items-few : n ≤ 256
+  items-few = omega (arith, g .state .same, g .state .table .small)
+
+  pub items-matchable : Matchable b codes s words n
+  items-matchable = record {
+    checked = record {
+      good = accepted-length b (g .result) (g .accepts);
+      names = good-no-fault _ 0 _ (accepted-passed b (g .result) (g .accepts) .names);
+    };
+    coded = g .coded;
+    made = g .made;
+    items = g .state .items;
+    table = g .state .table;
+    inside = omega (arith, g .state .same);
+  }
+
+  pub items-start : (known : List ℕ) → Known b (sheetArea s) words n known → Starts b known s words m p o 1
+  items-start known k = record {
+    result = g .result;
+    accepts = g .accepts;
+    made = g .made;
+    state = g .state;
+    knows = subst (λ (l : ℕ). Known b (sheetArea s) words l known) (e ∙ sym (g .state .same)) k;
+    room = g .room;
+    zeros = g .zeros;
+  }
+
+-- ---- the state, put together
+pub joined-answer : (x : Option Ended) (r : Reached) (m i a : List ℕ) (s : Raw) → x ≡ ended (answerOf r m) i a → s ≡ rawOf m (r .numbers)
+    → x ≡ ended (record { number = r .number; place = r .place; tries = r .tries; words = r .words; state = s }) i a
+joined-answer x r m i a s e h = e ∙ answer-same refl refl refl refl (sym h) refl refl

@@ -3,14 +3,18 @@ use mathlib.Core.List.{List}
 use mathlib.Core.Option.{Option, some, none}
 use mathlib.Core.Path.{_≡_}
 use Prim.Native.Nat.{ℕ, _≤_}
-use lib.ListN.{length, replicate}
+use lib.ListN.{length, getD}
 use Rattle.rules.specs.Outcome.{Outcome, ok, refused, fault}
 use Rattle.rules.specs.Codes.{placeCode}
-use Rattle.rules.specs.Sheet.{sheetFault}
+use Rattle.rules.specs.Sheet.{sheetArea, sheetFault}
 use Rattle.rules.specs.Accept.{Accepted, accepted, checkForm}
-use Rattle.rules.specs.Run.{Line, Report, split, padded}
+use Rattle.rules.specs.Run.{Report}
 use Rattle.rules.specs.Calls.{toRaw}
-use Rattle.rules.specs.declared.State.{State}
+use Rattle.state.specs.declared.Numbers.{Numbers}
+use Rattle.state.specs.Lent.{rawOf}
+use Rattle.named.specs.Codes.{Coded}
+use Rattle.take.specs.Takes as takes
+use Rattle.line.specs.declared.Reached.{Reached}
 use Rattle.reader.specs.Ready.{Ready}
 use Rattle.runner.specs.declared.RunAnswer.{RunAnswer}
 
@@ -39,21 +43,27 @@ runAnswer (fault x) = none
 abbrev pub ended : RunAnswer → List ℕ → List ℕ → Option Ended
 ended r items answers = some (record { answer = r; items = items; answers = answers })
 
+-- what was reached, with the marks that are left
+abbrev pub answerOf : Reached → List ℕ → RunAnswer
+answerOf r m = record {
+  number = r .number;
+  place = r .place;
+  tries = r .tries;
+  words = r .words;
+  state = rawOf m (r .numbers);
+}
+
 -- ---- what is known once every test is passed
 pub record Checked (form sheet items answers : List ℕ) : Type 0 where
   pub ready : Ready form sheet items
   pub space : 8240 ≤ length answers
 
--- once the sheet is split and not refused
-pub record Begun (form sheet items answers : List ℕ) (s : State) : Type 0 where
+-- the items of an accepted form's line, the codes of its names, a state over the items, and an answer slice of zeros
+pub record Begins (b codes s words m : List ℕ) (p : Numbers) (o : List ℕ) : Type 0 where
   pub result : Accepted
-  pub accepts : checkForm form ≡ accepted result
-  pub checked : sheetFault sheet ≡ 0
-  pub line : Line
-  pub splits : split (result .form) sheet ≡ ok line
-  pub free : line .refusal ≡ none
-  pub words : items ≡ padded (length items) (line .records)
-  pub state : s ≡ toRaw (line .state)
-  pub room : 1792 ≤ length items
-  pub clear : answers ≡ replicate (length answers) 0
-  pub space : 8240 ≤ length answers
+  pub accepts : checkForm b ≡ accepted result
+  pub coded : Coded b codes
+  pub made : sheetFault s ≡ 0
+  pub state : takes.Ready (sheetArea s) words m p 1
+  pub room : 8240 ≤ length o
+  pub zeros : (k : ℕ) → getD o k 0 ≡ 0

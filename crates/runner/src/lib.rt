@@ -3,10 +3,14 @@ ghost use mathlib.Core.Path.{_≡_};
 ghost use mathlib.Core.Option.{some};
 ghost use lib.ListN.{length, replicate};
 ghost use Rattle.rules.specs.Outcome.{ok};
+ghost use Rattle.rules.specs.Sheet.{sheetArea};
+ghost use Rattle.rules.specs.Accept.{Accepted, accepted, checkForm};
 ghost use Rattle.rules.specs.Run.{refusedInput, shortSlices, run as reported};
-ghost use Rattle.state.specs.Lent.{numbersOf, rawOf, placeOf};
-ghost use Rattle.named.specs.Codes.{Checked as GoodNames, Coded};
-ghost use Rattle.runner.specs.Runner.{runAnswer, ended, Checked, Begun};
+ghost use Rattle.state.specs.Lent.{rawOf, placeOf};
+ghost use Rattle.args.specs.Construct.{Unmarked};
+ghost use Rattle.line.specs.Line.{refusedWith, Starts, Reaches};
+ghost use Rattle.runner.specs.Runner.{runAnswer, ended, answerOf, Checked, Begins};
+use line::Reached;
 use rules::State;
 use state::Numbers;
 
@@ -18,18 +22,6 @@ pub struct RunAnswer {
     pub tries: u32,
     pub words: u32,
     pub state: State,
-}
-
-fn numbers(s: State) -> Numbers
-    ensures { λ r. ⌜ r ≡ numbersOf s ⌝ }
-{
-    Numbers {
-        count: s.count,
-        remaining: s.remaining,
-        current: s.current,
-        start: s.start,
-        end: s.end,
-    }
 }
 
 fn joined(marks: [u16; 256], p: Numbers) -> State
@@ -51,76 +43,100 @@ fn no_codes() -> [u32; 128]
     [0u32; 128]
 }
 
-// The short names of a form as numbers.
-fn codes_of(form: &[u8]) -> [u32; 128]
-    requires { ⌜ GoodNames (now form) ⌝ }
-    ensures { λ r. ⌜ Coded (now (form .entry)) r ⌝ }
+fn nothing_known() -> [u64; 256]
+    ensures { λ r. ⌜ r ≡ replicate 256 0 ⌝ }
 {
-    let mut codes = no_codes();
-    named::codes(form, &mut codes);
-    codes
+    [0u64; 256]
 }
 
-// Refused because of the input: both slices all 0, an empty state.
-fn refused_input(number: u32, place: u32, items: &mut [u32], answers: &mut [u32]) -> RunAnswer
-    ensures { λ r. ⌜ runAnswer (ok (refusedInput (length (now (items .entry))) (length (now (answers .entry))) number (placeOf place))) ≡ ended r (now (items .exit)) (now (answers .exit)) ⌝ }
+fn wide(x: u32) -> usize
+    ensures { λ r. ⌜ r ≡ x ⌝ }
 {
-    wire::fill(items, 0, items.len(), 0);
-    wire::fill(answers, 0, answers.len(), 0);
-    RunAnswer {
+    x as usize
+}
+
+fn refused(number: u32, place: u32, numbers: Numbers) -> Reached
+    ensures { λ r. ⌜ r ≡ refusedWith number place 0 numbers ⌝ }
+{
+    Reached {
         number,
         place,
         tries: 0,
         words: 0,
-        state: calls::empty(),
+        numbers,
     }
 }
 
-// The fields, on the state that splitting gave.
-fn run_line(form: &[u8], sheet: &[u8], items: &[u32], answers: &mut [u32], s: State) -> RunAnswer
-    requires { ⌜ Begun (now form) (now sheet) (now items) (now answers) s ⌝ }
-    ensures { λ r. ⌜ runAnswer (reported (now (form .entry)) (now (sheet .entry)) (length (now (items .entry))) (length (now (answers .entry)))) ≡ ended r (now (items .entry)) (now (answers .exit)) ⌝ }
+// Refused because of the input: both slices all 0, an empty state.
+fn refused_input(number: u32, place: u32, items: &mut [u32], answers: &mut [u32]) -> Reached
+    ensures { λ r. ⌜ runAnswer (ok (refusedInput (length (now (items .entry))) (length (now (answers .entry))) number (placeOf place))) ≡ ended (answerOf r (replicate 256 0)) (now (items .exit)) (now (answers .exit)) ⌝ }
 {
-    let codes = codes_of(form);
-    let mut marks = s.marks;
-    let all = line::run_fields(
-        form,
-        &codes,
-        sheet,
-        items,
-        &mut marks,
-        numbers(s),
-        answers,
-        1,
-    );
-    let left = all.numbers;
-    RunAnswer {
-        number: all.number,
-        place: all.place,
-        tries: all.tries,
-        words: all.words,
-        state: joined(marks, left),
-    }
+    wire::fill(items, 0, items.len(), 0);
+    wire::fill(answers, 0, answers.len(), 0);
+    let none = Numbers {
+        count: 0,
+        remaining: 0,
+        current: 0,
+        start: 0,
+        end: 0,
+    };
+    refused(number, place, none)
 }
 
-// An accepted form, a checked sheet, and room in both slices.
-fn run_checked(form: &[u8], sheet: &[u8], items: &mut [u32], answers: &mut [u32]) -> RunAnswer
-    requires { ⌜ Checked (now form) (now sheet) (now items) (now answers) ⌝ }
-    ensures { λ r. ⌜ runAnswer (reported (now (form .entry)) (now (sheet .entry)) (length (now (items .entry))) (length (now (answers .entry)))) ≡ ended r (now (items .exit)) (now (answers .exit)) ⌝ }
+// The fields, by a table of which nodes each item matches.
+fn run_known(
+    form: &[u8],
+    known: &[u64; 256],
+    sheet: &[u8],
+    items: &[u32],
+    marks: &mut [u16; 256],
+    p: Numbers,
+    answers: &mut [u32],
+) -> Reached
+    requires { ⌜ Starts (now form) (now known) (now sheet) (now items) (now marks) p (now answers) 1 ⌝ }
+    ensures { λ r. ⌜ ((a : Accepted) → checkForm (now (form .entry)) ≡ accepted a → Reaches 1 (sheetArea (now (sheet .entry))) (now (items .entry)) (a .fields) (now (marks .entry)) p (now (marks .exit)) (now (answers .entry)) (now (answers .exit)) r) ⌝ }
+{
+    line::run_fields(form, known, sheet, items, marks, p, answers, 1)
+}
+
+// The fields on the items: which nodes each item matches is worked out once, before the first field.
+fn run_items(
+    form: &[u8],
+    codes: &[u32],
+    sheet: &[u8],
+    items: &[u32],
+    marks: &mut [u16; 256],
+    p: Numbers,
+    answers: &mut [u32],
+) -> Reached
+    requires { ⌜ Begins (now form) (now codes) (now sheet) (now items) (now marks) p (now answers) ⌝ }
+    ensures { λ r. ⌜ ((a : Accepted) → checkForm (now (form .entry)) ≡ accepted a → Reaches 1 (sheetArea (now (sheet .entry))) (now (items .entry)) (a .fields) (now (marks .entry)) p (now (marks .exit)) (now (answers .entry)) (now (answers .exit)) r) ⌝ }
+{
+    let mut known = nothing_known();
+    known::known(form, codes, sheet, items, wide(p.count), &mut known);
+    run_known(form, &known, sheet, items, marks, p, answers)
+}
+
+// An accepted form, a checked sheet, and room in both slices: the items, then the fields on the state that they start in.
+fn run_checked(
+    form: &[u8],
+    sheet: &[u8],
+    items: &mut [u32],
+    answers: &mut [u32],
+    marks: &mut [u16; 256],
+) -> Reached
+    requires { ⌜ Checked (now form) (now sheet) (now items) (now answers) × Unmarked (now marks) ⌝ }
+    ensures { λ r. ⌜ runAnswer (reported (now (form .entry)) (now (sheet .entry)) (length (now (items .entry))) (length (now (answers .entry)))) ≡ ended (answerOf r (now (marks .exit))) (now (items .exit)) (now (answers .exit)) ⌝ }
 {
     wire::fill(answers, 0, answers.len(), 0);
-    let split = reader::split_accepted(form, sheet, items);
-    let state = split.state;
+    let mut codes = no_codes();
+    named::codes(form, &mut codes);
+    let split = reader::split_accepted(form, &codes, sheet, items);
+    let p = args::begin(split.count, split.marker, marks);
     if split.number != 0 {
-        return RunAnswer {
-            number: split.number,
-            place: split.place,
-            tries: 0,
-            words: 0,
-            state,
-        };
+        return refused(split.number, split.place, p);
     }
-    run_line(form, sheet, items, answers, state)
+    run_items(form, &codes, sheet, items, marks, p, answers)
 }
 
 // Whether one of the slices is too short.
@@ -133,9 +149,16 @@ fn is_short(items: usize, answers: usize) -> bool
     answers < 8240
 }
 
-// A form and a sheet, to items, answer words and a state.
-pub fn run(form: &[u8], sheet: &[u8], items: &mut [u32], answers: &mut [u32]) -> RunAnswer
-    ensures { λ r. ⌜ runAnswer (reported (now (form .entry)) (now (sheet .entry)) (length (now (items .entry))) (length (now (answers .entry)))) ≡ some (record { answer = r; items = now (items .exit); answers = now (answers .exit) }) ⌝ }
+// The run over marks that are 0.
+fn run_input(
+    form: &[u8],
+    sheet: &[u8],
+    items: &mut [u32],
+    answers: &mut [u32],
+    marks: &mut [u16; 256],
+) -> Reached
+    requires { ⌜ Unmarked (now marks) ⌝ }
+    ensures { λ r. ⌜ runAnswer (reported (now (form .entry)) (now (sheet .entry)) (length (now (items .entry))) (length (now (answers .entry)))) ≡ ended (answerOf r (now (marks .exit))) (now (items .exit)) (now (answers .exit)) ⌝ }
 {
     let checked = form::check(form);
     if checked.number != 0 {
@@ -148,5 +171,21 @@ pub fn run(form: &[u8], sheet: &[u8], items: &mut [u32], answers: &mut [u32]) ->
     if is_short(items.len(), answers.len()) {
         return refused_input(7, 0, items, answers);
     }
-    run_checked(form, sheet, items, answers)
+    run_checked(form, sheet, items, answers, marks)
+}
+
+// A form and a sheet, to items, answer words and a state. The state is put together once, here.
+pub fn run(form: &[u8], sheet: &[u8], items: &mut [u32], answers: &mut [u32]) -> RunAnswer
+    ensures { λ r. ⌜ runAnswer (reported (now (form .entry)) (now (sheet .entry)) (length (now (items .entry))) (length (now (answers .entry)))) ≡ some (record { answer = r; items = now (items .exit); answers = now (answers .exit) }) ⌝ }
+{
+    let mut marks = args::unmarked();
+    let all = run_input(form, sheet, items, answers, &mut marks);
+    let left = all.numbers;
+    RunAnswer {
+        number: all.number,
+        place: all.place,
+        tries: all.tries,
+        words: all.words,
+        state: joined(marks, left),
+    }
 }

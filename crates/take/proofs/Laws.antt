@@ -32,13 +32,15 @@ use Rattle.state.specs.declared.Numbers.{Numbers}
 use Rattle.state.specs.Lent.{stateOf, Fine, Removed, firstOr}
 use Rattle.state.proofs.Laws.{fine-long, fine-unused, mark-at}
 use Rattle.state.proofs.Marks.{first-hit, first-none}
-use Rattle.named.specs.Items.{Table, partBytes}
-use Rattle.named.specs.Search.{HasItem, HasItems, seek, Sought}
-use Rattle.named.proofs.Search.{Hits, nothing-found, something-found}
+use Rattle.named.specs.Items.{Table, partBytes, operandKind}
+use Rattle.named.specs.Search.{HasItem, HasItems, seek, Sought, Passed}
+use Rattle.named.proofs.Items.{operand-said}
+use Rattle.named.proofs.Search.{Hits, nothing-found, something-found, sought-all}
+use Rattle.known.specs.Known.{Says}
 use Rattle.take.specs.declared.Argument.{Argument}
 use Rattle.take.specs.declared.Value.the-variants.{Missing, Taken as Value·Taken}
 use Rattle.take.specs.declared.Operand.the-variants.{Missing as Operand·Missing, Taken as Operand·Taken}
-use Rattle.take.specs.Takes.{Ready, Items, setCurrent, refusedAt, freeBelow, textPart, strictItem, Left, UsesBoth, TakesFlag, TakesArg, TakesPositional, TakesCmd}
+use Rattle.take.specs.Takes.{Ready, Skips, Items, setCurrent, refusedAt, freeBelow, textPart, strictItem, Left, UsesBoth, TakesFlag, TakesArg, TakesPositional, TakesCmd}
 use Rattle.take.proofs.Texts.{agrees, word-value, arg-word-value, no-value}
 
 -- ---- pieces
@@ -56,6 +58,10 @@ free-beyond m end i h = rw (le-ltb i end h)
 pub free-test : (m : List ℕ) (end i : ℕ) → i < end → not (eqb (getD m i 0) 1) ≡ freeBelow m end i
 unfolding freeBelow present parsed
 free-test m end i h = rw (lt-ltb i end h)
+
+pub free-inside : (m : List ℕ) (end i : ℕ) (f : Bool) → f ≡ freeBelow m end i → not f ≡ false → i < end
+unfolding freeBelow
+free-inside m end i f ef w = ltb-true i end (left (ltb i end) (present (getD m i 0)) (sym ef ∙ not-false f w))
 
 pub bind-ok : {A B : Type 0} (o : Outcome A) (x : A) (k : A → Outcome B) → o ≡ ok x → (o >>= k) ≡ k x
 unfolding _>>=_
@@ -130,6 +136,17 @@ module _ (mark : ℕ) (m : List ℕ) (p : Numbers) (key : ℕ) (at-value : Numbe
         left = record { count = b .count ∙ a .count ∙ n; long = b .long ∙ a .long; fine = b .fine };
       }
 
+-- ---- where a search may begin
+
+-- at the start of the scope nothing is skipped
+pub skip-none : (area words : List ℕ) (test : rules.Item → Bool) (m : List ℕ) (p : Numbers) → Fine m p → (f : ℕ) → f ≡ p .start
+    → Skips area words test m p f
+skip-none area words test m p fine f e = record {
+  order = omega arith;
+  inside = omega (arith, fine .order);
+  passed = λ k a b. absurd (omega arith);
+}
+
 -- ---- a take over items
 
 module _ (mark : ℕ) (area words m : List ℕ) (p : Numbers) (g : Ready area words m p mark) (a e : ℕ) (start : a ≡ p .start) (end : e ≡ p .end) where
@@ -151,13 +168,13 @@ module _ (mark : ℕ) (area words m : List ℕ) (p : Numbers) (g : Ready area wo
   pub ready-below : (i : ℕ) → i < e → i < p .count
   ready-below i h = omega (arith, g .fine .inside)
 
-  pub ready-items : (s : List ℕ) → area ≡ sheetArea s → sheetFault s ≡ 0 → HasItems s words m a e
-  ready-items s es made = record {
+  pub ready-items : (s : List ℕ) → area ≡ sheetArea s → sheetFault s ≡ 0 → (f : ℕ) → f ≤ p .end → HasItems s words m f e
+  ready-items s es made f h = record {
     made = made;
     items = g .items;
     table = rw es at (g .table);
     inside = ready-inside (g .items) (g .same);
-    order = ready-order;
+    order = omega arith;
     marked = ready-marked;
   }
 
@@ -184,6 +201,33 @@ module _ (mark : ℕ) (area words m : List ℕ) (p : Numbers) (g : Ready area wo
 
     find-something : (h : r < e) → find is test (stateOf m p) ≡ ok (some (record { place = r; item = find-hits h .item }))
     find-something h = found-by is test ∙ find-hits h .found
+
+  -- a search that skips places finds what the search of all does
+  pub skip-sought : (test : rules.Item → Bool) (f : ℕ) → Skips area words test m p f → (r : ℕ) → Sought area words test m f e r
+      → Sought area words test m a e r
+  skip-sought test f k r sought =
+      let o = k .order in
+      let i = k .inside in
+      sought-all area words test m a f e r (λ j l b. k .passed j (omega arith) b) (omega arith) (omega arith) sought
+
+  -- a search of the scope, by its own numbers
+  pub scope-sought : (test : rules.Item → Bool) (r : ℕ) → Sought area words test m a e r → Sought area words test m (p .start) (p .end) r
+  scope-sought test r sought =
+      subst (λ (k : ℕ). Sought area words test m (p .start) k r) end
+      (subst (λ (k : ℕ). Sought area words test m k e r) start sought)
+
+  pub sought-scope : (test : rules.Item → Bool) (r : ℕ) → Sought area words test m (p .start) (p .end) r → Sought area words test m a e r
+  sought-scope test r sought =
+      subst (λ (k : ℕ). Sought area words test m a k r) (sym end)
+      (subst (λ (k : ℕ). Sought area words test m k (p .end) r) (sym start) sought)
+
+  -- a search by the table of `known`
+  pub known-sought : (table : List ℕ) (node from r : ℕ)
+      → ((area words : List ℕ) (test : rules.Item → Bool) → Says table e node area words test → Sought area words test m from e r)
+      → (test : rules.Item → Bool) → Says table (p .end) node area words test → Skips area words test m p from
+      → Sought area words test m (p .start) (p .end) r
+  known-sought table node from r found test says skips =
+      scope-sought test r (skip-sought test from skips r (found area words test (rw end says)))
 
   -- ---- `take_flag`
   module _ (n : Named) (r : ℕ) (sought : Sought area words (matchesArg n false) m a e r) where
@@ -264,9 +308,8 @@ module _ (mark : ℕ) (area words m : List ℕ) (p : Numbers) (g : Ready area wo
         free-next : freeBelow m e (suc r) ≡ true
         free-next = rw (← add-one r) (sym ef ∙ not-false f w)
 
-        pub next-below : r + 1 < e
-        unfolding freeBelow
-        next-below = ltb-true (r + 1) e (left (ltb (r + 1) e) (present (getD m (r + 1) 0)) (sym ef ∙ not-false f w))
+        next-below : r + 1 < e
+        next-below = free-inside m e (r + 1) f ef w
 
         next-item : (is : List rules.Item) (t : Items area words p is)
             → (x : rules.Item) × (get is (stateOf m p) (suc r) ≡ some x) × (itemFrom area (recordAt words (r + 1)) ≡ some x)
@@ -360,6 +403,31 @@ module _ (mark : ℕ) (words m : List ℕ) (p : Numbers) (g : (area : List ℕ) 
   ready-of : (area : List ℕ) (is : List rules.Item) → Items area words p is → Ready area words m p mark
   ready-of area is t = record { items = is; table = t .0; same = t .1; fine = g .1 .fine; told = g .1 .told }
 
+  -- whether an item is an operand does not depend on the area
+  pub operand-sought : (f : ℕ) → Skips (g .0) words isOperand m p f → (r : ℕ) → ((area : List ℕ) → Sought area words isOperand m f e r)
+      → (area : List ℕ) → Sought area words isOperand m a e r
+  operand-sought f k r sought area =
+      let o = k .order in
+      let i = k .inside in
+      sought-all area words isOperand m a f e r passed (omega arith) (omega arith) (sought area)
+    where
+      passed : Passed area words isOperand m a f
+      passed j l b h x q =
+          let o = k .inside in
+          let y = lookup-some (g .1 .items) j (omega (arith, g .1 .same, g .1 .fine .inside)) in
+          let w = g .1 .table .at j (y .0) (y .1) in
+          let v = k .passed j (omega arith) b h (y .0) w in
+          let kind : Bool = operandKind (getD words (7 * j) 0) in
+          sym (operand-said area words j kind refl x q) ∙ operand-said (g .0) words j kind refl (y .0) w ∙ v
+
+  -- what is found is an operand by its kind
+  pub operand-found : (r : ℕ) → ((area : List ℕ) → Sought area words isOperand m a e r) → r < e
+      → operandKind (getD words (7 * r) 0) ≡ true
+  operand-found r sought h =
+      let t : Items (g .0) words p (g .1 .items) = (g .1 .table, g .1 .same) in
+      let x = find-hits mark (g .0) words m p (g .1) a e start end isOperand r (sought (g .0)) (g .1 .items) (t .0) (t .1) h in
+      operand-said (g .0) words r (operandKind (getD words (7 * r) 0)) refl (x .item) (t .0 .at r (x .item) (x .there)) ∙ x .passes
+
   module _ (r : ℕ) (sought : (area : List ℕ) → Sought area words isOperand m a e r) where
     pub positional-missing : e ≤ r → (area : List ℕ) → TakesPositional mark area words m p m (record { operand = Operand·Missing; numbers = p })
     positional-missing h area = record {
@@ -368,10 +436,10 @@ module _ (mark : ℕ) (words m : List ℕ) (p : Numbers) (g : (area : List ℕ) 
     }
 
     pub positional-taken : r < e → (here : Numbers) → here ≡ setCurrent (r + 1) p → (m′ : List ℕ) (q : Numbers) → Removed mark m here r m′ q
-        → (item : Item) → item ≡ itemOf (recordAt words r) → (b : Bool) → b ≡ strictItem item → (t : Part) → t ≡ textPart item
+        → (b : Bool) → b ≡ strictItem (itemOf (recordAt words r)) → (t : Part) → t ≡ textPart (itemOf (recordAt words r))
         → (area : List ℕ) → TakesPositional mark area words m p m′ (record { operand = Operand·Taken r b t; numbers = q })
-    positional-taken h here set m′ q d item ei b eb t et area = record {
-      same = λ is i. rw (eb, et) (operand-taken mark area words m p (ready-of area is i) a e start end r (sought area) is i h here set m′ q d item ei);
+    positional-taken h here set m′ q d b eb t et area = record {
+      same = λ is i. rw (eb, et) (operand-taken mark area words m p (ready-of area is i) a e start end r (sought area) is i h here set m′ q d (itemOf (recordAt words r)) refl);
       left = record { count = d .count ∙ ap (λ (x : Numbers). x .count) set; long = d .long; fine = d .fine };
     }
 

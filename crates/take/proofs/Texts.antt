@@ -1,13 +1,16 @@
 -- The text of an item, whether it is a PosWord, and whether it may be a command: the code's item and the rules' say the same.
 use mathlib.Core.Path.{_≡_, refl, sym, ap, _∙_}
-use mathlib.Core.Bool.{Bool, true, false, not}
+use mathlib.Core.Bool.{Bool, true, false, not, _||_}
 use mathlib.Core.List.{List, [], _∷_}
 use mathlib.Core.Logic.{⊎-elim}
 use mathlib.Core.Option.{Option, some, none}
-use Prim.Native.Nat.{ℕ, _+_, _≤_}
+use Prim.Native.Nat.{ℕ, _+_, _*_, _≤_, _<_}
+use native.Mathlib.Nat.{add-zero}
 use native.Mathlib.Omega.{arith}
-use lib.ListN.{length}
-use borrow.Author.Tests.{not-true, not-false}
+use lib.Dec.{eqb, lit<}
+use lib.ListN.{length, getD, drop}
+use lib.Seq.{getD-take, getD-drop}
+use borrow.Author.Tests.{eqb-true, not-true, not-false}
 use types.Run.{OneOf}
 use denote.Enum.Declared.{tagOf}
 use Rattle.utf8.specs.Utf8.{if_then_else_}
@@ -19,9 +22,9 @@ use Rattle.rules.specs.Take.{valueText, textOf, isPosWord, commandText, isComma
 use Rattle.arg.specs.declared.Part.{Part}
 use Rattle.arg.specs.declared.Item.{Item}
 use Rattle.arg.specs.declared.Item.the-variants.{Short, Long, ArgWord, Word, PosWord}
-use Rattle.arg.specs.Items.{recordAt, itemOf}
+use Rattle.arg.specs.Items.{recordAt, partAt, itemOf}
 use Rattle.arg.proofs.Item as T
-use Rattle.named.specs.Items.{partBytes, HasPart}
+use Rattle.named.specs.Items.{partBytes, HasPart, operandKind}
 use Rattle.named.specs.Search.{HasItem}
 use Rattle.named.proofs.Items.{is-short, is-long, is-arg-word, is-word, is-pos-word}
 use Rattle.take.specs.Takes.{textPart, strictItem, comparedItem}
@@ -56,16 +59,43 @@ agrees area r x e (PosWord t) q =
     let z = is-pos-word area r x e (PosWord t) q t refl in
     rw (z .0) (record { inside = z .1; text = refl; strict = refl; compared = refl })
 
--- ---- by the tags that are left
+-- ---- what stands in a record, whatever its kind
 
-pub not-strict : (item : Item) → OneOf (0 ∷ 1 ∷ 2 ∷ 3 ∷ []) (tagOf T.the-type item) → false ≡ strictItem item
-not-strict (Short c a t) k = refl
-not-strict (Long n a t) k = refl
-not-strict (ArgWord t) k = refl
-not-strict (Word t) k = refl
-not-strict (PosWord t) k =
-    absurd (⊎-elim (λ (e : _≡_ {A = ℕ} 4 0). omega arith) (⊎-elim (λ (e : _≡_ {A = ℕ} 4 1). omega arith)
-    (⊎-elim (λ (e : _≡_ {A = ℕ} 4 2). omega arith) (λ (e : _≡_ {A = ℕ} 4 3). omega arith))) k)
+-- word k of a record
+word-at : (words : List ℕ) (i k : ℕ) → k < 7 → getD (recordAt words i) k 0 ≡ getD words (7 * i + k) 0
+word-at words i k h = getD-take 7 (drop (7 * i) words) k 0 h ∙ getD-drop (7 * i) words k 0
+
+if-text : (b : Bool) (x y : Item) (t : Part) → textPart x ≡ t → textPart y ≡ t → textPart (if b then x else y) ≡ t
+unfolding if_then_else_
+if-text true x y t e f = e
+if-text false x y t e f = f
+
+pub text-read : (words : List ℕ) (i : ℕ)
+    → record { offset = getD words (7 * i + 5) 0; length = getD words (7 * i + 6) 0 } ≡ textPart (itemOf (recordAt words i))
+unfolding itemOf
+text-read words i =
+    let r : List ℕ = recordAt words i in
+    sym (if-text (eqb (getD r 0 0) 1) _ _ (partAt r 5) refl
+    (if-text (eqb (getD r 0 0) 2) _ _ (partAt r 5) refl
+    (if-text (eqb (getD r 0 0) 3) _ _ (partAt r 5) refl
+    (if-text (eqb (getD r 0 0) 4) _ _ (partAt r 5) refl refl)))
+    ∙ (λ j. record { offset = word-at words i 5 (lit< tt) j; length = word-at words i 6 (lit< tt) j }))
+
+-- of a Word and a PosWord, the kind says which it is
+pub strict-read : (words : List ℕ) (i : ℕ) → operandKind (getD words (7 * i) 0) ≡ true
+    → eqb (getD words (7 * i) 0) 5 ≡ strictItem (itemOf (recordAt words i))
+unfolding itemOf operandKind if_then_else_
+strict-read words i h = go (eqb (getD words (7 * i) 0) 4) refl h
+  where
+    kind : getD (recordAt words i) 0 0 ≡ getD words (7 * i) 0
+    kind = word-at words i 0 (lit< tt) ∙ ap (λ (k : ℕ). getD words k 0) (add-zero (7 * i))
+
+    go : (b : Bool) → eqb (getD words (7 * i) 0) 4 ≡ b → (b || eqb (getD words (7 * i) 0) 5) ≡ true
+        → eqb (getD words (7 * i) 0) 5 ≡ strictItem (itemOf (recordAt words i))
+    go true e h = rw (kind, eqb-true (getD words (7 * i) 0) 4 e)
+    go false e h = rw (kind, eqb-true (getD words (7 * i) 0) 5 h)
+
+-- ---- by the tags that are left
 
 pub not-compared : (item : Item) → OneOf (2 ∷ 4 ∷ []) (tagOf T.the-type item) → false ≡ comparedItem item
 not-compared (Short c a t) k = absurd (⊎-elim (λ (e : _≡_ {A = ℕ} 0 2). omega arith) (λ (e : _≡_ {A = ℕ} 0 4). omega arith) k)

@@ -3,7 +3,7 @@ use mathlib.Core.Bool.{Bool, true, false, not, _&&_}
 use mathlib.Core.List.{List}
 use mathlib.Core.Option.{Option, some, none}
 use mathlib.Core.Path.{_≡_}
-use Prim.Native.Nat.{ℕ, suc}
+use Prim.Native.Nat.{ℕ, suc, _≤_, _<_}
 use lib.Dec.{ltb}
 use lib.ListN.{length, getD}
 use Rattle.rules.specs.Outcome.{Outcome, ok, refused, refuseAt, _>>=_}
@@ -17,6 +17,7 @@ use Rattle.arg.specs.declared.Item.the-variants.{Short, Long, ArgWord, Word, Po
 use Rattle.state.specs.declared.Numbers.{Numbers}
 use Rattle.state.specs.Lent.{stateOf, Fine}
 use Rattle.named.specs.Items.{Table, partBytes}
+use Rattle.named.specs.Search.{Passed}
 use Rattle.take.specs.declared.Flag.{Flag}
 use Rattle.take.specs.declared.Value.{Value}
 use Rattle.take.specs.declared.Value.the-variants.{Missing, Taken as Value·Taken, NoArgument}
@@ -32,6 +33,17 @@ pub record Ready (area words m : List ℕ) (p : Numbers) (mark : ℕ) : Type 0 w
   pub same : length items ≡ p .count
   pub fine : Fine m p
   pub told : parsed mark ≡ true
+
+-- ---- where a search may begin: in scope, and with no present item before it that passes the test
+pub record Skips (area words : List ℕ) (test : rules.Item → Bool) (m : List ℕ) (p : Numbers) (from : ℕ) : Type 0 where
+  pub order : p .start ≤ from
+  pub inside : from ≤ p .end
+  pub passed : Passed area words test m (p .start) from
+
+-- a table of `known` for the places in scope, and a node that it may have
+pub record Reaches (table : List ℕ) (p : Numbers) (node : ℕ) : Type 0 where
+  pub low : node < 64
+  pub long : p .end ≤ length table
 
 -- ---- small pieces
 -- `current` as a state holds it: the place plus 1, or 0

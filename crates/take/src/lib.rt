@@ -1,20 +1,24 @@
-// The takes: `take_flag`, `take_arg`, `take_positional_word`, `take_cmd`. Each is told the mark of what it uses.
+// The takes: `take_flag`, `take_arg`, `take_positional_word`, `take_cmd`. Each is told the mark of what it uses. A take that is
+// told where to search from answers the same: its caller knows that no earlier place is the one that is sought.
 ghost use mathlib.Core.Path.{_≡_};
-ghost use mathlib.Core.Bool.{true};
+ghost use mathlib.Core.Bool.{Bool, true, false};
 ghost use mathlib.Core.Option.{some};
 ghost use mathlib.Core.List.{List};
-ghost use Prim.Native.Nat.{ℕ, _+_, _≤_, _<_};
-ghost use lib.ListN.{length};
+ghost use Prim.Native.Nat.{ℕ, _+_, _*_, _≤_, _<_};
+ghost use lib.ListN.{length, getD};
 ghost use Rattle.rules.specs.Sheet.{sheetArea, sheetFault};
+ghost use Rattle.rules.specs.Tree.{Named};
 ghost use Rattle.rules.specs.Split.{Item as RulesItem};
 ghost use Rattle.rules.specs.State.{parsed};
-ghost use Rattle.rules.specs.Take.{isCommand};
+ghost use Rattle.rules.specs.Take.{isCommand, isOperand, matchesArg};
 ghost use Rattle.rules.specs.Calls.{itemFrom};
-ghost use Rattle.arg.specs.Items.{recordAt};
+ghost use Rattle.arg.specs.Items.{recordAt, itemOf};
 ghost use Rattle.state.specs.Lent.{Fine};
 ghost use Rattle.named.specs.Codes.{namedAt};
-ghost use Rattle.named.specs.Search.{HasNames, HasItem};
-ghost use Rattle.take.specs.Takes.{Ready, setCurrent, refusedAt, freeBelow, textPart, strictItem, comparedItem, UsesBoth, TakesFlag, TakesArg, TakesPositional, TakesCmd};
+ghost use Rattle.named.specs.Items.{operandKind};
+ghost use Rattle.named.specs.Search.{HasNames, HasItem, Sought};
+ghost use Rattle.known.specs.Known.{Says};
+ghost use Rattle.take.specs.Takes.{Ready, Skips, Reaches, setCurrent, refusedAt, freeBelow, textPart, strictItem, comparedItem, UsesBoth, TakesFlag, TakesArg, TakesPositional, TakesCmd};
 use arg::Item;
 use arg::Part;
 use state::Numbers;
@@ -89,15 +93,6 @@ fn text_of(item: Item) -> Part
     }
 }
 
-fn is_pos_word(item: Item) -> bool
-    ensures { λ r. ⌜ r ≡ strictItem item ⌝ }
-{
-    match item {
-        Item::PosWord(_) => true,
-        _ => false,
-    }
-}
-
 // `take_cmd` compares the text of a Word, of a Short, and of a Long that is not adjacent.
 fn is_compared(item: Item) -> bool
     ensures { λ r. ⌜ r ≡ comparedItem item ⌝ }
@@ -119,6 +114,24 @@ fn is_command(sheet: &[u8], items: &[u32], i: usize, word: &[u8]) -> bool
         return false;
     }
     named::same_bytes(named::part_bytes(sheet, text_of(item)), word)
+}
+
+// A flag for which a search found `place`, or the end of the scope.
+fn use_flag(marks: &mut [u16; 256], p: Numbers, place: usize, mark: u16) -> Flag
+    requires { ⌜ Fine (now marks) p × (parsed mark ≡ true) ⌝ }
+    ensures { λ r. ⌜ ((area words : List ℕ) (n : Named) → Ready area words (now (marks .entry)) p mark → Sought area words (matchesArg n false) (now (marks .entry)) (p .start) (p .end) place → TakesFlag mark area words n (now (marks .entry)) p (now (marks .exit)) r) ⌝ }
+{
+    if wide(p.end) <= place {
+        return Flag {
+            found: false,
+            numbers: p,
+        };
+    }
+    let left = state::remove(marks, p, place, mark);
+    Flag {
+        found: true,
+        numbers: left,
+    }
 }
 
 // A flag: the first present item in scope that has one of the names.
@@ -150,17 +163,23 @@ pub fn take_flag(
         count,
         false,
     );
-    if end <= place {
-        return Flag {
-            found: false,
-            numbers: p,
-        };
-    }
-    let left = state::remove(marks, p, place, mark);
-    Flag {
-        found: true,
-        numbers: left,
-    }
+    use_flag(marks, p, place, mark)
+}
+
+// The same by the table of `known`, where the node is known for its names. The search begins at `from`.
+pub fn take_flag_known(
+    known: &[u64],
+    marks: &mut [u16; 256],
+    p: Numbers,
+    from: usize,
+    node: usize,
+    mark: u16,
+) -> Flag
+    requires { ⌜ Fine (now marks) p × (parsed mark ≡ true) × Reaches (now known) p node × (from ≤ p .end) ⌝ }
+    ensures { λ r. ⌜ ((area words : List ℕ) (n : Named) → Ready area words (now (marks .entry)) p mark → Says (now (known .entry)) (p .end) node area words (matchesArg n false) → Skips area words (matchesArg n false) (now (marks .entry)) p from → TakesFlag mark area words n (now (marks .entry)) p (now (marks .exit)) r) ⌝ }
+{
+    let place = known::find(known, marks, node, from, wide(p.end));
+    use_flag(marks, p, place, mark)
 }
 
 // The key and the value behind it are used; `current` is the value's place.
@@ -181,6 +200,38 @@ fn no_argument(before: Numbers, key: usize) -> Argument
     Argument {
         value: Value::NoArgument(key),
         numbers: before,
+    }
+}
+
+// An argument for which a search found its key, or the end of the scope: the next place is its value.
+fn use_argument(
+    items: &[u32],
+    marks: &mut [u16; 256],
+    p: Numbers,
+    key: usize,
+    mark: u16,
+) -> Argument
+    requires { ⌜ ((area : List ℕ) × Ready area (now items) (now marks) p mark) ⌝ }
+    ensures { λ r. ⌜ ((area : List ℕ) (n : Named) (adjacent : Bool) → Ready area (now (items .entry)) (now (marks .entry)) p mark → Sought area (now (items .entry)) (matchesArg n adjacent) (now (marks .entry)) (p .start) (p .end) key → TakesArg mark area (now (items .entry)) n adjacent (now (marks .entry)) p (now (marks .exit)) r) ⌝ }
+{
+    let end = wide(p.end);
+    if end <= key {
+        return Argument {
+            value: Value::Missing,
+            numbers: p,
+        };
+    }
+    if !is_free(marks, key + 1, end) {
+        return no_argument(p, key);
+    }
+    let item = arg::read_item(items, key + 1);
+    let (Item::Word(t) | Item::ArgWord(t)) = item else {
+        return no_argument(p, key);
+    };
+    let left = use_both(marks, p, key, mark);
+    Argument {
+        value: Value::Taken(key + 1, t),
+        numbers: left,
     }
 }
 
@@ -214,24 +265,43 @@ pub fn take_arg(
         count,
         adjacent,
     );
-    if end <= key {
-        return Argument {
-            value: Value::Missing,
-            numbers: p,
-        };
+    use_argument(items, marks, p, key, mark)
+}
+
+// The same by the table of `known`, where the node is known for its names. The search begins at `from`.
+pub fn take_arg_known(
+    known: &[u64],
+    items: &[u32],
+    marks: &mut [u16; 256],
+    p: Numbers,
+    from: usize,
+    node: usize,
+    mark: u16,
+) -> Argument
+    requires { ⌜ ((area : List ℕ) × Ready area (now items) (now marks) p mark) × Reaches (now known) p node × (from ≤ p .end) ⌝ }
+    ensures { λ r. ⌜ ((area : List ℕ) (n : Named) (adjacent : Bool) → Ready area (now (items .entry)) (now (marks .entry)) p mark → Says (now (known .entry)) (p .end) node area (now (items .entry)) (matchesArg n adjacent) → Skips area (now (items .entry)) (matchesArg n adjacent) (now (marks .entry)) p from → TakesArg mark area (now (items .entry)) n adjacent (now (marks .entry)) p (now (marks .exit)) r) ⌝ }
+{
+    let key = known::find(known, marks, node, from, wide(p.end));
+    use_argument(items, marks, p, key, mark)
+}
+
+// The text of an item, of whatever kind.
+fn text_at(items: &[u32], i: usize) -> Part
+    requires { ⌜ 7 * i + 7 ≤ length (now items) ⌝ }
+    ensures { λ r. ⌜ r ≡ textPart (itemOf (recordAt (now (items .entry)) i)) ⌝ }
+{
+    Part {
+        offset: items[7 * i + 5],
+        length: items[7 * i + 6],
     }
-    if !is_free(marks, key + 1, end) {
-        return no_argument(p, key);
-    }
-    let item = arg::read_item(items, key + 1);
-    let (Item::Word(t) | Item::ArgWord(t)) = item else {
-        return no_argument(p, key);
-    };
-    let left = use_both(marks, p, key, mark);
-    Argument {
-        value: Value::Taken(key + 1, t),
-        numbers: left,
-    }
+}
+
+// Whether an operand is a PosWord.
+fn is_strict(items: &[u32], i: usize) -> bool
+    requires { ⌜ (7 * i + 7 ≤ length (now items)) × (operandKind (getD (now items) (7 * i) 0) ≡ true) ⌝ }
+    ensures { λ r. ⌜ r ≡ strictItem (itemOf (recordAt (now (items .entry)) i)) ⌝ }
+{
+    items[7 * i] == 5
 }
 
 // A positional: the first present Word or PosWord in scope.
@@ -245,19 +315,31 @@ pub fn take_positional_word(
     ensures { λ r. ⌜ ((area : List ℕ) → TakesPositional mark area (now (items .entry)) (now (marks .entry)) p (now (marks .exit)) r) ⌝ }
 {
     let start = wide(p.start);
+    take_positional_word_from(items, marks, p, start, mark)
+}
+
+pub fn take_positional_word_from(
+    items: &[u32],
+    marks: &mut [u16; 256],
+    p: Numbers,
+    from: usize,
+    mark: u16,
+) -> Positional
+    requires { ⌜ ((area : List ℕ) × Ready area (now items) (now marks) p mark × Skips area (now items) isOperand (now marks) p from) ⌝ }
+    ensures { λ r. ⌜ ((area : List ℕ) → TakesPositional mark area (now (items .entry)) (now (marks .entry)) p (now (marks .exit)) r) ⌝ }
+{
     let end = wide(p.end);
-    let place = named::find_operand(items, marks, start, end);
+    let place = named::find_operand(items, marks, from, end);
     if end <= place {
         return Positional {
             operand: Operand::Missing,
             numbers: p,
         };
     }
-    let item = arg::read_item(items, place);
     let here = set_current(p, place as u32 + 1);
     let left = state::remove(marks, here, place, mark);
     Positional {
-        operand: Operand::Taken(place, is_pos_word(item), text_of(item)),
+        operand: Operand::Taken(place, is_strict(items, place), text_at(items, place)),
         numbers: left,
     }
 }

@@ -122,12 +122,16 @@ pub fn decode_at(s: &[u8], at: usize) -> Decoded
     )
 }
 
-// Whether the whole slice is characters.
+// Whether the whole slice is characters. Most bytes are ASCII, and are passed over without decoding.
 pub fn valid(s: &[u8]) -> bool
     ensures { λ r. ⌜ r ≡ wellFormed (now (s .entry)) ⌝ }
 {
     let mut at = 0;
     while at < s.len() {
+        if s[at] < 0x80 {
+            at += 1;
+            continue;
+        }
         let d = decode_at(s, at);
         let Decoded::Char(_, size) = d else {
             return false;

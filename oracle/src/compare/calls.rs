@@ -45,7 +45,7 @@ struct Refused {
     place: u32,
 }
 
-#[link(name = "exports", kind = "static")]
+#[link(name = "exports_calls", kind = "static")]
 extern "C" {
     fn silverpoise_remove(state: State, place: usize) -> StateAnswer;
     fn silverpoise_pick_winner(state: State, other: State) -> Answer;

@@ -123,26 +123,3 @@ pub fn compare(seed: u64, count: u64) -> Compared {
     }
     compared
 }
-
-/// Nanoseconds of one form check, the best of many rounds.
-fn cost(form: &[u8]) -> u128 {
-    const TIMES: u32 = 200;
-    let round = || {
-        let began = std::time::Instant::now();
-        for _ in 0..TIMES {
-            std::hint::black_box(form_check(std::hint::black_box(form)));
-        }
-        began.elapsed().as_nanos() / u128::from(TIMES)
-    };
-    (0..50).map(|_| round()).min().unwrap_or(0)
-}
-
-/// The form check's cost over the number of nodes: a chain of fallbacks, and a chain of choices of the node below with itself.
-pub fn measure() {
-    println!("nodes  a chain (ns)  shared (ns)  answer to the shared one");
-    for nodes in [1, 2, 4, 8, 16, 32, 64] {
-        let (chain, shared) = (cases::chain(nodes).write(), cases::shared(nodes, false).write());
-        let answer = form_check(&shared);
-        println!("{nodes:5}  {:12}  {:11}  {} at {}", cost(&chain), cost(&shared), answer.number, answer.place as i64 - 1);
-    }
-}

@@ -8,7 +8,7 @@ use super::calls::{self, Answer};
 use super::Compared;
 use crate::lists::hex;
 
-#[link(name = "exports", kind = "static")]
+#[link(name = "exports_calls", kind = "static")]
 extern "C" {
     fn silverpoise_remove_in_place(state: *mut State, place: usize) -> Answer;
     fn silverpoise_take_flag_in_place(

@@ -61,14 +61,3 @@ pub fn compare(layer: &str, seed: u64, count: Option<u64>) -> Option<Compared> {
         _ => return None,
     })
 }
-
-/// What a layer costs.
-pub fn measure(layer: &str) -> bool {
-    match layer {
-        "checks" => checks::measure(),
-        "split" => split::measure(),
-        "run" => run::measure(),
-        _ => return false,
-    }
-    true
-}

@@ -2,9 +2,9 @@
 
 use line::cases::Rng;
 use line::forged::{self, records, Call, Lent, State, ANSWER_WORDS, ITEM_WORDS};
-use line::{format::*, notation};
+use line::format::*;
 
-use super::{calls, checks, split, Compared};
+use super::{calls, split, Compared};
 use crate::lists::hex;
 #[cfg(live)]
 use super::split::{raw_view, EMPTY};
@@ -35,6 +35,7 @@ struct TextPart {
 }
 
 #[link(name = "exports", kind = "static")]
+#[link(name = "exports_calls", kind = "static")]
 extern "C" {
     fn silverpoise_run(
         form: *const u8,
@@ -310,66 +311,4 @@ pub fn compare_forged(seed: u64, count: u64) -> Compared {
         compared.same("text", &|| format!("word {word} on {}", input()), text(&lent, word).map(<[u8]>::to_vec), theirs);
     }
     compared
-}
-
-/// The form of nine fields that harness.rs builds, in the notation of notation.rs.
-const WEAR: &str = "optional(guard(number(-l --limit), 1..9999)); switch(-1); switch(-2); switch(-3); switch(-4); switch(-5); \
-     switch(-6); operand; many(operand)";
-
-/// The least time of one of many rounds, in nanoseconds.
-fn best(mut round: impl FnMut()) -> u128 {
-    (0..400).fold(u128::MAX, |best, _| {
-        let began = std::time::Instant::now();
-        round();
-        best.min(began.elapsed().as_nanos())
-    })
-}
-
-/// The run of nine fields on lines of two and six arguments and on 256 items, and where bpaf is at hand beside it.
-pub fn measure() {
-    let form = notation::parse(WEAR).expect("a form").write();
-    let line = |words: &str| words.split(' ').map(|w| w.as_bytes().to_vec()).collect::<Vec<_>>();
-    let lines = [
-        ("-1 lock", line("-1 lock")),
-        ("-1 -4 --limit=40 lock chain tyre", line("-1 -4 --limit=40 lock chain tyre")),
-        ("256 words", vec![b"part".to_vec(); 256]),
-    ];
-    let (mut items, mut answers) = (vec![0; ITEM_WORDS], vec![0; ANSWER_WORDS]);
-    let clearing = best(|| {
-        std::hint::black_box(&mut items).fill(0);
-        std::hint::black_box(&mut answers).fill(0);
-    });
-    println!("{clearing:10} ns  both slices cleared");
-    let check = best(|| {
-        std::hint::black_box(checks::form_check(std::hint::black_box(&form)));
-    });
-    println!("{check:10} ns  the form check");
-    for (name, arguments) in lines {
-        let sheet = Sheet { arguments: arguments.clone() }.write();
-        assert_eq!(run(&form, &sheet, &mut items, &mut answers).number, 0, "an accepted line");
-        let ours = best(|| {
-            std::hint::black_box(run(std::hint::black_box(&form), std::hint::black_box(&sheet), &mut items, &mut answers));
-        });
-        println!("{ours:10} ns  {name}: form check, clearing, splitting and run");
-        let split = best(|| {
-            std::hint::black_box(split::split(std::hint::black_box(&form), std::hint::black_box(&sheet), &mut items));
-        });
-        println!("{split:10} ns  {name}: form check, clearing of the item slice and splitting alone");
-        beside(name, &arguments);
-    }
-}
-
-#[cfg(not(live))]
-fn beside(_name: &str, _arguments: &[Vec<u8>]) {}
-
-#[cfg(live)]
-fn beside(name: &str, arguments: &[Vec<u8>]) {
-    use std::os::unix::ffi::OsStringExt;
-    let line: Vec<std::ffi::OsString> = arguments.iter().cloned().map(std::ffi::OsString::from_vec).collect();
-    let wear = harness::Wear::new();
-    assert!(wear.read(&line), "an accepted line");
-    let theirs = best(|| {
-        std::hint::black_box(wear.read(std::hint::black_box(&line)));
-    });
-    println!("{theirs:10} ns  {name}: bpaf, its parsers built once, `construct` and `eval`");
 }

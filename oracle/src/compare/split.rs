@@ -1,4 +1,4 @@
-//! Splitting: a line shown, its cost, and every word of it against the real `State::construct`.
+//! Splitting: a line shown, and every word of it against the real `State::construct`.
 
 use std::os::unix::ffi::OsStringExt;
 
@@ -86,30 +86,6 @@ pub fn show(form: &str) -> bool {
         number => println!("refused {number}"),
     }
     ended.number == 0
-}
-
-/// Nanoseconds of one split of a line of one cluster, and of 256 words.
-pub fn measure() {
-    let form = notation::parse("switch(-v); switch(-q); optional(number(-w)); many(operand)").expect("a form").write();
-    let cluster = |letters: usize| Sheet { arguments: vec![[b"-".to_vec(), vec![b'v'; letters], b"x".to_vec()].concat()] };
-    let lines = [
-        ("a cluster of 8 letters, the last unknown", cluster(7)),
-        ("a cluster of 1,024 letters, the last unknown", cluster(1023)),
-        ("a cluster of 32,767 letters, the last unknown", cluster(32766)),
-        ("-vq -w7 lock", Sheet { arguments: vec![b"-vq".to_vec(), b"-w7".to_vec(), b"lock".to_vec()] }),
-        ("256 words", Sheet { arguments: vec![b"word".to_vec(); 256] }),
-    ];
-    let mut items = vec![0; 1792];
-    for (name, sheet) in lines {
-        let sheet = sheet.write();
-        let mut best = u128::MAX;
-        for _ in 0..200 {
-            let began = std::time::Instant::now();
-            std::hint::black_box(split(&form, std::hint::black_box(&sheet), &mut items));
-            best = best.min(began.elapsed().as_nanos());
-        }
-        println!("{best:10} ns  {name}");
-    }
 }
 
 /// The state as the library hands it over.

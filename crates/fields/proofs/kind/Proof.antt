@@ -12,17 +12,16 @@ empty-requires : tie.Need-empty-requires
 empty-requires c κs = search needs
 
 fill-requires : tie.Need-fill-requires
-fill-requires c κs = record { good = c .before .before .pre .0; below = c .before .before .pre .1; sound = rw (c .empty .ensures) (empty-sound _ 64) }
+fill-requires c κs = record { good = c .before .before .before .pre .0; below = c .before .before .before .pre .1; sound = rw (c .before .empty .ensures) (empty-sound _) }
 
-element-copy-out-c : tie.Need-element-copy-out-c
-element-copy-out-c c = omega (arith, sized _ (c .before .before .before .pre .0))
+array-read-c : tie.Need-array-read-c
+array-read-c c = omega (arith, sized _ (c .before .before .before .before .pre .0))
 
 cast-result : tie.Need-cast-result
 cast-result c = search needs
 
 returns : tie.Need-returns
-returns c = kind-there _ _ _ (c .before .fill .ensures) _ refl
+returns c = kind-there _ _ _ (c .fill .ensures) _ refl
 
 pub kind-spec : {M : Type 1} → statement M
-kind-spec =
-    tie.close (tie.spec empty-requires fill-requires element-copy-out-c cast-result returns)
+kind-spec = tie.close (tie.spec empty-requires fill-requires array-read-c cast-result returns)

@@ -9,10 +9,10 @@ use Rattle.form.proofs.check_nodes.Statement.{statement}
 use Rattle.form.proofs.check_nodes.Tie as tie
 
 abbrev Inv-loop : tie.InvT-loop
-Inv-loop b n m₀ k₀ m k = Climbed (readForm b) k (m .codes)
+Inv-loop b n codes₀ k₀ codes k = Climbed (readForm b) k codes
 
 abbrev μ-loop : tie.MeasureT-loop
-μ-loop b n m₀ k₀ m k = n - k
+μ-loop b n codes₀ k₀ codes k = n - k
 
 node-count-requires : tie.Need-node-count-requires Inv-loop μ-loop
 node-count-requires c κs = sized _ (c .before .pre) .counts .long
@@ -24,10 +24,10 @@ loop-holds : tie.Need-loop-holds Inv-loop μ-loop
 loop-holds c = climbed-first _ _ (c .empty .ensures)
 
 fill-requires : tie.Need-fill-requires Inv-loop μ-loop
-fill-requires c κs = record { good = c .before .before .before .before .before .pre; below = omega (arith, c .before .before .before .node-count .ensures); sound = c .before .loop .inv .sound }
+fill-requires c κs = record { good = c .before .before .before .before .before .before .pre; below = omega (arith, c .before .before .before .before .node-count .ensures); sound = c .before .before .loop .inv .sound }
 
-element-copy-out-if1 : tie.Need-element-copy-out-if1 Inv-loop μ-loop
-element-copy-out-if1 c = omega (arith, c .before .before .before .before .node-count .ensures, sized _ (c .before .before .before .before .before .before .pre))
+array-read-if1 : tie.Need-array-read-if1 Inv-loop μ-loop
+array-read-if1 c = omega (arith, c .before .before .before .before .before .node-count .ensures, sized _ (c .before .before .before .before .before .before .before .pre))
 
 add-refused : tie.Need-add-refused Inv-loop μ-loop
 add-refused c = omega (arith, c .before .before .before .before .before .before .node-count .ensures, sized _ (c .before .before .before .before .before .before .before .before .pre))
@@ -36,7 +36,7 @@ refused-requires : tie.Need-refused-requires Inv-loop μ-loop
 refused-requires c κs = omega (arith, c .before .before .before .before .before .before .node-count .ensures, sized _ (c .before .before .before .before .before .before .before .before .pre))
 
 returns : tie.Need-returns Inv-loop μ-loop
-returns c = climbed-bad _ _ _ (c .before .before .before .before .before .loop .inv) (omega (arith, nodes-length (c .before .before .before .before .before .before .before .before .before .args .b .now), c .before .before .before .before .before .before .before .node-count .ensures)) _ (c .before .before .before .fill .ensures) _ (c .before .if1 .taken) (c .refused .ensures)
+returns c = climbed-bad _ _ _ (c .before .before .before .before .before .loop .inv) (omega (arith, nodes-length (c .before .before .before .before .before .before .before .before .before .args .b .now), c .before .before .before .before .before .before .before .node-count .ensures)) _ (c .before .before .fill .ensures) _ (c .before .if1 .taken) (c .refused .ensures)
 
 add-k : tie.Need-add-k Inv-loop μ-loop
 add-k c = omega (arith, c .before .before .before .before .before .before .node-count .ensures, sized _ (c .before .before .before .before .before .before .before .before .pre))
@@ -45,7 +45,7 @@ loop-less : tie.Need-loop-less Inv-loop μ-loop
 loop-less c = omega arith
 
 loop-again : tie.Need-loop-again Inv-loop μ-loop
-loop-again c = climbed-next _ _ _ (c .before .before .before .before .loop .inv) (omega (arith, nodes-length (c .before .before .before .before .before .before .before .before .args .b .now), c .before .before .before .before .before .before .node-count .ensures)) _ (c .before .before .fill .ensures) (search needs) (c .if1 .left)
+loop-again c = climbed-next _ _ _ (c .before .before .before .before .loop .inv) (omega (arith, nodes-length (c .before .before .before .before .before .before .before .before .args .b .now), c .before .before .before .before .before .before .node-count .ensures)) _ (c .before .fill .ensures) (c .if1 .left)
 
 refused-requires-2 : tie.Need-refused-requires-2 Inv-loop μ-loop
 refused-requires-2 c κs = omega arith
@@ -63,7 +63,7 @@ check-nodes-spec =
     empty-requires
     loop-holds
     fill-requires
-    element-copy-out-if1
+    array-read-if1
     add-refused
     refused-requires
     returns

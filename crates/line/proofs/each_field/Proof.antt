@@ -10,11 +10,11 @@ use Rattle.line.proofs.each_field.Statement.{statement}
 use Rattle.line.proofs.each_field.Tie as tie
 
 abbrev Inv-loop : tie.InvT-loop
-Inv-loop form codes sheet items marks₀ out₀ mark n s₀ tries₀ at₀ k₀ marks out s tries at k =
+Inv-loop form known sheet items marks₀ out₀ mark n s₀ tries₀ at₀ k₀ marks out s tries at k =
     (a : Accepted) → checkForm form ≡ accepted a → Going mark (sheetArea sheet) items (a .fields) marks₀ s₀ out₀ marks s tries at k out
 
 abbrev μ-loop : tie.MeasureT-loop
-μ-loop form codes sheet items marks₀ out₀ mark n s₀ tries₀ at₀ k₀ marks out s tries at k = n - k
+μ-loop form known sheet items marks₀ out₀ mark n s₀ tries₀ at₀ k₀ marks out s tries at k = n - k
 
 field-count-requires : tie.Need-field-count-requires Inv-loop μ-loop
 field-count-requires c κs = starts-long _ _ _ _ _ _ _ _ (c .before .before .before .before .before .pre)

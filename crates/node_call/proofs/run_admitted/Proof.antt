@@ -2,14 +2,17 @@
 use mathlib.Core.Path.{_≡_}
 use lib.ListN.{length}
 use borrow.Author.Needs.{needs}
-use Rattle.node_call.proofs.Answers.{cleared-checked, node-stands, node-runs}
+use Rattle.node_call.proofs.Answers.{cleared-checked, cleared-made, cleared-holds, node-stands, node-runs}
 use Rattle.node_call.proofs.run_admitted.Statement.{statement}
 use Rattle.node_call.proofs.run_admitted.Tie as tie
 use Rattle.node_call.proofs.run_admitted.Reads as reads
 use Rattle.node_call.proofs.run_admitted.Lts as lts
 
-codes-of-requires : tie.Need-codes-of-requires
-codes-of-requires c κs = search cleared-checked
+wide-requires : tie.Need-wide-requires
+wide-requires c κs = search needs
+
+known-of-requires : tie.Need-known-of-requires
+known-of-requires c κs = (search cleared-checked, search (cleared-made, needs), search cleared-holds)
 
 slice-aggregate-run-value : tie.Need-slice-aggregate-run-value
 slice-aggregate-run-value c = search needs
@@ -32,14 +35,15 @@ marks-long k c = search (needs, c .good)
 returns : tie.Need-returns
 returns c =
     let c5 = c .before .before .before .before .before in
-    let c14 = c5 .before .before .before .before .before .before .before .before .before in
-    node-runs _ _ _ _ _ _ (c14 .pre) _ (c5 .numbers .ensures) _ _ _ _ (marks-long _ c14) (c .before .before .before .run-value .ensures) (c .answered .ensures)
+    let c15 = c5 .before .before .before .before .before .before .before .before .before .before in
+    node-runs _ _ _ _ _ _ (c15 .pre) _ (c5 .numbers .ensures) _ _ _ _ (marks-long _ c15) (c .before .before .before .run-value .ensures) (c .answered .ensures)
 
 pub run-admitted-spec : {M : Type 1} → statement M
 run-admitted-spec =
     tie.close
     (tie.spec
-    codes-of-requires
+    wide-requires
+    known-of-requires
     slice-aggregate-run-value
     numbers-requires
     run-value-requires

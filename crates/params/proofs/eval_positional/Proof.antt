@@ -1,39 +1,17 @@
--- By what was taken. Assumes nothing.
+-- From the start of the scope. Assumes nothing.
 use borrow.Author.Needs.{needs}
-use Rattle.params.proofs.Places.{operand-place}
-use Rattle.params.proofs.Laws.{positional-missing, positional-taken}
+use Rattle.take.proofs.Laws.{skip-none}
 use Rattle.params.proofs.eval_positional.Statement.{statement}
 use Rattle.params.proofs.eval_positional.Tie as tie
 
-take-positional-word-requires : tie.Need-take-positional-word-requires
-take-positional-word-requires c κs = search needs
+wide-requires : tie.Need-wide-requires
+wide-requires c κs = search needs
 
-enum-told : tie.Need-enum-told
-enum-told c = search needs
-
-refused-requires : tie.Need-refused-requires
-refused-requires c κs = search needs
-
-enum-known-operand : tie.Need-enum-known-operand
-enum-known-operand c = search needs
-
-placed-requires : tie.Need-placed-requires
-placed-requires c κs = (c .before .before .before .before .before .before .before .before .pre .0, operand-place _ _ _ _ _ (c .before .before .before .before .before .before .before .before .pre .1) _ _ (c .before .before .before .before .take-positional-word .ensures _) _ _ _ (c .before .operand .given .1))
+eval-positional-from-requires : tie.Need-eval-positional-from-requires
+eval-positional-from-requires c κs = (c .before .before .before .before .pre .0, c .before .before .before .before .pre .1, skip-none _ _ _ _ _ (c .before .before .before .before .pre .1 .fine) _ (c .before .wide .ensures))
 
 returns : tie.Need-returns
-returns c = positional-missing _ _ _ _ _ _ _ _ _ (c .before .before .before .before .take-positional-word .ensures _) _ (c .before .enum-told .given .1) (c .refused .ensures)
-
-returns-2 : tie.Need-returns-2
-returns-2 c = positional-taken _ _ _ _ _ _ _ _ _ (c .before .before .before .before .before .take-positional-word .ensures _) _ _ _ _ (c .before .before .operand .given .1) (c .placed .ensures)
+returns c = search needs
 
 pub eval-positional-spec : {M : Type 1} → statement M
-eval-positional-spec =
-    tie.close
-    (tie.spec
-    take-positional-word-requires
-    enum-told
-    refused-requires
-    enum-known-operand
-    placed-requires
-    returns
-    returns-2)
+eval-positional-spec = tie.close (tie.spec wide-requires eval-positional-from-requires returns)

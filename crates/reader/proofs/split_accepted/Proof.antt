@@ -1,45 +1,61 @@
 use borrow.Author.Needs.{needs}
-use Rattle.reader.proofs.Splits.{ready-names, ready-given, prefix-fits, split-answers}
+use Rattle.args.proofs.Plain.{plain-ends}
 use Rattle.reader.proofs.split_accepted.Statement.{statement}
 use Rattle.reader.proofs.split_accepted.Tie as tie
 
-letters-of-requires : tie.Need-letters-of-requires
-letters-of-requires c κs = search ready-names
+all-plain-requires : tie.Need-all-plain-requires
+all-plain-requires c κs = search needs
 
-letters-of-requires-2 : tie.Need-letters-of-requires-2
-letters-of-requires-2 c κs = search ready-names
+sub-construct : tie.Need-sub-construct
+sub-construct c = search needs
 
-slice-aggregate-prefix : tie.Need-slice-aggregate-prefix
-slice-aggregate-prefix c = search needs
+part-construct-start : tie.Need-part-construct-start
+part-construct-start c = search needs
 
-prefix-requires : tie.Need-prefix-requires
-prefix-requires c κs = search (prefix-fits, needs)
+part-construct-end : tie.Need-part-construct-end
+part-construct-end c = search needs
 
-slice-aggregate-prefix-2 : tie.Need-slice-aggregate-prefix-2
-slice-aggregate-prefix-2 c = search needs
+sub-construct-2 : tie.Need-sub-construct-2
+sub-construct-2 c = search needs
 
-prefix-requires-2 : tie.Need-prefix-requires-2
-prefix-requires-2 c κs = search (prefix-fits, needs)
+part-construct-start-2 : tie.Need-part-construct-start-2
+part-construct-start-2 c = search needs
+
+part-construct-end-2 : tie.Need-part-construct-end-2
+part-construct-end-2 c = search needs
 
 construct-requires : tie.Need-construct-requires
-construct-requires c κs = search ready-given
+construct-requires c κs = search needs
 
 same-length : tie.Need-same-length
 same-length c = search needs
 
 returns : tie.Need-returns
-returns c = search split-answers
+returns c = search plain-ends
+
+split-clusters-requires : tie.Need-split-clusters-requires
+split-clusters-requires c κs = search needs
+
+same-length-2 : tie.Need-same-length-2
+same-length-2 c = search needs
+
+returns-2 : tie.Need-returns-2
+returns-2 c = search needs
 
 pub split-accepted-spec : {M : Type 1} → statement M
 split-accepted-spec =
     tie.close
     (tie.spec
-    letters-of-requires
-    letters-of-requires-2
-    slice-aggregate-prefix
-    prefix-requires
-    slice-aggregate-prefix-2
-    prefix-requires-2
+    all-plain-requires
+    sub-construct
+    part-construct-start
+    part-construct-end
+    sub-construct-2
+    part-construct-start-2
+    part-construct-end-2
     construct-requires
     same-length
-    returns)
+    returns
+    split-clusters-requires
+    same-length-2
+    returns-2)

@@ -6,9 +6,6 @@ use Rattle.reader.proofs.split_refused.Tie as tie
 fill-requires : tie.Need-fill-requires
 fill-requires c κs = search needs
 
-empty-requires : tie.Need-empty-requires
-empty-requires c κs = search needs
-
 same-length : tie.Need-same-length
 same-length c = search needs
 
@@ -16,4 +13,4 @@ returns : tie.Need-returns
 returns c = search refused-splitting
 
 pub split-refused-spec : {M : Type 1} → statement M
-split-refused-spec = tie.close (tie.spec fill-requires empty-requires same-length returns)
+split-refused-spec = tie.close (tie.spec fill-requires same-length returns)

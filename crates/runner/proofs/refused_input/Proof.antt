@@ -9,8 +9,8 @@ fill-requires c κs = search needs
 fill-requires-2 : tie.Need-fill-requires-2
 fill-requires-2 c κs = search needs
 
-empty-requires : tie.Need-empty-requires
-empty-requires c κs = search needs
+refused-requires : tie.Need-refused-requires
+refused-requires c κs = search needs
 
 same-length : tie.Need-same-length
 same-length c = search needs
@@ -19,9 +19,9 @@ same-length-2 : tie.Need-same-length-2
 same-length-2 c = search needs
 
 returns : tie.Need-returns
-returns c = refused-answer _ _ (c .before .before .before .before .before .before .before .before .before .before .before .args .items .now) (c .before .before .before .before .before .before .before .before .before .before .before .args .answers .now) _ _ _ (c .before .before .before .before .before .before .before .fill .ensures) (c .before .before .before .fill2 .ensures) (c .empty .ensures)
+returns c = search refused-answer
 
 pub refused-input-spec : {M : Type 1} → statement M
 refused-input-spec =
     tie.close
-    (tie.spec fill-requires fill-requires-2 empty-requires same-length same-length-2 returns)
+    (tie.spec fill-requires fill-requires-2 refused-requires same-length same-length-2 returns)

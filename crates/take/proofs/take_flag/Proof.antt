@@ -1,8 +1,8 @@
--- By what the search finds. Assumes nothing.
+-- By what the search of the scope finds. Assumes nothing.
 use mathlib.Core.Path.{refl}
+use native.Mathlib.Omega.{arith}
 use borrow.Author.Needs.{needs}
-use Rattle.named.specs.Codes.{namedAt}
-use Rattle.take.proofs.Laws.{ready-items, flag-missing, flag-found}
+use Rattle.take.proofs.Laws.{ready-items, scope-sought}
 use Rattle.take.proofs.take_flag.Statement.{statement}
 use Rattle.take.proofs.take_flag.Tie as tie
 
@@ -13,18 +13,19 @@ wide-requires-2 : tie.Need-wide-requires-2
 wide-requires-2 c κs = search needs
 
 find-named-requires : tie.Need-find-named-requires
-find-named-requires c κs = (c .before .before .before .before .before .before .before .before .pre .0, ready-items _ _ _ _ _ (c .before .before .before .before .before .before .before .before .pre .2) _ _ (c .before .before .before .wide .ensures) (c .before .before .wide2 .ensures) _ refl (c .before .before .before .before .before .before .before .before .pre .1))
+find-named-requires c κs =
+    let h = c .before .before .before .before .before .before .before .before .pre in
+    (h .0, ready-items _ _ _ _ _ (h .2) _ _ refl (c .before .before .wide2 .ensures) _ refl (h .1) _ (omega (arith, c .before .before .before .wide .ensures, h .2 .fine .order)))
+
+use-flag-requires : tie.Need-use-flag-requires
+use-flag-requires c κs = search needs
 
 returns : tie.Need-returns
-returns c = flag-missing _ _ _ _ _ (c .before .before .before .before .before .before .before .before .before .before .pre .2) _ _ (c .before .before .before .before .before .wide .ensures) (c .before .before .before .before .wide2 .ensures) (namedAt (c .before .before .before .before .before .before .before .before .before .before .args .form .now) (c .before .before .before .before .before .before .before .before .before .before .args .first) (c .before .before .before .before .before .before .before .before .before .before .args .count)) _ (c .before .find-named .ensures) (c .if1 .taken)
-
-remove-requires : tie.Need-remove-requires
-remove-requires c κs = search needs
-
-returns-2 : tie.Need-returns-2
-returns-2 c = flag-found _ _ _ _ _ (c .before .before .before .before .before .before .before .before .before .before .before .before .pre .2) _ _ (c .before .before .before .before .before .before .before .wide .ensures) (c .before .before .before .before .before .before .wide2 .ensures) (namedAt (c .before .before .before .before .before .before .before .before .before .before .before .before .args .form .now) (c .before .before .before .before .before .before .before .before .before .before .before .before .args .first) (c .before .before .before .before .before .before .before .before .before .before .before .before .args .count)) _ (c .before .before .before .find-named .ensures) (c .before .before .if1 .left) _ _ (c .remove .ensures)
+returns c =
+    let h = c .before .before .before .before .before .before .before .before .before .before .before .pre in
+    c .use-flag .ensures _ _ _ (h .2) (scope-sought _ _ _ _ _ (h .2) _ _ (c .before .before .before .before .before .before .wide .ensures) (c .before .before .before .before .before .wide2 .ensures) _ _ (c .before .before .find-named .ensures))
 
 pub take-flag-spec : {M : Type 1} → statement M
 take-flag-spec =
     tie.close
-    (tie.spec wide-requires wide-requires-2 find-named-requires returns remove-requires returns-2)
+    (tie.spec wide-requires wide-requires-2 find-named-requires use-flag-requires returns)

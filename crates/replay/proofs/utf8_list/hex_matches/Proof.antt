@@ -3,7 +3,7 @@ use mathlib.Core.Path.{sym, _∙_}
 use mathlib.Core.Bool.{false≢true}
 use lib.Seq.{length-take-le}
 use borrow.Author.Needs.{needs}
-use Rattle.replay.specs.Laws.{filled}
+use Rattle.tokens.specs.Laws.{filled}
 use Rattle.replay.proofs.utf8_list.hex_matches.Statement.{statement}
 use Rattle.replay.proofs.utf8_list.hex_matches.Tie as tie
 

@@ -1,0 +1,174 @@
+-- Where no argument can be a cluster, splitting comes to the same under any letters.
+use mathlib.Core.Path.{_≡_, refl, sym, _∙_, ap}
+use mathlib.Core.Bool.{Bool, true, false, not, _&&_, _||_, and-eq-true-iff, true≢false}
+use mathlib.Core.List.{List, [], _∷_}
+use mathlib.Core.Option.{Option, some, none}
+use Prim.Native.Nat.{ℕ, _+_, _≤_, _<_}
+use native.Mathlib.Omega.{arith}
+use lib.Dec.{eqb}
+use lib.ListN.{length, getD, drop, drop-of-length-le}
+use borrow.Author.Tests.{eq-eqb, ne-eqb, not-true, not-false}
+use Rattle.utf8.specs.Utf8.{if_then_else_, decode, decodeAt, wellFormed}
+use Rattle.utf8.specs.declared.Decoded.{Decoded}
+use Rattle.utf8.specs.declared.Decoded.the-variants.{Char, Bad}
+use Rattle.utf8.specs.Laws.{character}
+use Rattle.wire.specs.Wire.{entryOf, HasEntry}
+use Rattle.rules.specs.Base.{all, null, sliceFrom}
+use Rattle.rules.specs.Outcome.{Outcome, ok, refused, fault, at, _>>=_}
+use Rattle.rules.specs.Accept.{Letters}
+use Rattle.rules.specs.Sheet.{argumentCount, arguments}
+use Rattle.rules.specs.Split.{dash, short, long, Parts, beforeEquals, behindEquals, parts, splitLong, splitShort, behindDash, splitOsArgument, clusterFrom, disambiguateShort, Group, shortGroup, partsGroup, wordGroup, splitArgument, Split, joined, splitFrom}
+use Rattle.rules.specs.Run.{lineOf}
+use Rattle.args.specs.declared.Ended.{Ended}
+use Rattle.args.specs.Construct.{plainArgument, Ends}
+use Rattle.args.proofs.Sheets.{Checked, arguments-length, has-entry, argument-next}
+
+-- the group of an argument, from its parts
+abbrev grouped : Letters → List ℕ → Option Parts → Outcome Group
+grouped l os o = elim o [ none ↦ ok (wordGroup os) | some x ↦ partsGroup l os x ]
+
+abbrev afterDash : Bool → Bool → ℕ → List ℕ → Option Parts
+afterDash first second b s = if first then (if second then splitLong s else splitShort b s) else none
+
+module _ (l m : Letters) where
+  long-name : (os n : List ℕ) (v : Option (List ℕ)) → grouped l os (parts long n v) ≡ grouped m os (parts long n v)
+  unfolding parts partsGroup if_then_else_
+  long-name os n v = go (wellFormed n)
+    where
+      go : (t : Bool) → grouped l os (if t then some (record { type = long; name = n; body = v }) else none) ≡ grouped m os (if t then some (record { type = long; name = n; body = v }) else none)
+      go true = refl
+      go false = refl
+
+  long-same : (os s : List ℕ) → grouped l os (splitLong s) ≡ grouped m os (splitLong s)
+  unfolding splitLong if_then_else_
+  long-same os s = go (behindEquals s) refl
+    where
+      go : (o : Option (List ℕ)) → behindEquals s ≡ o → grouped l os (splitLong s) ≡ grouped m os (splitLong s)
+      go (some v) e = rw (e, splitLong) (long-name os (beforeEquals s) (some v))
+      go none e = rw (e, splitLong) (empty (null s))
+        where
+          empty : (t : Bool) → grouped l os (if t then none else parts long s none) ≡ grouped m os (if t then none else parts long s none)
+          empty true = refl
+          empty false = long-name os s none
+
+  -- a letter alone is Short, whatever it is
+  letter-same : (os : List ℕ) (b : ℕ) → shortGroup l os (b ∷ []) none ≡ shortGroup m os (b ∷ []) none
+  unfolding shortGroup clusterFrom decodeAt sliceFrom disambiguateShort null at _>>=_ if_then_else_
+  letter-same os b = go (decode (b ∷ [])) refl
+    where
+      go : (d : Decoded) → decode (b ∷ []) ≡ d → shortGroup l os (b ∷ []) none ≡ shortGroup m os (b ∷ []) none
+      go Bad e = rw (e, clusterFrom) refl
+      go (Char c n) e =
+          let k = character (b ∷ []) 0 c n e in
+          let one : n ≡ 1 = omega (arith, k .some, k .within) in
+          rw (e, one, clusterFrom) refl
+
+  one-byte : (os : List ℕ) (b : ℕ) → grouped l os (splitShort b []) ≡ grouped m os (splitShort b [])
+  unfolding splitShort behindEquals parts partsGroup if_then_else_
+  one-byte os b = go (wellFormed (b ∷ []))
+    where
+      go : (t : Bool) → grouped l os (if t then some (record { type = short; name = b ∷ []; body = none }) else none) ≡ grouped m os (if t then some (record { type = short; name = b ∷ []; body = none }) else none)
+      go true = letter-same os b
+      go false = refl
+
+  plain-same : (os : List ℕ) → plainArgument os ≡ true → splitArgument l os ≡ splitArgument m os
+  unfolding splitArgument splitOsArgument behindDash plainArgument if_then_else_
+  plain-same [] p = refl
+  plain-same (a ∷ []) p = go (eqb a dash)
+    where
+      go : (t : Bool) → grouped l (a ∷ []) (if t then none else none) ≡ grouped m (a ∷ []) (if t then none else none)
+      go true = refl
+      go false = refl
+  plain-same (a ∷ b ∷ []) p = go (eqb a dash) (eqb b dash)
+    where
+      go : (t u : Bool) → grouped l (a ∷ b ∷ []) (afterDash t u b []) ≡ grouped m (a ∷ b ∷ []) (afterDash t u b [])
+      go false u = refl
+      go true true = long-same (a ∷ b ∷ []) []
+      go true false = one-byte (a ∷ b ∷ []) b
+  plain-same (a ∷ b ∷ c ∷ s) p = go (eqb a dash) (eqb b dash) p
+    where
+      os : List ℕ
+      os = a ∷ b ∷ c ∷ s
+
+      go : (t u : Bool) → not t || u ≡ true → grouped l os (afterDash t u b (c ∷ s)) ≡ grouped m os (afterDash t u b (c ∷ s))
+      go false u q = refl
+      go true true q = long-same os (c ∷ s)
+      go true false q = absurd (true≢false (sym q))
+
+  split-same : (k : ℕ) (args : List (List ℕ)) → all plainArgument args ≡ true → splitFrom l k args ≡ splitFrom m k args
+  unfolding splitFrom all _>>=_
+  split-same k [] p = refl
+  split-same k (os ∷ rest) p =
+      let both = and-eq-true-iff (plainArgument os) (all plainArgument rest) .0 p in
+      rw (plain-same os (both .0)) (go (splitArgument m os) (λ j. split-same j rest (both .1)))
+    where
+      go :
+          (o : Outcome Group)
+          → ((j : ℕ) → splitFrom l j rest ≡ splitFrom m j rest)
+          → (o >>= λ g. joined k g rest (splitFrom l (k + length (g .items)) rest)) ≡ (o >>= λ g. joined k g rest (splitFrom m (k + length (g .items)) rest))
+      go (ok g) h = ap (joined k g rest) (h (k + length (g .items)))
+      go (refused e) h = refl
+      go (fault f) h = refl
+
+  pub plain-ends :
+      (s : List ℕ) (n : ℕ) (out : List ℕ) (r : Ended) (t : Bool)
+      → t ≡ all plainArgument (arguments s)
+      → t ≡ true
+      → Ends l s n out r
+      → Ends m s n out r
+  plain-ends s n out r t e p z = record {
+    line = z .line;
+    same = ap (λ (o : Outcome Split). o >>= lineOf (arguments s)) (sym (split-same 0 (arguments s) (sym e ∙ p))) ∙ z .same;
+    number = z .number;
+    place = z .place;
+    words = z .words;
+    marked = z .marked;
+    state = z .state;
+  }
+
+-- ---- `is_plain`
+pub plain-short : (os : List ℕ) → length os < 3 → true ≡ plainArgument os
+unfolding plainArgument
+plain-short [] h = refl
+plain-short (a ∷ []) h = refl
+plain-short (a ∷ b ∷ []) h = refl
+plain-short (a ∷ b ∷ c ∷ s) h = absurd (omega arith)
+
+pub plain-word : (os : List ℕ) → 3 ≤ length os → (getD os 0 0 ≡ 45 → ⊥) → true ≡ plainArgument os
+unfolding plainArgument dash
+plain-word [] h n = absurd (omega arith)
+plain-word (a ∷ []) h n = absurd (omega arith)
+plain-word (a ∷ b ∷ []) h n = absurd (omega arith)
+plain-word (a ∷ b ∷ c ∷ s) h n = rw (ne-eqb a 45 n)
+
+pub plain-dashed : (os : List ℕ) → 3 ≤ length os → getD os 0 0 ≡ 45 → eqb (getD os 1 0) 45 ≡ plainArgument os
+unfolding plainArgument dash
+plain-dashed [] h n = absurd (omega arith)
+plain-dashed (a ∷ []) h n = absurd (omega arith)
+plain-dashed (a ∷ b ∷ []) h n = absurd (omega arith)
+plain-dashed (a ∷ b ∷ c ∷ s) h n = rw (eq-eqb a 45 n)
+
+-- ---- `all_plain`
+-- what is left decides
+pub record Plain (s : List ℕ) (n k : ℕ) : Type 0 where
+  pub same : all plainArgument (arguments s) ≡ all plainArgument (drop k (arguments s))
+  pub count : n ≡ argumentCount s
+
+module _ (s : List ℕ) (n k : ℕ) (h : Checked s) (z : Plain s n k) where
+  pub plain-entry : k < n → HasEntry 2 n s k
+  plain-entry t = rw (z .count) (has-entry s h k (omega (arith, z .count)))
+
+  module _ (t : k < n) (os : List ℕ) (e : os ≡ entryOf 2 n s k) (g : Bool) (q : g ≡ plainArgument os) where
+    step : all plainArgument (arguments s) ≡ (g && all plainArgument (drop (k + 1) (arguments s)))
+    unfolding all
+    step = z .same ∙ rw (argument-next s h k (omega (arith, t, z .count)), q, e, z .count)
+
+    pub plain-not : not g ≡ true → false ≡ all plainArgument (arguments s)
+    plain-not y = sym (step ∙ rw (not-true g y))
+
+    pub plain-next : not g ≡ false → Plain s n (k + 1)
+    plain-next y = record { same = step ∙ rw (not-false g y); count = z .count }
+
+  pub plain-all : n ≤ k → true ≡ all plainArgument (arguments s)
+  unfolding all
+  plain-all t = sym (z .same ∙ rw (drop-of-length-le (arguments s) {i = k} (omega (arith, z .count, arguments-length s))))

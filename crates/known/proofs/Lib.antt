@@ -1,0 +1,4 @@
+-- What the proofs of several functions use.
+pub mod Bits
+pub mod Owners
+pub mod Lookups
