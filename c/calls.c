@@ -1,0 +1,298 @@
+// Calls every function of silverpoise.h and compares with known answers, most of them those of docs/FORMAT.md (4.6, 7.1, 10.6):
+// a wrong declaration shows as a wrong answer. Prints each check that fails, then the counts; exits with 1 if one failed.
+//
+// The form is that of 7.1, the line `-vw7`, whose items are 0 Short v, 1 Short w, 2 Word `7`. S is the state after the split;
+// S0, S1 and S2 are S with place 0, 1 or 2 used.
+#include <stdlib.h>
+#include <string.h>
+
+#include "check.h"
+#include "silverpoise.h"
+
+#define U16 SILVERPOISE_U16
+#define NODE SILVERPOISE_NODE
+#define NAME SILVERPOISE_NAME
+
+// switch v, switch q, optional number argument w, optional required flag b, optional text argument b
+static const uint8_t FORM_BYTES[] = {
+  U16(8), U16(5), U16(5), U16(5), U16(0), U16(1), U16(3), U16(5), U16(7),
+  NODE(SILVERPOISE_NODE_FLAG, 0, 1, SILVERPOISE_FLAG_SWITCH, 0, 0),
+  NODE(SILVERPOISE_NODE_FLAG, 1, 1, SILVERPOISE_FLAG_SWITCH, 0, 0),
+  NODE(SILVERPOISE_NODE_ARGUMENT, 2, 1, SILVERPOISE_VALUE_NUMBER, 0, 0),
+  NODE(SILVERPOISE_NODE_OPTIONAL, 2, 0, 0, 0, 0),
+  NODE(SILVERPOISE_NODE_FLAG, 3, 1, SILVERPOISE_FLAG_REQUIRED, 0, 0),
+  NODE(SILVERPOISE_NODE_OPTIONAL, 4, 0, 0, 0, 0),
+  NODE(SILVERPOISE_NODE_ARGUMENT, 4, 1, SILVERPOISE_VALUE_TEXT, 0, 0),
+  NODE(SILVERPOISE_NODE_OPTIONAL, 6, 0, 0, 0, 0),
+  NAME(SILVERPOISE_NAME_SHORT, 0, 1), NAME(SILVERPOISE_NAME_SHORT, 1, 1), NAME(SILVERPOISE_NAME_SHORT, 2, 1),
+  NAME(SILVERPOISE_NAME_SHORT, 3, 1), NAME(SILVERPOISE_NAME_SHORT, 4, 1), 'v', 'q', 'w', 'b', 'b'};
+static const uint8_t SHEET_BYTES[] = {U16(1), U16(0), U16(4), '-', 'v', 'w', '7'};
+
+// fallback `dd` of the text argument +
+static const uint8_t FALLBACK[] = {
+  U16(2), U16(1), U16(2), U16(3), U16(1), NODE(SILVERPOISE_NODE_ARGUMENT, 0, 1, SILVERPOISE_VALUE_TEXT, 0, 0),
+  NODE(SILVERPOISE_NODE_FALLBACK, 0, 0, 1, 0, 0), NAME(SILVERPOISE_NAME_SHORT, 0, 1), NAME(SILVERPOISE_NAME_TEXT, 1, 2),
+  '+', 'd', 'd'};
+static const uint8_t NO_ARGUMENTS[] = {U16(0), U16(0)};
+
+// Slices of exactly the lengths that are lent, on the heap, so that valgrind sees a read or write outside of them.
+static uint8_t *form, *sheet;
+static uint32_t *items, *answers;
+#define FORM form, sizeof FORM_BYTES
+#define SHEET sheet, sizeof SHEET_BYTES
+#define ITEMS items, SILVERPOISE_ITEM_SLICE
+#define ANSWERS answers, SILVERPOISE_ANSWER_SLICE
+
+static SilverpoiseState S, S0, S1, S2;
+
+static void *lend(const void *bytes, size_t size) {
+  void *copy = malloc(size);
+  if (copy == NULL) exit(2);
+  if (bytes != NULL) memcpy(copy, bytes, size);
+  return copy;
+}
+
+// A state over the three items.
+static SilverpoiseState state(uint16_t mark0, uint16_t mark1, uint16_t mark2, uint32_t remaining, uint32_t current) {
+  SilverpoiseState s = {{mark0, mark1, mark2}, 3, remaining, current, 0, 3};
+  return s;
+}
+
+// A state has no padding.
+static bool same(SilverpoiseState a, SilverpoiseState b) { return memcmp(&a, &b, sizeof a) == 0; }
+
+static bool is(SilverpoiseAnswer a, uint32_t number, uint32_t place, uint32_t found, uint32_t first, uint32_t second) {
+  return a.number == number && a.place == place && a.found == found && a.first == first && a.second == second;
+}
+
+static bool leaves(SilverpoiseStateAnswer a, uint32_t number, uint32_t place, uint32_t found, uint32_t first, uint32_t second,
+                   SilverpoiseState s) {
+  return a.number == number && a.place == place && a.found == found && a.first == first && a.second == second &&
+         same(a.state, s);
+}
+
+static bool refused(SilverpoiseRefused r, uint32_t number, uint32_t place) { return r.number == number && r.place == place; }
+
+static bool told(SilverpoiseTold t, uint32_t number, uint32_t answer) {
+  return t.number == number && t.place == 0 && t.answer == answer;
+}
+
+static bool ran(SilverpoiseRunAnswer r, uint32_t number, uint32_t place, uint32_t tries, uint32_t words, SilverpoiseState s) {
+  return r.number == number && r.place == place && r.tries == tries && r.words == words && same(r.state, s);
+}
+
+static bool stands(SilverpoiseTextPart p, uint32_t number, uint32_t source, uint32_t offset, uint32_t length) {
+  return p.number == number && p.place == 0 && p.source == source && p.offset == offset && p.length == length;
+}
+
+// Whether a slice begins with these words and all behind them, up to `count`, are `rest`.
+static bool holds(const uint32_t *slice, size_t count, const uint32_t *words, size_t known, uint32_t rest) {
+  for (size_t i = 0; i < count; i++) {
+    if (slice[i] != (i < known ? words[i] : rest)) return false;
+  }
+  return true;
+}
+
+static void fill(uint32_t *slice, size_t count, uint32_t word) {
+  for (size_t i = 0; i < count; i++) slice[i] = word;
+}
+
+static void utf8(void) {
+  uint8_t *text = (uint8_t *)lend("a\xc3\xa9", 3);
+  CHECK(silverpoise_utf8_valid(text, 3));
+  CHECK(!silverpoise_utf8_valid(text, 2));
+  CHECK(silverpoise_utf8_valid(NULL, 0));
+  SilverpoiseDecoding d = silverpoise_utf8_decode(text, 3, 1);
+  CHECK(d.found && d.character == 0xe9 && d.size == 2);
+  d = silverpoise_utf8_decode(text, 3, 2);
+  CHECK(!d.found && d.character == 0 && d.size == 0);
+  free(text);
+}
+
+static void refusals(void) {
+  const SilverpoiseRefused missing = {20, 0}, at_4 = {20, 5}, at_6 = {20, 7}, key = {22, 1}, word = {24, 2}, text = {25, 3};
+  CHECK(silverpoise_can_catch(24) && !silverpoise_can_catch(25));
+  CHECK(!silverpoise_can_catch(20 + 256)); // a number of more than eight bits
+  CHECK(silverpoise_wrong_input(27) && !silverpoise_wrong_input(26));
+  CHECK(!silverpoise_wrong_input(27 + 256));
+  CHECK(refused(silverpoise_combine_with(at_4, at_6), 20, 0));
+  CHECK(refused(silverpoise_combine_with(word, text), 25, 3));
+  CHECK(refused(silverpoise_combine_with(key, missing), 22, 1));
+}
+
+static void checks(void) {
+  // node 0 is used twice: as both children of the choice
+  static const uint8_t shared[] = {
+    U16(2), U16(1), U16(1), U16(1), U16(1), NODE(SILVERPOISE_NODE_FLAG, 0, 1, SILVERPOISE_FLAG_REQUIRED, 0, 0),
+    NODE(SILVERPOISE_NODE_CHOICE, 0, 0, 0, 0, 0), NAME(SILVERPOISE_NAME_SHORT, 0, 1), 'v'};
+  static const uint8_t count_257[] = {U16(257)};
+  CHECK(refused(silverpoise_form_check(FORM), 0, 0));
+  CHECK(refused(silverpoise_form_check(shared, sizeof shared), 4, 1));
+  CHECK(refused(silverpoise_form_check(NULL, 0), 1, 0));
+  CHECK(refused(silverpoise_sheet_check(SHEET), 0, 0));
+  CHECK(refused(silverpoise_sheet_check(count_257, sizeof count_257), 6, 0));
+  CHECK(refused(silverpoise_sheet_check(NULL, 0), 5, 0));
+  CHECK(told(silverpoise_kind(FORM, 3), 0, SILVERPOISE_KIND_NUMBER + SILVERPOISE_KIND_OPTIONAL));
+  CHECK(told(silverpoise_kind(FORM, 3 + ((size_t)1 << 32)), 28, 0)); // a number of 64 bits
+  CHECK(told(silverpoise_portable(FORM), 0, 1));
+  CHECK(told(silverpoise_portable(FALLBACK, sizeof FALLBACK), 0, 0)); // + is no letter
+}
+
+static void splitting(void) {
+  static const uint32_t records[] = {1, 0, 'v', 0, 0, 0, 4, 1, 1, 'w', 0, 0, 0, 4, 4, 0, 0, 0, 0, 3, 1};
+  static const uint32_t ambiguous[] = {1, 0, 'v', 0, 0, 0, 3, 4, 0, 0, 0, 0, 0, 3};
+  static const uint8_t both[] = {U16(1), U16(0), U16(3), '-', 'v', 'b'};
+  const SilverpoiseState empty = {{0}, 0, 0, 0, 0, 0}, two = {{0}, 2, 2, 0, 0, 2};
+
+  fill(ITEMS, 7);
+  SilverpoiseSplitAnswer a = silverpoise_split(FORM, SHEET, ITEMS);
+  CHECK(a.number == 0 && a.place == 0 && same(a.state, state(0, 0, 0, 3, 0)));
+  CHECK(holds(ITEMS, records, 21, 0));
+
+  fill(ITEMS, 7);
+  a = silverpoise_split(FORM, both, sizeof both, ITEMS);
+  CHECK(a.number == 9 && a.place == 2 && same(a.state, two));
+  CHECK(holds(ITEMS, ambiguous, 14, 0));
+
+  fill(ITEMS, 7);
+  a = silverpoise_split(FORM, SHEET, items, SILVERPOISE_ITEM_SLICE - 1);
+  CHECK(a.number == 7 && a.place == 0 && same(a.state, empty));
+  CHECK(holds(items, SILVERPOISE_ITEM_SLICE - 1, NULL, 0, 0) && items[SILVERPOISE_ITEM_SLICE - 1] == 7);
+  CHECK(silverpoise_split(FORM, SHEET, NULL, 0).number == 7);
+}
+
+static void running(void) {
+  static const uint32_t values[] = {1, 0, 1, 7, 0, 0}, fallback[] = {257};
+  static const uint8_t no_value[] = {U16(1), U16(0), U16(3), '-', 'v', 'w'};
+  const SilverpoiseState empty = {{0}, 0, 0, 0, 0, 0}, one_left = {{1}, 2, 1, 1, 0, 2};
+
+  fill(ANSWERS, 7);
+  SilverpoiseRunAnswer a = silverpoise_run(FALLBACK, sizeof FALLBACK, NO_ARGUMENTS, sizeof NO_ARGUMENTS, ITEMS, ANSWERS);
+  CHECK(ran(a, 0, 0, 1, 1, empty));
+  CHECK(holds(ANSWERS, fallback, 1, 0));
+  SilverpoiseTextPart part = silverpoise_text(FALLBACK, sizeof FALLBACK, NO_ARGUMENTS, sizeof NO_ARGUMENTS, ITEMS, answers[0]);
+  CHECK(stands(part, 0, SILVERPOISE_SOURCE_FORM, sizeof FALLBACK - 2, 2));
+
+  fill(ANSWERS, 7);
+  CHECK(ran(silverpoise_run(FORM, no_value, sizeof no_value, ITEMS, ANSWERS), 22, 2, 3, 0, one_left));
+  CHECK(items[0] == SILVERPOISE_ITEM_SHORT && holds(ANSWERS, NULL, 0, 0));
+
+  fill(ANSWERS, 7);
+  CHECK(ran(silverpoise_run(FORM, SHEET, ITEMS, answers, SILVERPOISE_ANSWER_SLICE - 1), 7, 0, 0, 0, empty));
+  CHECK(holds(ITEMS, NULL, 0, 0) && holds(answers, SILVERPOISE_ANSWER_SLICE - 1, NULL, 0, 0));
+
+  // last, since the checks that follow use the items that it leaves
+  fill(ANSWERS, 7);
+  CHECK(ran(silverpoise_run(FORM, SHEET, ITEMS, ANSWERS), 0, 0, 5, 6, state(1, 1, 1, 0, 3)));
+  CHECK(holds(ANSWERS, values, 6, 0));
+  CHECK(stands(silverpoise_text(FORM, SHEET, ITEMS, 2), 0, SILVERPOISE_SOURCE_SHEET, 9, 1));
+  CHECK(stands(silverpoise_text(FORM, SHEET, ITEMS, 3), 28, 0, 0, 0));
+}
+
+static void evaluation(void) {
+  static const uint32_t value[] = {1, 7};
+  fill(ANSWERS, 9);
+  CHECK(ran(silverpoise_eval(FORM, SHEET, ITEMS, ANSWERS, S, 8), 28, 0, 0, 0, S));
+  CHECK(holds(ANSWERS, NULL, 0, 9));
+  CHECK(ran(silverpoise_eval(FORM, SHEET, ITEMS, ANSWERS, S2, 3), 22, 2, 1, 0, S2));
+  CHECK(holds(ANSWERS, NULL, 0, 0));
+  CHECK(ran(silverpoise_eval(FORM, SHEET, ITEMS, ANSWERS, S, 3), 0, 0, 1, 2, state(0, 1, 1, 1, 3)));
+  CHECK(holds(ANSWERS, value, 2, 0));
+}
+
+static void states(void) {
+  SilverpoiseState scoped = S;
+  scoped.start = 1;
+  scoped.remaining = 2;
+  CHECK(leaves(silverpoise_remove(S, 0), 0, 0, 1, 0, 0, state(1, 0, 0, 2, 1)));
+  CHECK(leaves(silverpoise_remove(S, 3), 28, 0, 0, 0, 0, S));
+  CHECK(is(silverpoise_pick_winner(S1, S0), 0, 0, 0, 1, 0));
+  CHECK(is(silverpoise_pick_winner(S0, S1), 0, 0, 1, 1, 0));
+  CHECK(leaves(silverpoise_save_conflicts(S0, S1, 0), 0, 0, 1, 0, 0, state(1, 2, 0, 2, 1)));
+  CHECK(leaves(silverpoise_set_scope(S, 1, 3), 0, 0, 1, 0, 0, scoped));
+  CHECK(leaves(silverpoise_set_scope(S, 3, 1), 28, 0, 0, 0, 0, S));
+  CHECK(is(silverpoise_adjacent_scope(S0, S), 0, 0, 1, 0, 1));
+  CHECK(is(silverpoise_adjacently_available_from(S1, 0), 0, 0, 1, 0, 1));
+  CHECK(is(silverpoise_adjacently_available_from(S, 4), 28, 0, 0, 0, 0));
+  scoped.remaining = 3;
+  CHECK(leaves(silverpoise_remove(scoped, 9), 29, 0, 0, 0, 0, scoped));
+}
+
+static void item_calls(void) {
+  static const uint32_t w[] = {1, 1, 'w', 0, 0, 0, 4};
+  static const uint8_t twice[] = {U16(3), U16(0), U16(2), U16(4), U16(6), '-', 'q', '-', 'v', '-', 'v'};
+  SilverpoiseGot got = silverpoise_get(SHEET, ITEMS, S, 1);
+  CHECK(got.number == 0 && got.place == 0 && holds(got.item, SILVERPOISE_RECORD_WORDS, w, 7, 0));
+  got = silverpoise_get(SHEET, ITEMS, S1, 1);
+  CHECK(got.number == 0 && got.place == 0 && holds(got.item, SILVERPOISE_RECORD_WORDS, NULL, 0, 0));
+  got = silverpoise_get(SHEET, ITEMS, S, 3);
+  CHECK(got.number == 28 && got.place == 0 && holds(got.item, SILVERPOISE_RECORD_WORDS, NULL, 0, 0));
+  CHECK(is(silverpoise_conflict(SHEET, ITEMS, state(1, 2, 0, 2, 1)), 0, 0, 1, 1, 0));
+  CHECK(leaves(silverpoise_take_positional_word(SHEET, ITEMS, S), 0, 0, 1, 2, 0, state(0, 0, 1, 2, 3)));
+  CHECK(leaves(silverpoise_take_positional_word(SHEET, ITEMS, S2), 20, 0, 0, 0, 0, S2));
+  CHECK(is(silverpoise_only_once(SHEET, ITEMS, 1), 0, 0, 0, 0, 0));
+
+  uint32_t *three = (uint32_t *)lend(NULL, SILVERPOISE_ITEM_SLICE * sizeof *three);
+  silverpoise_split(FORM, twice, sizeof twice, three, SILVERPOISE_ITEM_SLICE);
+  CHECK(is(silverpoise_only_once(twice, sizeof twice, three, SILVERPOISE_ITEM_SLICE, 2), 0, 0, 1, 1, 0));
+  free(three);
+}
+
+static void form_calls(void) {
+  // the Word `v` is the text of name record 0
+  static const uint8_t command[] = {U16(1), U16(0), U16(1), 'v'};
+  static const uint32_t word[SILVERPOISE_ITEM_SLICE] = {SILVERPOISE_ITEM_WORD, 0, 0, 0, 0, 0, 1};
+  const SilverpoiseState one = {{0}, 1, 1, 0, 0, 1}, taken = {{1}, 1, 0, 1, 0, 1};
+
+  CHECK(is(silverpoise_matches_arg(FORM, SHEET, ITEMS, S, 2, 1), 0, 0, 1, 0, 0));
+  CHECK(is(silverpoise_matches_arg(FORM, SHEET, ITEMS, S, 1, 2), 0, 0, 0, 0, 0));
+  CHECK(leaves(silverpoise_take_flag(FORM, SHEET, ITEMS, S, 0), 0, 0, 1, 0, 0, S0));
+  CHECK(leaves(silverpoise_take_flag(FORM, SHEET, ITEMS, S, 1), 0, 0, 0, 0, 0, S));
+  CHECK(leaves(silverpoise_take_flag(FORM, SHEET, ITEMS, S, 2), 28, 0, 0, 0, 0, S));
+  CHECK(leaves(silverpoise_take_arg(FORM, SHEET, ITEMS, S, 2), 0, 0, 1, 2, 0, state(0, 1, 1, 1, 3)));
+  CHECK(leaves(silverpoise_take_arg(FORM, SHEET, ITEMS, S2, 2), 22, 2, 0, 0, 0, S2));
+  CHECK(leaves(silverpoise_take_cmd(FORM, SHEET, ITEMS, S0, 2), 0, 0, 0, 0, 0, state(1, 0, 0, 2, 0)));
+  SilverpoiseStateAnswer a = silverpoise_take_cmd(FORM, command, sizeof command, word, SILVERPOISE_ITEM_SLICE, one, 0);
+  CHECK(leaves(a, 0, 0, 1, 0, 0, taken));
+}
+
+static void lent_calls(void) {
+  SilverpoiseState *lent = (SilverpoiseState *)lend(&S, sizeof S);
+  SilverpoiseItemRecord *records = (SilverpoiseItemRecord *)lend(items, 3 * sizeof *records);
+  CHECK(is(silverpoise_remove_in_place(lent, 1), 0, 0, 1, 0, 0) && same(*lent, S1));
+  CHECK(is(silverpoise_remove_in_place(lent, 3), 28, 0, 0, 0, 0) && same(*lent, S1));
+  CHECK(is(silverpoise_take_flag_in_place(lent, FORM, SHEET, ITEMS, 0), 0, 0, 1, 0, 0) && same(*lent, state(1, 1, 0, 1, 1)));
+  CHECK(is(silverpoise_find(FORM, SHEET, records, 3, S, 2), 0, 0, 1, 1, 0));
+  CHECK(is(silverpoise_find(FORM, SHEET, records, 3, S1, 2), 0, 0, 0, 0, 0));
+  CHECK(is(silverpoise_find(FORM, SHEET, records, 2, S, 2), 29, 0, 0, 0, 0));
+  free(lent);
+  free(records);
+}
+
+int main(void) {
+  form = (uint8_t *)lend(FORM_BYTES, sizeof FORM_BYTES);
+  sheet = (uint8_t *)lend(SHEET_BYTES, sizeof SHEET_BYTES);
+  items = (uint32_t *)lend(NULL, SILVERPOISE_ITEM_SLICE * sizeof *items);
+  answers = (uint32_t *)lend(NULL, SILVERPOISE_ANSWER_SLICE * sizeof *answers);
+  S = state(0, 0, 0, 3, 0);
+  S0 = state(1, 0, 0, 2, 1);
+  S1 = state(0, 1, 0, 2, 2);
+  S2 = state(0, 0, 1, 2, 3);
+
+  utf8();
+  refusals();
+  checks();
+  splitting();
+  running();
+  evaluation();
+  states();
+  item_calls();
+  form_calls();
+  lent_calls();
+
+  free(form);
+  free(sheet);
+  free(items);
+  free(answers);
+  return report();
+}

@@ -1,0 +1,415 @@
+// Silverpoise for C99 and C++: command lines read under a form, answered with values or a numbered refusal.
+//
+// Link with target/staticlib/libexports.a (whole forms and lines: `rt staticlib exports` writes it) and, for the single calls, with
+// target/staticlib/libexports_calls.a (`rt staticlib exports_calls`), on x86-64. docs/FORMAT.md has the formats, the
+// rules and the refusals; numbers in brackets here are its sections. c/example.c reads a whole line.
+//
+// What holds of every call:
+// - A slice is a pointer and a count of elements. What is written, a slice or a lent state, must not overlap anything else that
+//   is lent. With the count 0 the pointer may be NULL.
+// - Nothing is asked of the bytes and numbers that are given: what is not well made is refused under its number.
+// - `number` is 0 where the call was accepted, else a refusal (enum SilverpoiseRefusal). `place` is a place plus 1, or 0 for
+//   none; for the refusals 2, 3 and 4 it is the number of the name record or node plus 1.
+// - A state goes by value, and the answer has the new one. Only the calls that end in `_in_place` change the caller's.
+// - Nothing is allocated, no pointer is kept and there are no global variables: threads need no lock.
+#ifndef SILVERPOISE_H
+#define SILVERPOISE_H
+
+#include <stdbool.h>
+#include <stddef.h>
+#include <stdint.h>
+
+#ifdef __cplusplus
+extern "C" {
+#endif
+
+// ---- Lengths and limits ----
+
+enum {
+  // the least lengths of the slices that are lent, in uint32_t
+  SILVERPOISE_ITEM_SLICE = 1792,   // 256 item records of seven words
+  SILVERPOISE_ANSWER_SLICE = 8240, // the answer words of any form
+
+  SILVERPOISE_RECORD_WORDS = 7, // the item at place k begins at word 7 * k of the item slice
+  SILVERPOISE_MAX_ITEMS = 256,
+
+  // a sheet (2)
+  SILVERPOISE_MAX_ARGUMENTS = 256,
+  SILVERPOISE_MAX_SHEET_AREA = 32768, // bytes of all arguments together
+  SILVERPOISE_MAX_SHEET = 33284,      // bytes of the longest sheet
+
+  // a form (3.1)
+  SILVERPOISE_MAX_NODES = 64,
+  SILVERPOISE_MAX_FIELDS = 16,
+  SILVERPOISE_MAX_NAMES = 128,
+  SILVERPOISE_MAX_FORM_AREA = 4096, // bytes of all names together
+  SILVERPOISE_MAX_FORM = 5928       // bytes of the longest form
+};
+
+// ---- Refusals (9) ----
+
+enum SilverpoiseRefusal {
+  SILVERPOISE_ACCEPTED = 0,
+
+  // because of the input, tested in this order but for 6, which comes before 5
+  SILVERPOISE_REFUSED_FORM = 1,      // the form's length or counts
+  SILVERPOISE_REFUSED_NAME = 2,      // a name record of the form; place: the lowest at fault
+  SILVERPOISE_REFUSED_NODE = 3,      // a node of the form; place: the lowest at fault
+  SILVERPOISE_REFUSED_USE = 4,       // a field number (no place), or a node that is not used once; place: the lowest such
+  SILVERPOISE_REFUSED_SHEET = 5,     // the sheet's counts, offsets or length
+  SILVERPOISE_REFUSED_ARGUMENTS = 6, // more than 256 arguments
+  SILVERPOISE_REFUSED_SLICE = 7,     // a lent slice is too short
+  SILVERPOISE_REFUSED_ITEMS = 8,     // more than 256 items
+  SILVERPOISE_REFUSED_AMBIGUOUS = 9, // a letter in a cluster is both a flag's and an argument's; place: the cluster's Word
+
+  // because of the state
+  SILVERPOISE_REFUSED_MISSING = 20,        // a required flag, an argument or a positional is not there
+  SILVERPOISE_REFUSED_PARSE_SOME = 21,     // `some` has no element
+  SILVERPOISE_REFUSED_NO_ARGUMENT = 22,    // an argument has no value; place: its key
+  SILVERPOISE_REFUSED_STRICT_POS = 23,     // a strict positional took a Word; place: the Word
+  SILVERPOISE_REFUSED_NON_STRICT_POS = 24, // a non-strict positional took a PosWord; place: the PosWord
+  SILVERPOISE_REFUSED_PARSE_FAILED = 25,   // a text is not a number; place: the text
+  SILVERPOISE_REFUSED_GUARD_FAILED = 26,   // a number is outside its guard; place: `current` of the state, perhaps none
+  SILVERPOISE_REFUSED_UNCONSUMED = 27,     // nothing takes an item; place: the first left over
+
+  // because of a single call, that is, any call but silverpoise_split and silverpoise_run; tested in the order 30, 29, 28
+  SILVERPOISE_REFUSED_NOT_THERE = 28, // no such node, name record, place or scope
+  SILVERPOISE_REFUSED_STATE = 29,     // a state does not hold together, or does not fit the items
+  SILVERPOISE_REFUSED_RECORD = 30     // an item record is at fault
+};
+
+// ---- Forms (3): the numbers of nodes and names ----
+
+enum {
+  SILVERPOISE_NODE_FLAG = 1,
+  SILVERPOISE_NODE_ARGUMENT = 2,
+  SILVERPOISE_NODE_POSITIONAL = 3,
+  SILVERPOISE_NODE_OPTIONAL = 4,
+  SILVERPOISE_NODE_MANY = 5,
+  SILVERPOISE_NODE_SOME = 6,
+  SILVERPOISE_NODE_COUNT = 7,
+  SILVERPOISE_NODE_LAST = 8,
+  SILVERPOISE_NODE_CHOICE = 9,
+  SILVERPOISE_NODE_FALLBACK = 10,
+  SILVERPOISE_NODE_GUARD = 11
+};
+
+enum {
+  // r of a flag
+  SILVERPOISE_FLAG_REQUIRED = 0,
+  SILVERPOISE_FLAG_SWITCH = 1,
+
+  // r of an argument, or of a positional, which cannot be adjacent
+  SILVERPOISE_VALUE_TEXT = 0,
+  SILVERPOISE_VALUE_ADJACENT_TEXT = 1,
+  SILVERPOISE_VALUE_NUMBER = 2,
+  SILVERPOISE_VALUE_ADJACENT_NUMBER = 3,
+
+  // p of a positional
+  SILVERPOISE_POSITIONAL_UNRESTRICTED = 0,
+  SILVERPOISE_POSITIONAL_STRICT = 1,
+  SILVERPOISE_POSITIONAL_NON_STRICT = 2,
+
+  // r of optional, many and some; 0 is no catch
+  SILVERPOISE_CATCH = 1
+};
+
+enum {
+  SILVERPOISE_NAME_SHORT = 0, // one character
+  SILVERPOISE_NAME_LONG = 1,
+  SILVERPOISE_NAME_TEXT = 2 // the text of a fallback
+};
+
+// The bytes of a form, for the initializer of an array of uint8_t. In this order: counts of nodes, fields, names and bytes of
+// the area, each a U16; the fields, a U16 each; a NODE each; a NAME each, with offset and length in the area; the area.
+#define SILVERPOISE_U16(x) ((x) & 255), (((x) >> 8) & 255)
+#define SILVERPOISE_U32(x) ((x) & 255), (((x) >> 8) & 255), (((x) >> 16) & 255), (((x) >> 24) & 255)
+#define SILVERPOISE_NODE(kind, p, q, r, lo, hi) \
+  SILVERPOISE_U16(kind), SILVERPOISE_U16(p), SILVERPOISE_U16(q), SILVERPOISE_U16(r), SILVERPOISE_U32(lo), SILVERPOISE_U32(hi)
+#define SILVERPOISE_NAME(type, offset, length) SILVERPOISE_U16(type), SILVERPOISE_U16(offset), SILVERPOISE_U16(length)
+
+// ---- Items and answers ----
+
+enum {
+  SILVERPOISE_ITEM_SHORT = 1,    // an option by its character
+  SILVERPOISE_ITEM_LONG = 2,     // an option by its long name
+  SILVERPOISE_ITEM_ARG_WORD = 3, // a value behind a `=`
+  SILVERPOISE_ITEM_WORD = 4,     // any other word
+  SILVERPOISE_ITEM_POS_WORD = 5  // a word from `--` on
+};
+
+// An item as the seven words of its record (4.4). Offsets count from the start of the sheet's area.
+typedef struct {
+  uint32_t kind;
+  uint32_t adjacent;                 // 1: the next item is its value, from the same argument
+  uint32_t character;                // of a Short
+  uint32_t name_offset, name_length; // of a Long
+  uint32_t text_offset, text_length;
+} SilverpoiseItemRecord;
+
+enum {
+  SILVERPOISE_MARK_UNPARSED = 0,
+  SILVERPOISE_MARK_PARSED = 1,
+  SILVERPOISE_MARK_CONFLICT = 2 // plus the place that decided a choice against this one
+};
+
+// Which places are used (5): a place is used if its mark is 1, else it is present.
+typedef struct {
+  uint16_t marks[SILVERPOISE_MAX_ITEMS];
+  uint32_t count;      // of items; the marks behind are 0
+  uint32_t remaining;  // present places in scope
+  uint32_t current;    // the place used last plus 1, or 0
+  uint32_t start, end; // the scope: from start up to, not including, end
+} SilverpoiseState;
+
+typedef struct {
+  uint32_t number, place;
+} SilverpoiseRefused;
+
+// An answer that is a number; refused, it is 0.
+typedef struct {
+  uint32_t number, place;
+  uint32_t answer;
+} SilverpoiseTold;
+
+// An answer in three numbers, whose meaning is said at each call. Where found is 0 the other two are 0, except that
+// silverpoise_pick_winner may give a place. Refused, all three are 0.
+typedef struct {
+  uint32_t number, place;
+  uint32_t found, first, second;
+} SilverpoiseAnswer;
+
+// The same with the new state; refused, the state is the one that was given.
+typedef struct {
+  uint32_t number, place;
+  uint32_t found, first, second;
+  SilverpoiseState state;
+} SilverpoiseStateAnswer;
+
+typedef struct {
+  uint32_t number, place;
+  SilverpoiseState state;
+} SilverpoiseSplitAnswer;
+
+typedef struct {
+  uint32_t number, place;
+  uint32_t tries; // evaluations of flags, arguments and positionals
+  uint32_t words; // answer words; refused, 0
+  SilverpoiseState state;
+} SilverpoiseRunAnswer;
+
+enum {
+  SILVERPOISE_SOURCE_SHEET = 0,
+  SILVERPOISE_SOURCE_FORM = 1
+};
+
+// Where a text stands. The offset counts from the first byte of the sheet or form, not of its area. Refused, all are 0.
+typedef struct {
+  uint32_t number, place;
+  uint32_t source, offset, length;
+} SilverpoiseTextPart;
+
+// The words of an item record; all 0 for none and where refused.
+typedef struct {
+  uint32_t number, place;
+  uint32_t item[SILVERPOISE_RECORD_WORDS];
+} SilverpoiseGot;
+
+// A character of a UTF-8 text and its size in bytes; none: false, 0, 0.
+typedef struct {
+  bool found;
+  uint32_t character, size;
+} SilverpoiseDecoding;
+
+// ---- UTF-8 ----
+
+// Whether the bytes are well-formed.
+bool silverpoise_utf8_valid(const uint8_t *s, size_t s_count);
+
+// The character that begins at byte `at`. None where the bytes there are not well-formed, and at or behind the end.
+SilverpoiseDecoding silverpoise_utf8_decode(const uint8_t *s, size_t s_count, size_t at);
+
+// ---- A form or a sheet alone ----
+
+// 0, or 1 to 4.
+SilverpoiseRefused silverpoise_form_check(const uint8_t *form, size_t form_count);
+
+// 0, 5 or 6.
+SilverpoiseRefused silverpoise_sheet_check(const uint8_t *sheet, size_t sheet_count);
+
+// What silverpoise_kind answers: a base, 1 to 3, and added to it 3 to 12 for what is made of it.
+enum {
+  SILVERPOISE_KIND_YES_NO = 1,
+  SILVERPOISE_KIND_TEXT = 2,
+  SILVERPOISE_KIND_NUMBER = 3,
+
+  SILVERPOISE_KIND_OPTIONAL = 3,
+  SILVERPOISE_KIND_LIST = 6,
+  SILVERPOISE_KIND_LIST_OF_OPTIONAL = 9,
+  SILVERPOISE_KIND_OPTIONAL_LIST = 12
+};
+
+// The kind of a node's value, which says how to read its answer words (8). Refused: 1 to 4, 28.
+SilverpoiseTold silverpoise_kind(const uint8_t *form, size_t form_count, size_t node);
+
+// 1 if the short names of the form are portable (3.6), else 0. Refused: 1 to 4.
+SilverpoiseTold silverpoise_portable(const uint8_t *form, size_t form_count);
+
+// ---- A form and a sheet ----
+
+// Splits a line into items, written to `items`, and gives the state they start in. Refused: 1 to 4, 6, 5, 7, then 8 or 9.
+// After 1 to 8 the item slice is all 0 and the state empty. After 9 the slice has the items up to the Word, and none is used.
+// In every case the words behind the last item are 0.
+SilverpoiseSplitAnswer silverpoise_split(const uint8_t *form, size_t form_count, const uint8_t *sheet, size_t sheet_count,
+                                         uint32_t *items, size_t item_count);
+
+// Reads a line: splits it, evaluates every field, and asks whether an item is left over. The values are written to `answers`,
+// field after field:
+//
+//   yes, no            1, 0
+//   number             itself
+//   text               a word for silverpoise_text: an item's place, or 256 plus the name record of a fallback
+//   optional           0; or 1 and then the value
+//   list               the count of elements, then each element
+//
+// The words behind the last value are 0. Refused: as silverpoise_split, then one of 20 to 27. Refused, the answer slice is all
+// 0 and so is `words`. After 1 to 9 item slice and state are as silverpoise_split leaves them, and `tries` is 0. After 20 to
+// 27 the item slice has the items, and `state` and `tries` are those reached.
+SilverpoiseRunAnswer silverpoise_run(const uint8_t *form, size_t form_count, const uint8_t *sheet, size_t sheet_count,
+                                     uint32_t *items, size_t item_count, uint32_t *answers, size_t answer_count);
+
+// One node on a state, any node of the form; its value is written to `answers`. Refused with 1 to 4, 6, 5, 7, 30, 29 or 28:
+// the answer slice is as it was and the state the given one. Refused with 20 to 26: the answer slice is all 0 and the state
+// the one that the node left.
+SilverpoiseRunAnswer silverpoise_eval(const uint8_t *form, size_t form_count, const uint8_t *sheet, size_t sheet_count,
+                                      const uint32_t *items, size_t item_count, uint32_t *answers, size_t answer_count,
+                                      SilverpoiseState state, size_t node);
+
+// Where the text of an answer word stands. Any item's text is found by its place. Refused: 1 to 4, 6, 5, 7, 30, 28.
+SilverpoiseTextPart silverpoise_text(const uint8_t *form, size_t form_count, const uint8_t *sheet, size_t sheet_count,
+                                     const uint32_t *items, size_t item_count, uint32_t word);
+
+// ---- States alone; refused with 29, then 28 ----
+
+// Uses a place. A place that is used already or out of scope changes nothing, and that is no refusal. found 1.
+SilverpoiseStateAnswer silverpoise_remove(SilverpoiseState state, size_t place);
+
+// Which of two states a choice takes. found: 1 the first, 0 the second. first: the place that decided PLUS 1, or 0 for none.
+SilverpoiseAnswer silverpoise_pick_winner(SilverpoiseState state, SilverpoiseState other);
+
+// Marks every place that the loser used and `state` did not as lost to the place `winner`. found 1.
+SilverpoiseStateAnswer silverpoise_save_conflicts(SilverpoiseState state, SilverpoiseState loser, size_t winner);
+
+// Sets the scope and counts `remaining` anew. found 1.
+SilverpoiseStateAnswer silverpoise_set_scope(SilverpoiseState state, size_t from, size_t to);
+
+// The scope from its start up to the first place that is present in both states. found: 1; 0 if there is no such place, or if
+// that is the scope already. first, second: the scope.
+SilverpoiseAnswer silverpoise_adjacent_scope(SilverpoiseState state, SilverpoiseState original);
+
+// The present places from `from` on without a gap. found 1; first, second: the scope, which may be empty.
+SilverpoiseAnswer silverpoise_adjacently_available_from(SilverpoiseState state, size_t from);
+
+// ---- A sheet, items that are only read, and a state; refused with 6, 5, 7, 30, 29, 28 ----
+
+// The item at a place, if the place is in scope and present.
+SilverpoiseGot silverpoise_get(const uint8_t *sheet, size_t sheet_count, const uint32_t *items, size_t item_count,
+                               SilverpoiseState state, size_t place);
+
+// Whether the first present place in scope lost a choice. found 1 or 0; first: the place, second: the winner's.
+SilverpoiseAnswer silverpoise_conflict(const uint8_t *sheet, size_t sheet_count, const uint32_t *items, size_t item_count,
+                                       SilverpoiseState state);
+
+// Takes the first present Word or PosWord in scope; refused with 20 if there is none. found 1; first: its place; second: 1
+// for a PosWord.
+SilverpoiseStateAnswer silverpoise_take_positional_word(const uint8_t *sheet, size_t sheet_count, const uint32_t *items,
+                                                        size_t item_count, SilverpoiseState state);
+
+// The nearest earlier place with the same character or name as the Short or Long at a place. found 1 or 0; first: that place.
+SilverpoiseAnswer silverpoise_only_once(const uint8_t *sheet, size_t sheet_count, const uint32_t *items, size_t item_count,
+                                        size_t place);
+
+// ---- A form too; refused with 1 to 4, 6, 5, 7, 30, 29, 28 ----
+
+// Whether the item at a place has one of the names of a flag or argument. found 1 or 0.
+SilverpoiseAnswer silverpoise_matches_arg(const uint8_t *form, size_t form_count, const uint8_t *sheet, size_t sheet_count,
+                                          const uint32_t *items, size_t item_count, SilverpoiseState state, size_t node,
+                                          size_t place);
+
+// Takes a flag. found: 1 taken, 0 not there.
+SilverpoiseStateAnswer silverpoise_take_flag(const uint8_t *form, size_t form_count, const uint8_t *sheet,
+                                             size_t sheet_count, const uint32_t *items, size_t item_count,
+                                             SilverpoiseState state, size_t node);
+
+// Takes an argument and its value. found: 1 taken, 0 not there; first: the value's place. Refused with 22 at the key if there
+// is no value.
+SilverpoiseStateAnswer silverpoise_take_arg(const uint8_t *form, size_t form_count, const uint8_t *sheet, size_t sheet_count,
+                                            const uint32_t *items, size_t item_count, SilverpoiseState state, size_t node);
+
+// Takes the first present item in scope if it is a Word, a Short or a Long that is not adjacent, and its text is that of a
+// short or long name record. found: 1 taken; 0 not taken, and `current` of the state becomes none.
+SilverpoiseStateAnswer silverpoise_take_cmd(const uint8_t *form, size_t form_count, const uint8_t *sheet, size_t sheet_count,
+                                            const uint32_t *items, size_t item_count, SilverpoiseState state, size_t record);
+
+// ---- A state that is lent, and items as structs ----
+
+// As silverpoise_remove and silverpoise_take_flag. Refused, the lent state is as it was.
+SilverpoiseAnswer silverpoise_remove_in_place(SilverpoiseState *state, size_t place);
+SilverpoiseAnswer silverpoise_take_flag_in_place(SilverpoiseState *state, const uint8_t *form, size_t form_count,
+                                                 const uint8_t *sheet, size_t sheet_count, const uint32_t *items,
+                                                 size_t item_count, size_t node);
+
+// The first present item in scope that matches a flag or argument. `item_count` is that of the structs. found 1 or 0; first:
+// the place. Refused: 1 to 4, 6, 5, 30, 29, 28.
+SilverpoiseAnswer silverpoise_find(const uint8_t *form, size_t form_count, const uint8_t *sheet, size_t sheet_count,
+                                   const SilverpoiseItemRecord *items, size_t item_count, SilverpoiseState state,
+                                   size_t node);
+
+// ---- Refusals, as bpaf ranks them ----
+
+// True for 20, 21 and 24.
+bool silverpoise_can_catch(uint32_t number);
+
+// True for 9, 22, 23, 24 and 27.
+bool silverpoise_wrong_input(uint32_t number);
+
+// Which of two refusals is left: the second if the first can be caught, else the first. Two 20s give 20 with no place.
+SilverpoiseRefused silverpoise_combine_with(SilverpoiseRefused first, SilverpoiseRefused second);
+
+// ---- The layout that the library was compiled with ----
+
+#if defined(__cplusplus) && __cplusplus >= 201103L
+#define SILVERPOISE_ASSERT static_assert
+#elif !defined(__cplusplus) && defined(__STDC_VERSION__) && __STDC_VERSION__ >= 201112L
+#define SILVERPOISE_ASSERT _Static_assert
+#endif
+
+#ifdef SILVERPOISE_ASSERT
+SILVERPOISE_ASSERT(sizeof(size_t) == 8, "counts and numbers of nodes and places have 64 bits");
+SILVERPOISE_ASSERT(sizeof(SilverpoiseItemRecord) == 28, "an item record has seven words");
+SILVERPOISE_ASSERT(offsetof(SilverpoiseItemRecord, name_offset) == 12, "name_offset");
+SILVERPOISE_ASSERT(offsetof(SilverpoiseItemRecord, text_offset) == 20, "text_offset");
+SILVERPOISE_ASSERT(sizeof(SilverpoiseState) == 532, "a state has 256 marks and five words");
+SILVERPOISE_ASSERT(offsetof(SilverpoiseState, count) == 512, "count");
+SILVERPOISE_ASSERT(offsetof(SilverpoiseState, end) == 528, "end");
+SILVERPOISE_ASSERT(sizeof(SilverpoiseRefused) == 8, "SilverpoiseRefused");
+SILVERPOISE_ASSERT(sizeof(SilverpoiseTold) == 12, "SilverpoiseTold");
+SILVERPOISE_ASSERT(sizeof(SilverpoiseAnswer) == 20, "SilverpoiseAnswer");
+SILVERPOISE_ASSERT(sizeof(SilverpoiseStateAnswer) == 552, "SilverpoiseStateAnswer");
+SILVERPOISE_ASSERT(offsetof(SilverpoiseStateAnswer, state) == 20, "state of SilverpoiseStateAnswer");
+SILVERPOISE_ASSERT(sizeof(SilverpoiseSplitAnswer) == 540, "SilverpoiseSplitAnswer");
+SILVERPOISE_ASSERT(offsetof(SilverpoiseSplitAnswer, state) == 8, "state of SilverpoiseSplitAnswer");
+SILVERPOISE_ASSERT(sizeof(SilverpoiseRunAnswer) == 548, "SilverpoiseRunAnswer");
+SILVERPOISE_ASSERT(offsetof(SilverpoiseRunAnswer, state) == 16, "state of SilverpoiseRunAnswer");
+SILVERPOISE_ASSERT(sizeof(SilverpoiseTextPart) == 20, "SilverpoiseTextPart");
+SILVERPOISE_ASSERT(sizeof(SilverpoiseGot) == 36, "SilverpoiseGot");
+SILVERPOISE_ASSERT(sizeof(SilverpoiseDecoding) == 12, "SilverpoiseDecoding");
+SILVERPOISE_ASSERT(offsetof(SilverpoiseDecoding, character) == 4, "character of SilverpoiseDecoding");
+#undef SILVERPOISE_ASSERT
+#endif
+
+#ifdef __cplusplus
+}
+#endif
+
+#endif

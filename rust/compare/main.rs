@@ -1,0 +1,320 @@
+//! Generated forms and lines through the safe API of the crate, against the real bpaf, in one process.
+//!
+//! Built by `rust/test` with the libraries of `oracle/build`: `line` (formats and cases) and `bpaf` (with the harness).
+//! Compared for every line: number, place, tries, items, marks, values with their texts; that texts are parts of the caller's
+//! arguments; that each item's part of its argument is what it stands for; and the same form built from nodes.
+
+use std::collections::BTreeMap;
+use std::ffi::{OsStr, OsString};
+use std::os::unix::ffi::{OsStrExt, OsStringExt};
+use std::process::ExitCode;
+
+use bpaf::doc::harness::{self, Wanted};
+use line::cases::{self, Case, Rng};
+use line::format::{self, Base, Kind};
+use silverpoise::{Item, ItemKind, Mark, Names, Node, ReadError, Reader, Takes, Value};
+
+/// What is compared of one read.
+#[derive(Debug, PartialEq)]
+struct Seen<'a> {
+    number: u32,
+    place: Option<usize>,
+    tries: u64,
+    values: Vec<Value<'a>>,
+}
+
+#[derive(Default)]
+struct Compared {
+    lines: u64,
+    forms_refused: u64,
+    sheets_left_out: u64,
+    rebuilt: u64,
+    too_large: u64,
+    differ: u64,
+    numbers: BTreeMap<u32, u64>,
+}
+
+impl Compared {
+    fn must(&mut self, holds: bool, case: &Case, what: impl FnOnce() -> String) {
+        if !holds {
+            self.differ += 1;
+            if self.differ <= 10 {
+                println!("DIFFER {}\n  form {:02x?}\n  sheet {:02x?}", what(), case.form, case.sheet);
+            }
+        }
+    }
+
+    fn case(&mut self, reader: &mut Reader, case: &Case) {
+        match (format::Form::check(&case.form), silverpoise::Form::from_bytes(&case.form)) {
+            (Err(theirs), Err(ours)) => {
+                self.forms_refused += 1;
+                let same = (theirs.number, theirs.place) == (ours.number(), ours.place());
+                // the words are found by a reading of their own, which must find a reason
+                let words = ours.to_string();
+                self.must(same && !words.contains("refused"), case, || format!("form {theirs:?}: {ours:?}"));
+            }
+            (Ok(theirs), Ok(ours)) => match format::Sheet::check(&case.sheet) {
+                Ok(sheet) => self.line(reader, case, &theirs, &ours, &sheet),
+                // no arguments give such a sheet
+                Err(_) => self.sheets_left_out += 1,
+            },
+            (theirs, ours) => self.must(false, case, || format!("form {:?}: {:?}", theirs.err(), ours.err())),
+        }
+    }
+
+    fn line(&mut self, reader: &mut Reader, case: &Case, form: &format::Form, ours: &silverpoise::Form, sheet: &format::Sheet) {
+        self.lines += 1;
+        let args: Vec<OsString> = sheet.arguments.iter().map(|arg| OsString::from_vec(arg.clone())).collect();
+        let theirs = harness::run(form, sheet, Wanted { items: true, ..Wanted::default() });
+        let expected = expected(form, sheet, &theirs);
+        *self.numbers.entry(expected.number).or_default() += 1;
+
+        let read = reader.read_values(ours, &args);
+        let items = match &read {
+            Ok(line) => line.items().to_vec(),
+            Err(error) => error.items(),
+        };
+        self.items(case, &args, &theirs, &items);
+        if let Err(error) = &read {
+            self.must(shown_well(error), case, || format!("shown {error}"));
+        }
+        if let Ok(line) = &read {
+            let borrowed = line.values().iter().all(|value| borrowed(value, &args, ours.bytes()));
+            self.must(borrowed, case, || "a text is copied".to_string());
+        }
+        let seen = seen(read.as_ref().map(|line| (line.values(), line.tries())));
+        self.must(seen == expected, case, || format!("{seen:?}, expected {expected:?}"));
+        self.rebuilt(reader, case, form, &args, &expected);
+    }
+
+    /// The same form from nodes. Shared names become names of their own, so a large form may pass a limit.
+    fn rebuilt(&mut self, reader: &mut Reader, case: &Case, form: &format::Form, args: &[OsString], expected: &Seen) {
+        match silverpoise::Form::of(form.fields.iter().map(|field| node(form, *field))) {
+            Err(error) => {
+                self.too_large += 1;
+                self.must(error.number() == 1, case, || format!("form of nodes: {error}"));
+            }
+            Ok(ours) => {
+                self.rebuilt += 1;
+                let read = reader.read_values(&ours, args);
+                let seen = seen(read.as_ref().map(|line| (line.values(), line.tries())));
+                self.must(seen == *expected, case, || format!("form of nodes: {seen:?}, expected {expected:?}"));
+            }
+        }
+    }
+
+    fn items(&mut self, case: &Case, args: &[OsString], theirs: &harness::Run, items: &[Item]) {
+        let same_count = items.len() == theirs.records.len();
+        self.must(same_count, case, || format!("{} items", items.len()));
+        let area: Vec<u8> = args.iter().flat_map(|arg| arg.as_bytes()).copied().collect();
+        for (place, (item, record)) in items.iter().zip(&theirs.records).enumerate() {
+            let same = same_item(item, record, &area) && mark(item.mark) == theirs.state.marks[place];
+            self.must(same, case, || format!("item {place}: {item:?}, expected {record:?}"));
+            let part = &args[item.argument].as_bytes()[item.part.clone()];
+            self.must(stands_for(item, part), case, || format!("part of item {place}: {item:?}"));
+        }
+        // every argument has an item, up to one with an ambiguous letter
+        let numbers: Vec<usize> = items.iter().map(|item| item.argument).collect();
+        let whole = numbers.last() == args.len().checked_sub(1).as_ref() || [8, 9].contains(&theirs.answer.number);
+        let in_order = numbers.first().is_none_or(|first| *first == 0) && numbers.windows(2).all(|two| two[1] - two[0] <= 1);
+        self.must(whole && in_order, case, || format!("arguments of items: {numbers:?}"));
+    }
+}
+
+fn mark(mark: Mark) -> u32 {
+    match mark {
+        Mark::Unused => 0,
+        Mark::Used => 1,
+        Mark::Conflict(winner) => 2 + winner as u32,
+    }
+}
+
+fn same_item(item: &Item, record: &[u32; 7], area: &[u8]) -> bool {
+    let part = |k: usize| OsStr::from_bytes(&area[record[k] as usize..][..record[k + 1] as usize]);
+    let kind = match item.kind {
+        ItemKind::Short(letter) => record[0] == 1 && record[2] == letter as u32,
+        ItemKind::Long(name) => record[0] == 2 && part(3) == name,
+        ItemKind::ArgWord => record[0] == 3,
+        ItemKind::Word => record[0] == 4,
+        ItemKind::PosWord => record[0] == 5,
+    };
+    kind && record[1] == u32::from(item.adjacent) && part(5) == item.text
+}
+
+/// Whether these bytes of an argument are what the item stands for.
+fn stands_for(item: &Item, part: &[u8]) -> bool {
+    match item.kind {
+        // a dash in a cluster is itself a letter
+        ItemKind::Short('-') => part == b"-",
+        ItemKind::Short(letter) => part.strip_prefix(b"-").unwrap_or(part) == letter.to_string().as_bytes(),
+        ItemKind::Long(name) => part.strip_prefix(b"--") == Some(name.as_bytes()),
+        _ => part == item.text.as_bytes(),
+    }
+}
+
+/// A sentence alone, or a sentence, the line and carets. What may be missing is always named.
+fn shown_well(error: &ReadError) -> bool {
+    let text = error.to_string();
+    if text == "something required was not found" {
+        return false;
+    }
+    let lines: Vec<&str> = text.split('\n').collect();
+    match (error.place(), &lines[..]) {
+        (None, [sentence]) => !sentence.is_empty(),
+        (Some(_), [_, line, carets]) => {
+            let under = carets.chars().count() <= line.chars().count() + 1;
+            under && carets.trim_start().chars().all(|c| c == '^') && carets.contains('^')
+        }
+        _ => false,
+    }
+}
+
+/// Whether every text of a value is a part of the arguments' own bytes, or of the form's for a fallback.
+fn borrowed(value: &Value, args: &[OsString], form: &[u8]) -> bool {
+    let within = |part: &[u8], whole: &[u8]| whole.as_ptr_range().contains(&part.as_ptr());
+    match value {
+        Value::Text(text) => {
+            let bytes = text.as_bytes();
+            bytes.is_empty() || within(bytes, form) || args.iter().any(|arg| within(bytes, arg.as_bytes()))
+        }
+        Value::Optional(Some(value)) => borrowed(value, args, form),
+        Value::List(values) => values.iter().all(|value| borrowed(value, args, form)),
+        _ => true,
+    }
+}
+
+fn seen<'a>(read: Result<(&Vec<Value<'a>>, u32), &ReadError>) -> Seen<'a> {
+    match read {
+        Ok((values, tries)) => Seen { number: 0, place: None, tries: tries.into(), values: values.clone() },
+        Err(e) => Seen { number: e.number(), place: e.place(), tries: e.tries().into(), values: Vec::new() },
+    }
+}
+
+/// What bpaf answered, its words read as values.
+fn expected<'a>(form: &'a format::Form, sheet: &'a format::Sheet, run: &harness::Run) -> Seen<'a> {
+    let a = &run.answer;
+    let mut values = Vec::new();
+    if a.number == 0 {
+        let kinds = form.kinds().expect("an accepted form");
+        let mut words = Words { rest: a.words.iter(), form, sheet, run };
+        values = form.fields.iter().map(|field| words.value(kinds[*field as usize])).collect();
+        assert!(words.rest.next().is_none(), "no word is left");
+    }
+    Seen { number: a.number, place: a.place, tries: a.tries, values }
+}
+
+struct Words<'r, 'a> {
+    rest: std::slice::Iter<'r, u32>,
+    form: &'a format::Form,
+    sheet: &'a format::Sheet,
+    run: &'r harness::Run,
+}
+
+impl<'a> Words<'_, 'a> {
+    fn next(&mut self) -> u32 {
+        *self.rest.next().expect("a word")
+    }
+
+    fn base(&mut self, base: Base) -> Value<'a> {
+        let word = self.next();
+        match base {
+            Base::YesNo => Value::YesNo(word == 1),
+            Base::Number => Value::Number(word),
+            Base::Text if word >= 256 => Value::Text(OsStr::from_bytes(self.form.name(word as usize - 256))),
+            Base::Text => Value::Text(self.item_text(word as usize)),
+        }
+    }
+
+    /// The text of an item: the end of the argument that holds its last byte.
+    fn item_text(&self, place: usize) -> &'a OsStr {
+        let [.., offset, length] = self.run.records[place];
+        let (mut from, length) = (offset as usize, length as usize);
+        for argument in self.sheet.arguments.iter().filter(|_| length > 0) {
+            if from < argument.len() {
+                return OsStr::from_bytes(&argument[from..from + length]);
+            }
+            from -= argument.len();
+        }
+        OsStr::new("")
+    }
+
+    fn list(&mut self, element: impl Fn(&mut Self) -> Value<'a>) -> Value<'a> {
+        Value::List((0..self.next()).map(|_| element(self)).collect())
+    }
+
+    fn optional(&mut self, value: impl Fn(&mut Self) -> Value<'a>) -> Value<'a> {
+        Value::Optional((self.next() == 1).then(|| Box::new(value(self))))
+    }
+
+    fn value(&mut self, kind: Kind) -> Value<'a> {
+        match kind {
+            Kind::Base(base) => self.base(base),
+            Kind::Optional(base) => self.optional(|words| words.base(base)),
+            Kind::List(base) => self.list(|words| words.base(base)),
+            Kind::ListOfOptional(base) => self.list(|words| words.optional(|words| words.base(base))),
+            Kind::OptionalList(base) => self.optional(|words| words.list(|words| words.base(base))),
+        }
+    }
+}
+
+/// A node of a form by the crate's constructors.
+fn node(form: &format::Form, number: u16) -> Node {
+    let record = &form.nodes[number as usize];
+    let takes = if record.r & 2 == 2 { Takes::Number } else { Takes::Text };
+    let child = |number: u16| node(form, number);
+    let caught = |node: Node| if record.r == 1 { node.catch() } else { node };
+    match record.kind {
+        format::FLAG if record.r == 1 => Node::switch(names(form, record)),
+        format::FLAG => Node::flag(names(form, record)),
+        format::ARGUMENT if record.r & 1 == 1 => Node::argument(names(form, record), takes).adjacent(),
+        format::ARGUMENT => Node::argument(names(form, record), takes),
+        format::POSITIONAL => match record.p {
+            0 => Node::positional(takes),
+            1 => Node::positional(takes).strict(),
+            _ => Node::positional(takes).non_strict(),
+        },
+        format::OPTIONAL => caught(child(record.p).optional()),
+        format::MANY => caught(child(record.p).many()),
+        format::SOME => caught(child(record.p).some()),
+        format::COUNT => child(record.p).count(),
+        format::LAST => child(record.p).last(),
+        format::CHOICE => child(record.p).or(child(record.q)),
+        format::GUARD => child(record.p).guard(record.lo..=record.hi),
+        _ => match form.kinds().expect("an accepted form")[number as usize] {
+            Kind::Base(Base::YesNo) => child(record.p).fallback(record.lo == 1),
+            Kind::Base(Base::Number) => child(record.p).fallback(record.lo),
+            _ => child(record.p).fallback(OsStr::from_bytes(form.name(record.r as usize))),
+        },
+    }
+}
+
+fn names(form: &format::Form, node: &format::Node) -> Names {
+    (node.p..node.p + node.q).fold(Names::default(), |names, record| {
+        let name = std::str::from_utf8(form.name(record as usize)).expect("a name is UTF-8");
+        match form.names[record as usize].ty {
+            format::SHORT => names.short(name.chars().next().expect("one character")),
+            _ => names.long(name),
+        }
+    })
+}
+
+fn main() -> ExitCode {
+    let words: Vec<u64> = std::env::args().skip(1).map(|word| word.parse().expect("SEED COUNT")).collect();
+    let [seed, count] = words[..] else { panic!("SEED COUNT") };
+    let (mut compared, mut reader, mut rng) = (Compared::default(), Reader::new(), Rng::new(seed));
+    cases::limits().iter().for_each(|case| compared.case(&mut reader, case));
+    while compared.lines < count {
+        let case = if rng.below(8) == 0 { cases::damaged(&mut rng) } else { cases::well_made(&mut rng) };
+        compared.case(&mut reader, &case);
+    }
+    let c = &compared;
+    println!("answered {:?}", c.numbers);
+    println!("{} forms refused, {} sheets that no arguments give", c.forms_refused, c.sheets_left_out);
+    println!("{} forms from nodes, {} too large for it", c.rebuilt, c.too_large);
+    println!("{} lines, {} differ", c.lines, c.differ);
+    if c.differ == 0 {
+        ExitCode::SUCCESS
+    } else {
+        ExitCode::FAILURE
+    }
+}

@@ -1,0 +1,172 @@
+//! The command for people: reads a line by a form that is written as text, and shows how it was read.
+#![forbid(unsafe_code)]
+
+mod bytes;
+mod notation;
+mod notes;
+mod show;
+mod source;
+#[cfg(test)]
+mod tests;
+mod tokens;
+
+use std::ffi::{OsStr, OsString};
+use std::io::{self, IsTerminal, Read, Write};
+use std::os::unix::ffi::OsStrExt;
+use std::process::ExitCode;
+
+use notation::Written;
+use show::Paint;
+use source::{Fault, Spot};
+
+const USAGE: &str = "usage: silverpoise [--emit] [--] FORM WORD...";
+
+const HELP: &str = "\
+Reads the words as a command line by the form, and shows how it was read.
+
+usage: silverpoise [--emit] [--] FORM WORD...
+
+  FORM       a file with one field a line; - is standard input
+  WORD...    the line; all words behind FORM belong to it
+  --emit     write the form as bytes, for `bench` and other programs; no words
+  --help     print this
+  --version  print the version
+
+A form:
+
+  # the name of the field, what it reads, and how
+  limit:   number -l --limit, 1..9999, optional
+  verbose: flag -v, count
+  stand:   (text --cradle or text --stand), else \"bench\"
+  parts:   text, some
+
+  switch NAMES   yes or no               text NAMES, number NAMES   an option's value
+  flag NAMES     yes, must be given      text, number               a word without a name
+  ( ... )        brackets                A or B                     the one that is given
+
+  behind a comma: optional, many, some, count, last, LO..HI, else VALUE, and
+  catch (behind optional, many, some), adjacent (of text NAMES and number NAMES),
+  strict and non-strict (of text and number without names)
+
+Exit status: 0 values, 1 the line is refused, 2 wrong use or a form at fault.
+docs/COMMAND.md says more.
+";
+
+enum Use<'a> {
+    Help,
+    Version,
+    Emit(&'a OsStr),
+    Read(&'a OsStr, &'a [OsString]),
+}
+
+fn main() -> ExitCode {
+    let args = silverpoise::args();
+    let printed = wanted(&args).and_then(run);
+    match printed.and_then(|(status, bytes)| print(&bytes).map(|()| status)) {
+        Ok(status) => ExitCode::from(status),
+        Err(message) => {
+            // nothing is left to do where this cannot be written either
+            let _ = writeln!(io::stderr(), "{message}");
+            ExitCode::from(2)
+        }
+    }
+}
+
+/// What the command's own arguments ask for.
+fn wanted(args: &[OsString]) -> Result<Use<'_>, String> {
+    let mut emit = false;
+    let mut rest = args;
+    while let [first, behind @ ..] = rest {
+        match first.as_bytes() {
+            b"--help" => return Ok(Use::Help),
+            b"--version" => return Ok(Use::Version),
+            b"--emit" => emit = true,
+            b"--" => {
+                rest = behind;
+                break;
+            }
+            [b'-', _, ..] => return Err(format!("silverpoise: there is no option `{}`\n{USAGE}", named(first))),
+            _ => break,
+        }
+        rest = behind;
+    }
+    match rest {
+        [] => Err(format!("silverpoise: a form is needed\n{USAGE}")),
+        [form] if emit => Ok(Use::Emit(form)),
+        [_, ..] if emit => Err(format!("silverpoise: `--emit` takes no words behind the form\n{USAGE}")),
+        [form, line @ ..] => Ok(Use::Read(form, line)),
+    }
+}
+
+/// The exit status, and what is printed.
+fn run(wanted: Use) -> Result<(u8, Vec<u8>), String> {
+    match wanted {
+        Use::Help => Ok((0, HELP.into())),
+        Use::Version => Ok((0, concat!("silverpoise ", env!("CARGO_PKG_VERSION"), "\n").into())),
+        Use::Emit(file) => Ok((0, form(file)?.form.bytes().to_vec())),
+        Use::Read(file, line) => {
+            let (status, text) = read(&form(file)?, line, paint());
+            Ok((status, text.into_bytes()))
+        }
+    }
+}
+
+fn print(bytes: &[u8]) -> Result<(), String> {
+    let mut out = io::stdout();
+    match out.write_all(bytes).and_then(|()| out.flush()) {
+        // the reader is gone, as with `head`
+        Err(error) if error.kind() == io::ErrorKind::BrokenPipe => Ok(()),
+        written => written.map_err(|error| format!("silverpoise: standard output: {error}")),
+    }
+}
+
+/// Colours on a terminal, unless NO_COLOR is set.
+fn paint() -> Paint {
+    let no_colour = std::env::var_os("NO_COLOR").is_some_and(|value| !value.is_empty());
+    Paint(io::stdout().is_terminal() && !no_colour)
+}
+
+fn named(file: &OsStr) -> String {
+    bytes::shown(file.as_bytes())
+}
+
+/// The form that a file has.
+fn form(file: &OsStr) -> Result<Written, String> {
+    let mut bytes = Vec::new();
+    let (name, got) = match file == "-" {
+        true => ("<stdin>".to_string(), io::stdin().read_to_end(&mut bytes)),
+        false => (named(file), std::fs::File::open(file).and_then(|mut open| open.read_to_end(&mut bytes))),
+    };
+    got.map_err(|error| format!("silverpoise: {name}: {error}"))?;
+    let parsed = match std::str::from_utf8(&bytes) {
+        Ok(text) => notation::parse(text),
+        Err(error) => Err(not_utf8(&bytes[..error.valid_up_to()])),
+    };
+    parsed.map_err(|fault| fault.shown(&name, &String::from_utf8_lossy(&bytes)))
+}
+
+/// A stray byte behind these.
+fn not_utf8(before: &[u8]) -> Fault {
+    let before = String::from_utf8_lossy(before);
+    let line = before.rsplit('\n').next().unwrap_or_default();
+    let spot = Spot { line: 1 + before.matches('\n').count(), column: 1 + line.chars().count() };
+    Fault::new(spot, "this byte is not UTF-8; in quotes it can be written as in `\"\\xff\"`")
+}
+
+/// The exit status of a line, and what is shown of it.
+fn read(written: &Written, line: &[OsString], paint: Paint) -> (u8, String) {
+    let answer = written.form.read_values(line);
+    let (status, items, answered, notes) = match &answer {
+        Ok(read) => {
+            let values = show::values(paint, &written.fields, read.values(), read.tries());
+            (0, read.items().to_vec(), values, notes::notes(written, line, read.items(), Ok(read.values())))
+        }
+        Err(error) => {
+            let items = error.items();
+            let notes = notes::notes(written, line, &items, Err(error));
+            (1, items, show::refusal(paint, error), notes)
+        }
+    };
+    let notes: String = notes.iter().map(|words| show::note(paint, words)).collect();
+    (status, format!("{}\n{answered}{notes}", show::line(paint, line, &items)))
+}

@@ -1,0 +1,162 @@
+//! Generated texts and lines: each is answered, and what is shown fits together.
+
+use std::collections::BTreeSet;
+use std::os::unix::ffi::OsStringExt;
+
+use super::*;
+
+/// The same numbers on every machine (a linear congruence, its high bits).
+struct Numbers(u64);
+
+impl Numbers {
+    fn below(&mut self, end: usize) -> usize {
+        self.0 = self.0.wrapping_mul(6364136223846793005).wrapping_add(1442695040888963407);
+        (self.0 >> 33) as usize % end
+    }
+
+    fn pick<'a, T: ?Sized>(&mut self, of: &[&'a T]) -> &'a T {
+        of[self.below(of.len())]
+    }
+}
+
+const LEAVES: [&str; 8] = [
+    "switch -v",
+    "flag -q --quiet",
+    "text -w",
+    "number -w --weight",
+    "text",
+    "number",
+    "text \"--two words\"",
+    "number -\u{e9}",
+];
+
+const MODIFIERS: [&str; 16] = [
+    "optional",
+    "optional, catch",
+    "many",
+    "many, catch",
+    "some",
+    "count",
+    "last",
+    "catch",
+    "adjacent",
+    "strict",
+    "non-strict",
+    "1..9",
+    "9..1",
+    "else 7",
+    "else yes",
+    "else \"x\\xff\"",
+];
+
+/// What damages a text.
+const PIECES: [&str; 14] = [":", ",", "(", ")", " or ", "\"", "\\", "#", "\n", "\t", " -vq", " --a=b", ", 1..", "else"];
+
+fn parser_text(numbers: &mut Numbers, depth: usize) -> String {
+    let mut text = match (depth, numbers.below(4)) {
+        (0, _) | (_, 0 | 1) => numbers.pick(&LEAVES).to_string(),
+        (_, 2) => format!("({})", parser_text(numbers, depth - 1)),
+        _ => format!("{} or {}", parser_text(numbers, depth - 1), parser_text(numbers, depth - 1)),
+    };
+    for _ in 0..numbers.below(3) {
+        text += ", ";
+        text += numbers.pick(&MODIFIERS);
+    }
+    text
+}
+
+/// Fields one a line; in every second text a piece too many.
+fn form_text(numbers: &mut Numbers) -> String {
+    let fields = 1 + numbers.below(3);
+    let field = |k| format!("field-{k}: {}  # comment\n", parser_text(numbers, 2));
+    let mut text: String = (0..fields).map(field).collect();
+    if numbers.below(2) == 0 {
+        let at = numbers.below(text.len());
+        let at = (0..=at).rev().find(|at| text.is_char_boundary(*at)).unwrap_or(0);
+        text.insert_str(at, numbers.pick(&PIECES));
+    }
+    text
+}
+
+/// What a text is at fault for, with the names and numbers of the text itself left out.
+fn sort_of(words: &str) -> String {
+    words.split(|c: char| c == '(' || c.is_ascii_digit()).next().unwrap_or_default().to_string()
+}
+
+#[test]
+fn generated_texts_are_answered() {
+    let mut numbers = Numbers(1);
+    let (mut accepted, mut sorts) = (0, BTreeSet::new());
+    for _ in 0..1_000 {
+        let text = form_text(&mut numbers);
+        match notation::parse(&text) {
+            Ok(written) => {
+                accepted += 1;
+                assert!(silverpoise::Form::from_bytes(written.form.bytes()).is_ok(), "{text:?}");
+            }
+            Err(fault) => {
+                let line = text.lines().nth(fault.spot.line - 1).unwrap_or_default();
+                assert!((1..=1 + line.chars().count()).contains(&fault.spot.column), "{text:?}: {fault:?}");
+                assert!(fault.shown("f", &text).ends_with('^'));
+                sorts.insert(sort_of(&fault.words));
+            }
+        }
+    }
+    assert!(accepted > 50 && sorts.len() > 15, "{accepted} accepted, {sorts:?}");
+}
+
+const FORM: &str =
+    "v: switch -v\nq: flag -q, count\nw: number -w --weight, optional\nl: text -l, else \"x\"\nrest: text, many\n";
+
+fn word(numbers: &mut Numbers) -> OsString {
+    let pieces: [&[u8]; 14] =
+        [b"-", b"-", b"--", b"v", b"q", b"w", b"l", b"x", b"7", b"=", b" ", "é".as_bytes(), b"\xff", b"--weight"];
+    let mut word = Vec::new();
+    for _ in 0..numbers.below(6) {
+        word.extend(numbers.pick(&pieces));
+    }
+    if numbers.below(30) == 0 {
+        word.extend([b'7'; 70]);
+    }
+    OsString::from_vec(word)
+}
+
+/// Each item has its row, in order, with one run of carets, and all marks begin in the same column.
+#[test]
+fn generated_lines_are_shown() {
+    let mut numbers = Numbers(2);
+    let written = notation::parse(FORM).unwrap_or_else(|fault| panic!("{fault:?}"));
+    let mut seen = [0; 2];
+    for _ in 0..200 {
+        let line: Vec<OsString> = (0..1 + numbers.below(12)).map(|_| word(&mut numbers)).collect();
+        let answer = written.form.read_values(&line);
+        let count = answer.as_ref().map_or_else(|error| error.items().len(), |read| read.items().len());
+        let (status, text) = read(&written, &line, Paint(false));
+        seen[status as usize] += 1;
+        let items = text.split("\n\n").next().unwrap_or_default();
+        let rows: Vec<&str> = items.lines().filter(|row| !row.starts_with("line")).collect();
+        assert_eq!(rows.len(), count, "{line:?}\n{text}");
+        let kinds: BTreeSet<Option<usize>> = rows.iter().map(|row| row.find(|c: char| c.is_ascii_uppercase())).collect();
+        assert_eq!(kinds.len(), 1, "{text}");
+        for (place, row) in rows.iter().enumerate() {
+            let carets: Vec<&str> = row.split_whitespace().filter(|word| word.starts_with('^')).collect();
+            assert!(row.starts_with(&format!("{place:4}  ")) && carets.len() == 1 && row.len() <= 100, "{text}");
+        }
+    }
+    assert!(seen.iter().all(|count| *count > 20), "{seen:?}");
+}
+
+/// Colours change nothing but the colours.
+#[test]
+fn painted_lines_are_the_plain_ones() {
+    let written = notation::parse(FORM).unwrap_or_else(|fault| panic!("{fault:?}"));
+    for line in [&["-vw7", "a"][..], &["-v=7"], &["-vx"], &["-w"], &[]] {
+        let line: Vec<OsString> = line.iter().map(OsString::from).collect();
+        let (plain, painted) = (read(&written, &line, Paint(false)), read(&written, &line, Paint(true)));
+        assert!(painted.1.contains("\x1b[1mline\x1b[0m") && !plain.1.contains('\x1b'));
+        let stripped = ["0", "1", "31", "32", "33", "1;31"]
+            .iter()
+            .fold(painted.1, |text, code| text.replace(&format!("\x1b[{code}m"), ""));
+        assert_eq!((painted.0, stripped), plain);
+    }
+}

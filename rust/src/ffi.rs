@@ -1,0 +1,148 @@
+//! The proved code, linked from its static library. This is the only file with `unsafe`.
+//!
+//! Why the calls below are sound: a slice goes over as its pointer and its length, and the callee is proved to touch nothing
+//! outside it and keeps no pointer. Only `&mut` slices are written, and the borrow checker keeps them apart from all others. A
+//! slice of length 0 has a pointer that is not null and is not read. Every struct is numbers alone, so any bits are a value.
+
+/// Words of the least item slice and of the least answer slice that `run` accepts.
+pub const ITEM_WORDS: usize = 1792;
+pub const ANSWER_WORDS: usize = 8240;
+
+/// A place is handed over as itself plus 1, and none as 0.
+#[repr(C)]
+#[derive(Clone, Copy, Debug, PartialEq, Eq)]
+pub struct Refused {
+    pub number: u32,
+    pub place: u32,
+}
+
+#[repr(C)]
+#[derive(Clone, Copy, Debug, PartialEq, Eq)]
+pub struct Told {
+    pub number: u32,
+    pub place: u32,
+    pub answer: u32,
+}
+
+#[repr(C)]
+#[derive(Clone, Copy, Debug, PartialEq, Eq)]
+pub struct State {
+    pub marks: [u16; 256],
+    pub count: u32,
+    pub remaining: u32,
+    pub current: u32,
+    pub start: u32,
+    pub end: u32,
+}
+
+#[repr(C)]
+#[derive(Clone, Copy, Debug, PartialEq, Eq)]
+pub struct RunAnswer {
+    pub number: u32,
+    pub place: u32,
+    pub tries: u32,
+    pub words: u32,
+    pub state: State,
+}
+
+extern "C" {
+    fn silverpoise_form_check(form: *const u8, form_count: usize) -> Refused;
+    fn silverpoise_kind(form: *const u8, form_count: usize, node: usize) -> Told;
+    fn silverpoise_portable(form: *const u8, form_count: usize) -> Told;
+    fn silverpoise_run(
+        form: *const u8,
+        form_count: usize,
+        sheet: *const u8,
+        sheet_count: usize,
+        items: *mut u32,
+        item_count: usize,
+        answers: *mut u32,
+        answer_count: usize,
+    ) -> RunAnswer;
+}
+
+pub fn form_check(form: &[u8]) -> Refused {
+    // SAFETY: as said above
+    unsafe { silverpoise_form_check(form.as_ptr(), form.len()) }
+}
+
+pub fn kind(form: &[u8], node: usize) -> Told {
+    // SAFETY: as said above
+    unsafe { silverpoise_kind(form.as_ptr(), form.len(), node) }
+}
+
+pub fn portable(form: &[u8]) -> Told {
+    // SAFETY: as said above
+    unsafe { silverpoise_portable(form.as_ptr(), form.len()) }
+}
+
+/// The whole run: it checks form, sheet and the lengths of both slices before it does anything else.
+pub fn run(form: &[u8], sheet: &[u8], items: &mut [u32], answers: &mut [u32]) -> RunAnswer {
+    let (item_count, answer_count) = (items.len(), answers.len());
+    let (items, answers) = (items.as_mut_ptr(), answers.as_mut_ptr());
+    let (form_count, sheet_count) = (form.len(), sheet.len());
+    // SAFETY: as said above
+    unsafe { silverpoise_run(form.as_ptr(), form_count, sheet.as_ptr(), sheet_count, items, item_count, answers, answer_count) }
+}
+
+#[cfg(test)]
+mod tests {
+    use super::*;
+    use std::mem::{align_of, offset_of, size_of};
+
+    /// The form of docs/FORMAT.md, section 11, and its sheet `-vv`.
+    const FORM: &[u8] = b"\x02\0\x01\0\x01\0\x01\0\x01\0\x01\0\0\0\x01\0\0\0\0\0\0\0\0\0\0\0\
+        \x07\0\0\0\0\0\0\0\0\0\0\0\0\0\0\0\0\0\0\0\x01\0v";
+    const SHEET: &[u8] = b"\x01\0\0\0\x03\0-vv";
+
+    /// The sizes and offsets of the declarations in C (docs/FORMAT.md, 10.1).
+    #[test]
+    fn layouts() {
+        assert_eq!((size_of::<Refused>(), align_of::<Refused>()), (8, 4));
+        assert_eq!((size_of::<Told>(), align_of::<Told>()), (12, 4));
+        assert_eq!((size_of::<State>(), align_of::<State>()), (532, 4));
+        assert_eq!((size_of::<RunAnswer>(), align_of::<RunAnswer>()), (548, 4));
+        assert_eq!((offset_of!(Refused, number), offset_of!(Refused, place), offset_of!(Told, answer)), (0, 4, 8));
+        assert_eq!((offset_of!(State, marks), offset_of!(State, count), offset_of!(State, remaining)), (0, 512, 516));
+        assert_eq!((offset_of!(State, current), offset_of!(State, start), offset_of!(State, end)), (520, 524, 528));
+        assert_eq!((offset_of!(RunAnswer, number), offset_of!(RunAnswer, place)), (0, 4));
+        assert_eq!((offset_of!(RunAnswer, tries), offset_of!(RunAnswer, words), offset_of!(RunAnswer, state)), (8, 12, 16));
+    }
+
+    /// Each field of each struct holds what it is named for.
+    #[test]
+    fn known_answers() {
+        assert_eq!(form_check(FORM), Refused { number: 0, place: 0 });
+        assert_eq!(kind(FORM, 1), Told { number: 0, place: 0, answer: 3 });
+        assert_eq!(portable(FORM), Told { number: 0, place: 0, answer: 1 });
+        let (mut items, mut answers) = ([9; ITEM_WORDS], [9; ANSWER_WORDS]);
+        let ran = run(FORM, SHEET, &mut items, &mut answers);
+        assert_eq!((ran.number, ran.place, ran.tries, ran.words, answers[0]), (0, 0, 3, 1, 2));
+        let s = ran.state;
+        assert_eq!((s.count, s.remaining, s.current, s.start, s.end), (2, 0, 2, 0, 2));
+        assert_eq!((s.marks[..3].to_vec(), items[..7].to_vec()), (vec![1, 1, 0], vec![1, 0, 118, 0, 0, 0, 3]));
+        assert!(items[14..].iter().chain(&answers[1..]).all(|word| *word == 0));
+    }
+
+    /// A slice of length 0 is answered like any other.
+    #[test]
+    fn empty_slices() {
+        assert_eq!(form_check(&[]), Refused { number: 1, place: 0 });
+        assert_eq!(kind(&[], 0), Told { number: 1, place: 0, answer: 0 });
+        assert_eq!(portable(&[]), Told { number: 1, place: 0, answer: 0 });
+        let (mut items, mut answers) = (vec![9; ITEM_WORDS], vec![9; ANSWER_WORDS]);
+        assert_eq!(run(&[], SHEET, &mut items, &mut answers).number, 1);
+        assert_eq!(run(FORM, &[], &mut items, &mut answers).number, 5);
+        assert_eq!(run(FORM, SHEET, &mut [], &mut answers).number, 7);
+        assert_eq!(run(FORM, SHEET, &mut items, &mut []).number, 7);
+        assert_eq!(run(&[], &[], &mut [], &mut []).number, 1);
+    }
+
+    /// A slice that is too short is refused, and no word behind it is touched.
+    #[test]
+    fn short_slices() {
+        let (mut items, mut answers) = ([9; ITEM_WORDS], [9; ANSWER_WORDS]);
+        assert_eq!(run(FORM, SHEET, &mut items[..ITEM_WORDS - 1], &mut answers).number, 7);
+        assert_eq!((items[ITEM_WORDS - 2], items[ITEM_WORDS - 1], answers[ANSWER_WORDS - 1]), (0, 9, 0));
+    }
+}

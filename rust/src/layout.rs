@@ -1,0 +1,102 @@
+//! A form's bytes: written from records, and read back as records.
+
+use crate::node::{Node, Record};
+
+/// The limits of a form: nodes, fields, name records, bytes of the area.
+pub(crate) const NODES: usize = 64;
+pub(crate) const FIELDS: usize = 16;
+pub(crate) const NAMES: usize = 128;
+pub(crate) const AREA: usize = 4096;
+
+/// A form's bytes. All numbers must fit into two bytes, which the limits see to.
+pub(crate) fn write(all: &Node, fields: &[usize]) -> Vec<u8> {
+    let area: Vec<u8> = all.names.iter().flat_map(|(_, bytes)| bytes).copied().collect();
+    let mut out = Vec::new();
+    let mut put = |number: usize| out.extend((number as u16).to_le_bytes());
+    [all.nodes.len(), fields.len(), all.names.len(), area.len()].into_iter().for_each(&mut put);
+    fields.iter().copied().for_each(put);
+    for node in &all.nodes {
+        [node.kind as usize, node.p, node.q, node.r].iter().for_each(|n| out.extend((*n as u16).to_le_bytes()));
+        [node.lo, node.hi].iter().for_each(|n| out.extend(n.to_le_bytes()));
+    }
+    let mut offset = 0;
+    for (ty, bytes) in &all.names {
+        [*ty as usize, offset, bytes.len()].iter().for_each(|n| out.extend((*n as u16).to_le_bytes()));
+        offset += bytes.len();
+    }
+    out.extend(area);
+    out
+}
+
+/// The records of a form of the right length and counts: any but one that is refused with 1.
+#[derive(Clone, Copy)]
+pub(crate) struct Layout<'a> {
+    bytes: &'a [u8],
+}
+
+impl<'a> Layout<'a> {
+    pub fn of(bytes: &'a [u8]) -> Layout<'a> {
+        Layout { bytes }
+    }
+
+    fn u16_at(self, at: usize) -> usize {
+        u16::from_le_bytes([self.bytes[at], self.bytes[at + 1]]) as usize
+    }
+
+    fn u32_at(self, at: usize) -> u32 {
+        self.u16_at(at) as u32 + ((self.u16_at(at + 2) as u32) << 16)
+    }
+
+    pub fn nodes(self) -> usize {
+        self.u16_at(0)
+    }
+
+    pub fn fields(self) -> usize {
+        self.u16_at(2)
+    }
+
+    pub fn names(self) -> usize {
+        self.u16_at(4)
+    }
+
+    /// The length of the area.
+    pub fn area(self) -> usize {
+        self.u16_at(6)
+    }
+
+    /// The length that the counts ask for.
+    pub fn length(self) -> usize {
+        8 + 2 * self.fields() + 16 * self.nodes() + 6 * self.names() + self.area()
+    }
+
+    /// The node number of a field.
+    pub fn field(self, field: usize) -> usize {
+        self.u16_at(8 + 2 * field)
+    }
+
+    pub fn node(self, node: usize) -> Record {
+        let at = 8 + 2 * self.fields() + 16 * node;
+        let number = |k: usize| self.u16_at(at + 2 * k);
+        let (lo, hi) = (self.u32_at(at + 8), self.u32_at(at + 12));
+        Record { kind: number(0) as u16, p: number(1), q: number(2), r: number(3), lo, hi, fallback: None }
+    }
+
+    /// A name record's type, offset and length.
+    fn name_record(self, record: usize) -> (u16, usize, usize) {
+        let at = 8 + 2 * self.fields() + 16 * self.nodes() + 6 * record;
+        (self.u16_at(at) as u16, self.u16_at(at + 2), self.u16_at(at + 4))
+    }
+
+    /// Whether a name record's part lies in the area.
+    pub fn has_part(self, record: usize) -> bool {
+        let (_, offset, length) = self.name_record(record);
+        offset + length <= self.area()
+    }
+
+    /// A name record's type and bytes; no bytes where its part is not in the area.
+    pub fn name(self, record: usize) -> (u16, &'a [u8]) {
+        let (ty, offset, length) = self.name_record(record);
+        let area = &self.bytes[self.length() - self.area()..];
+        (ty, area.get(offset..offset + length).unwrap_or_default())
+    }
+}

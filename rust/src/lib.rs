@@ -1,0 +1,85 @@
+//! Command lines read by the proved code of Silverpoise.
+//!
+//! A form says which options exist. It is built in a few lines and checked at once; a line is read to a tuple of values, or
+//! to an error that says what was refused and shows where.
+//!
+//! ```
+//! use std::ffi::OsStr;
+//! use silverpoise::{long, positional, short, Text, TypedForm};
+//!
+//! let form = TypedForm::of((
+//!     short('v').long("verbose").flag().count(),
+//!     short('l').long("limit").argument::<u32>().guard(1..=9999).fallback(500),
+//!     long("cradle").argument::<Text>().or(long("stand").argument::<Text>()).optional(),
+//!     positional::<Text>().some(),
+//! ))?;
+//!
+//! let args = ["-vvl7", "--cradle=left", "lock", "chain"]; // or silverpoise::args()
+//! let (verbose, limit, at, parts) = form.read(&args)?;
+//! assert_eq!((verbose, limit, at), (2, 7, Some(OsStr::new("left"))));
+//! assert_eq!(parts, ["lock", "chain"]);
+//!
+//! let error = form.read(&["lock", "-vl"]).unwrap_err();
+//! assert_eq!(error.with_program("wear").to_string(), "\
+//! `-l` needs a value, and none follows it
+//!   wear lock -vl
+//!               ^");
+//! # Ok::<(), Box<dyn std::error::Error>>(())
+//! ```
+//!
+//! - **Arguments** are a slice of anything that is an `OsStr`, without the program's name: the caller keeps them, and texts
+//!   are parts of them. An iterator such as `args_os()` would be used up by the read, and its texts with it; so [`args`]
+//!   collects this program's arguments first.
+//! - **Types**: [`TypedForm`] over [`Parser`]s; wrong combinations do not compile, and what types cannot say is a
+//!   [`FormError`]. [`TypedForm::with_help`] adds `-h` and `-V`.
+//! - **Without types**: [`Form`] over [`Node`]s, for options that are known only at run time; its values are [`Value`]s.
+//! - **What was read**: [`TypedForm::read_line`] and [`ReadError`] have the items, which of them were used, and the tries.
+//! - **Many lines**: a [`Reader`] keeps the buffers.
+//!
+//! What each parser does, and the numbers of the refusals, are in the project's docs/FORMAT.md.
+//!
+//! # What is proved
+//!
+//! The form check, the splitting and the run are the proved code, and every read runs all of it: a form is checked again each
+//! time, and a line is never run unchecked. Writing the arguments as a sheet, reading the answer words as values and all texts
+//! for people are this crate's, in safe Rust, and compared with the real bpaf by `rust/test`. The calls themselves are in one
+//! file, `src/ffi.rs`, the only one with `unsafe`.
+#![deny(unsafe_code)]
+#![warn(missing_docs)]
+
+#[allow(unsafe_code)]
+mod ffi;
+mod form;
+mod form_words;
+mod help;
+mod item;
+mod layout;
+mod line;
+mod names;
+mod needs;
+mod node;
+mod parser;
+mod read_error;
+mod read_words;
+mod reader;
+pub mod shape;
+mod shown;
+mod typed;
+mod value;
+
+pub use form::{Form, FormError};
+pub use help::{Answer, HelpForm};
+pub use item::{Item, ItemKind, Mark};
+pub use line::Line;
+pub use names::{long, short, Names};
+pub use node::{Fallback, Node, Takes};
+pub use parser::{positional, Base, Element, Kind, Parser, Taken, Text};
+pub use read_error::ReadError;
+pub use reader::Reader;
+pub use typed::{Fields, Kinds, TypedForm};
+pub use value::Value;
+
+/// The arguments of this program, behind its name.
+pub fn args() -> Vec<std::ffi::OsString> {
+    std::env::args_os().skip(1).collect()
+}

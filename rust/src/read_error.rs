@@ -1,0 +1,107 @@
+//! Why a line was refused.
+
+use std::ffi::{OsStr, OsString};
+use std::fmt;
+use std::ops::Range;
+
+use crate::form::place;
+use crate::item::{Area, Item};
+use crate::read_words::{sentence, spot};
+use crate::reader::Run;
+use crate::shown::underlined;
+
+/// Why a line was refused. Its `Display` says in words what was refused, and shows the line with the place underlined.
+///
+/// It owns what it shows, so that it can be handed up with `?`.
+#[derive(Clone, PartialEq, Eq)]
+pub struct ReadError(Box<Inner>);
+
+#[derive(Clone, PartialEq, Eq)]
+struct Inner {
+    number: u32,
+    place: Option<usize>,
+    tries: u32,
+    sentence: String,
+    /// the argument that is shown, and which bytes of it
+    spot: Option<(usize, Range<usize>)>,
+    program: Option<OsString>,
+    /// empty where the line was not split
+    args: Vec<OsString>,
+    records: Vec<u32>,
+    marks: Vec<u16>,
+}
+
+impl ReadError {
+    pub(crate) fn new(run: &Run) -> ReadError {
+        let answer = &run.answer;
+        let (place, items) = (place(answer.place), run.items());
+        let split = !run.records.is_empty();
+        ReadError(Box::new(Inner {
+            number: answer.number,
+            place,
+            tries: answer.tries,
+            sentence: sentence(run, &items, place),
+            spot: spot(run, &items, place),
+            program: None,
+            args: if split { run.args.iter().map(OsString::from).collect() } else { Vec::new() },
+            records: run.records.to_vec(),
+            marks: answer.state.marks[..answer.state.count as usize].to_vec(),
+        }))
+    }
+
+    /// The same, with the program's name before the arguments where the line is shown.
+    pub fn with_program(mut self, name: impl AsRef<OsStr>) -> ReadError {
+        self.0.program = Some(name.as_ref().to_os_string());
+        self
+    }
+
+    /// The refusal's number (docs/FORMAT.md, section 9).
+    pub fn number(&self) -> u32 {
+        self.0.number
+    }
+
+    /// The place of the item that the refusal is about, if it is about one.
+    pub fn place(&self) -> Option<usize> {
+        self.0.place
+    }
+
+    /// How often a flag, an argument or a positional was evaluated.
+    pub fn tries(&self) -> u32 {
+        self.0.tries
+    }
+
+    /// The items of the line, each with whether it was used. None where the line could not be split (5 to 8); for 9 those up
+    /// to the place.
+    pub fn items(&self) -> Vec<Item<'_>> {
+        let args: Vec<&OsStr> = self.0.args.iter().map(OsString::as_os_str).collect();
+        let starts: Vec<usize> = starts(&args).collect();
+        Area { args: &args, starts: &starts }.items(&self.0.records, &self.0.marks)
+    }
+}
+
+/// Where each argument begins when all stand one behind the other.
+fn starts<'r>(args: &'r [&OsStr]) -> impl Iterator<Item = usize> + 'r {
+    args.iter().scan(0, |end, arg| {
+        let start = *end;
+        *end += arg.len();
+        Some(start)
+    })
+}
+
+impl fmt::Display for ReadError {
+    fn fmt(&self, f: &mut fmt::Formatter<'_>) -> fmt::Result {
+        f.write_str(&self.0.sentence)?;
+        let Some((argument, part)) = &self.0.spot else { return Ok(()) };
+        let args: Vec<&OsStr> = self.0.args.iter().map(OsString::as_os_str).collect();
+        write!(f, "\n{}", underlined(self.0.program.as_deref(), &args, *argument, part))
+    }
+}
+
+impl fmt::Debug for ReadError {
+    fn fmt(&self, f: &mut fmt::Formatter<'_>) -> fmt::Result {
+        write!(f, "ReadError {{ number: {}, place: {:?}, tries: {} }}", self.number(), self.place(), self.tries())?;
+        write!(f, "\n{self}")
+    }
+}
+
+impl std::error::Error for ReadError {}

@@ -1,0 +1,130 @@
+//! A refused line in words.
+
+use std::ops::Range;
+use std::os::unix::ffi::OsStrExt;
+
+use crate::item::{Item, ItemKind, Mark};
+use crate::needs::{has_option, required};
+use crate::node::{LONG, SHORT};
+use crate::reader::{Run, ARGUMENTS};
+use crate::shown::quoted;
+
+/// What was refused, in a sentence.
+pub(crate) fn sentence(run: &Run, items: &[Item], place: Option<usize>) -> String {
+    let item = place.and_then(|place| items.get(place));
+    match (run.answer.number, item) {
+        (5, _) => format!("the arguments have {} bytes together, and at most 32768 are read", bytes(run)),
+        (6, _) => format!("there are {} arguments, and at most {ARGUMENTS} are read", run.args.len()),
+        (7, _) => "a buffer is too short".to_string(),
+        (8, _) => "the arguments are more than 256 options and words".to_string(),
+        (9, Some(item)) => ambiguous(run, items, item),
+        (20, _) => missing(&required(run.form.layout(), 20)),
+        (21, _) => missing(&required(run.form.layout(), 21)),
+        (22, Some(key)) => no_value(key, place.and_then(|place| items.get(place + 1))),
+        (23, Some(item)) => format!("{} must stand behind `--`", name(item)),
+        (24, Some(item)) => format!("{} stands behind `--`, and must stand before it", name(item)),
+        (25, Some(item)) => format!("{} is not a number from 0 to 4294967295", name(item)),
+        (26, Some(_)) => "a number is out of its bounds; the word that was taken last is shown".to_string(),
+        (26, None) => "a number is out of its bounds, and no word was taken".to_string(),
+        (27, Some(item)) => left_over(run, items, item),
+        (number, _) => format!("the line is refused with {number}"),
+    }
+}
+
+/// The argument and the bytes of it that a refusal is about.
+pub(crate) fn spot(run: &Run, items: &[Item], place: Option<usize>) -> Option<(usize, Range<usize>)> {
+    let item = items.get(place?)?;
+    let part = if run.answer.number == 9 { ambiguous_letter(run, items, item) } else { item.part.clone() };
+    Some((item.argument, part))
+}
+
+fn bytes(run: &Run) -> usize {
+    run.args.iter().map(|arg| arg.len()).sum()
+}
+
+/// An option's name or a word's text, in backquotes.
+fn name(item: &Item) -> String {
+    match item.kind {
+        ItemKind::Short(letter) => quoted(format!("-{letter}").as_bytes()),
+        ItemKind::Long(name) => quoted(&[b"--", name.as_bytes()].concat()),
+        _ => quoted(item.text.as_bytes()),
+    }
+}
+
+/// The letter behind those that the cluster gave before it was refused.
+fn ambiguous_letter(run: &Run, items: &[Item], word: &Item) -> Range<usize> {
+    let letters = items.iter().filter(|item| item.argument == word.argument && matches!(item.kind, ItemKind::Short(_)));
+    let from = 1 + letters.map(|item| item.part.len()).sum::<usize>();
+    let rest = run.args[word.argument].to_str().and_then(|text| text.get(from..)).unwrap_or_default();
+    from..from + rest.chars().next().map_or(0, char::len_utf8)
+}
+
+fn ambiguous(run: &Run, items: &[Item], word: &Item) -> String {
+    let letter = &word.text.as_bytes()[ambiguous_letter(run, items, word)];
+    format!(
+        "the letter {} in {} may be a flag and may take a value: it must be given apart",
+        quoted(letter),
+        quoted(word.text.as_bytes())
+    )
+}
+
+fn missing(required: &[String]) -> String {
+    match required {
+        [] => "something required was not found".to_string(),
+        [one] => format!("{one} is required, and was not found"),
+        all => format!("something required was not found; required are {}", all.join(", ")),
+    }
+}
+
+fn no_value(key: &Item, next: Option<&Item>) -> String {
+    let key_name = name(key);
+    match next {
+        Some(next) if matches!(next.kind, ItemKind::Short(_) | ItemKind::Long(_)) => {
+            let hint = with_equals(key, next).map_or(String::new(), |hint| format!(" (as its value: {hint})"));
+            format!("{key_name} needs a value, and {} behind it is an option{hint}", quoted(next.text.as_bytes()))
+        }
+        Some(next) if matches!(next.kind, ItemKind::Word | ItemKind::ArgWord) => {
+            format!("{key_name} needs a value, and {} behind it is taken already", name(next))
+        }
+        _ => format!("{key_name} needs a value, and none follows it"),
+    }
+}
+
+/// A key and the argument behind it as one argument. A short name that is not ASCII cannot be given so.
+fn with_equals(key: &Item, value: &Item) -> Option<String> {
+    let option = match key.kind {
+        ItemKind::Short(letter) if letter.is_ascii() => format!("-{letter}").into_bytes(),
+        ItemKind::Long(name) => [b"--", name.as_bytes()].concat(),
+        _ => return None,
+    };
+    Some(quoted(&[&option[..], b"=", value.text.as_bytes()].concat()))
+}
+
+fn left_over(run: &Run, items: &[Item], item: &Item) -> String {
+    let shown = name(item);
+    if let Mark::Conflict(winner) = item.mark {
+        return format!("{shown} cannot be given together with {}", name(&items[winner]));
+    }
+    match item.kind {
+        ItemKind::Short(_) | ItemKind::Long(_) if !known(run, item) => format!("{shown} is not a known option"),
+        ItemKind::ArgWord => format!("{} is taken as a flag, and {shown} is given to it as a value", key_of(items, item)),
+        ItemKind::Word if item.text.len() > 1 && item.text.as_bytes()[0] == b'-' => {
+            format!("{shown} is not expected here: it is read as a word, not as options")
+        }
+        _ => format!("{shown} is not expected here"),
+    }
+}
+
+/// Whether the form has an option of this name.
+fn known(run: &Run, item: &Item) -> bool {
+    match item.kind {
+        ItemKind::Short(letter) => has_option(run.form.layout(), SHORT, letter.to_string().as_bytes()),
+        ItemKind::Long(name) => has_option(run.form.layout(), LONG, name.as_bytes()),
+        _ => false,
+    }
+}
+
+/// The option that a value behind a `=` was given to: the first of its argument.
+fn key_of(items: &[Item], value: &Item) -> String {
+    items.iter().find(|item| item.argument == value.argument).map_or(String::new(), name)
+}

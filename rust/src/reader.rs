@@ -1,0 +1,163 @@
+//! Reading a line: arguments become a sheet, the proved code runs the form on it, and its words become values.
+
+use std::ffi::OsStr;
+use std::os::unix::ffi::OsStrExt;
+
+use crate::ffi::{self, RunAnswer};
+use crate::form::Form;
+use crate::item::{Area, Item};
+use crate::line::Line;
+use crate::read_error::ReadError;
+use crate::typed::{Kinds, TypedForm};
+use crate::value::{Value, Words};
+
+/// The most arguments of a line.
+pub(crate) const ARGUMENTS: usize = 256;
+
+/// The buffers of a read, kept from line to line: [`read`](Reader::read) then allocates nothing but its values and a list of
+/// references to its arguments, [`read_values`](Reader::read_values) the items besides.
+#[derive(Debug)]
+pub struct Reader {
+    sheet: Vec<u8>,
+    starts: Vec<usize>,
+    items: Vec<u32>,
+    answers: Vec<u32>,
+}
+
+/// What a run left, with what it was run on.
+pub struct Run<'r, 'a> {
+    pub(crate) form: &'a Form,
+    pub(crate) args: Vec<&'a OsStr>,
+    pub(crate) answer: RunAnswer,
+    /// where each argument begins in the sheet's area
+    pub(crate) starts: &'r [usize],
+    /// the records of the items
+    pub(crate) records: &'r [u32],
+    pub(crate) words: &'r [u32],
+}
+
+impl Reader {
+    /// A reader with buffers of its own, about 40 KB.
+    pub fn new() -> Reader {
+        let (items, answers) = (vec![0; ffi::ITEM_WORDS], vec![0; ffi::ANSWER_WORDS]);
+        Reader { sheet: Vec::new(), starts: Vec::new(), items, answers }
+    }
+
+    /// Reads a line under an untyped form, as [`Form::read_values`] does.
+    pub fn read_values<'a, A: AsRef<OsStr>>(
+        &mut self,
+        form: &'a Form,
+        args: &'a [A],
+    ) -> Result<Line<'a, Vec<Value<'a>>>, ReadError> {
+        let run = self.run(form, args)?;
+        let mut words = Words::new(&run);
+        let values = form.kinds().iter().map(|kind| words.value(*kind)).collect();
+        Ok(Line::new(values, &run))
+    }
+
+    /// Reads a line under a form with types, as [`TypedForm::read`] does.
+    pub fn read<'a, K: Kinds, A: AsRef<OsStr>>(
+        &mut self,
+        form: &'a TypedForm<K>,
+        args: &'a [A],
+    ) -> Result<K::Values<'a>, ReadError> {
+        let run = self.run(form.form(), args)?;
+        Ok(K::read(&mut Words::new(&run)))
+    }
+
+    /// Runs a form on a line, to its values or its refusal.
+    pub(crate) fn run<'r, 'a, A: AsRef<OsStr>>(&'r mut self, form: &'a Form, args: &'a [A]) -> Result<Run<'r, 'a>, ReadError> {
+        let args: Vec<&OsStr> = args.iter().map(AsRef::as_ref).collect();
+        self.write_sheet(&args);
+        let answer = ffi::run(form.bytes(), &self.sheet, &mut self.items, &mut self.answers);
+        let records = &self.items[..7 * answer.state.count as usize];
+        let words = &self.answers[..answer.words as usize];
+        let run = Run { form, args, answer, starts: &self.starts, records, words };
+        match answer.number {
+            0 => Ok(run),
+            _ => Err(ReadError::new(&run)),
+        }
+    }
+
+    /// The sheet of any arguments. What a sheet cannot hold is cut so that the run refuses it by its number: of too many
+    /// arguments only the count is written (6), and too long an area has offsets that cannot fit it (5).
+    fn write_sheet(&mut self, args: &[&OsStr]) {
+        let cut = |number: usize| u16::try_from(number).unwrap_or(u16::MAX).to_le_bytes();
+        self.sheet.clear();
+        self.starts.clear();
+        self.sheet.extend(cut(args.len()));
+        if args.len() > ARGUMENTS {
+            return;
+        }
+        let mut offset = 0;
+        self.sheet.extend(cut(offset));
+        for arg in args {
+            self.starts.push(offset);
+            offset += arg.len();
+            self.sheet.extend(cut(offset));
+        }
+        args.iter().for_each(|arg| self.sheet.extend(arg.as_bytes()));
+    }
+}
+
+impl Default for Reader {
+    fn default() -> Reader {
+        Reader::new()
+    }
+}
+
+impl<'a> Run<'_, 'a> {
+    pub(crate) fn area(&self) -> Area<'_, 'a> {
+        Area { args: &self.args, starts: self.starts }
+    }
+
+    pub(crate) fn items(&self) -> Vec<Item<'a>> {
+        self.area().items(self.records, &self.answer.state.marks)
+    }
+
+    /// The text that an answer word stands for: an item's, or from 256 on a name record's.
+    pub(crate) fn text(&self, word: u32) -> &'a OsStr {
+        match word.checked_sub(256) {
+            Some(record) => OsStr::from_bytes(self.form.layout().name(record as usize).1),
+            None => {
+                let at = 7 * word as usize;
+                self.area().part(self.records[at + 5], self.records[at + 6])
+            }
+        }
+    }
+}
+
+#[cfg(test)]
+mod tests {
+    use super::*;
+    use crate::{names::short, node::Node};
+
+    /// No caller can make a reader with short buffers; if there were one, the run would refuse it.
+    #[test]
+    fn short_buffers_are_refused() {
+        let form = Form::of([Node::switch(short('v'))]).unwrap();
+        let mut reader = Reader::new();
+        reader.items.pop();
+        let error = reader.read_values(&form, &["-v"]).unwrap_err();
+        assert_eq!((error.number(), error.to_string()), (7, "a buffer is too short".to_string()));
+        assert_eq!((error.place(), error.tries(), error.items()), (None, 0, vec![]));
+    }
+
+    /// The sheets of docs/FORMAT.md, section 2, and those that say too much.
+    #[test]
+    fn sheets() {
+        let mut reader = Reader::new();
+        let mut sheet = |args: &[&str]| {
+            let args: Vec<&OsStr> = args.iter().map(OsStr::new).collect();
+            reader.write_sheet(&args);
+            reader.sheet.clone()
+        };
+        assert_eq!(sheet(&[]), b"\0\0\0\0");
+        assert_eq!(sheet(&["-vv"]), b"\x01\0\0\0\x03\0-vv");
+        assert_eq!(sheet(&["", "a"]), b"\x02\0\0\0\0\0\x01\0a");
+        assert_eq!(sheet(&["a"; 257]), b"\x01\x01");
+        assert_eq!(sheet(&["a"; 65_537]), b"\xff\xff");
+        let long = "x".repeat(65_536);
+        assert_eq!(sheet(&[&long, ""])[..8], *b"\x02\0\0\0\xff\xff\xff\xff");
+    }
+}

@@ -1,0 +1,113 @@
+//! Kinds of values, values, and the answer words that they are read from.
+
+use std::ffi::OsStr;
+
+use crate::reader::Run;
+
+#[derive(Clone, Copy, Debug, PartialEq, Eq)]
+pub(crate) enum Base {
+    YesNo,
+    Text,
+    Number,
+}
+
+#[derive(Clone, Copy, Debug, PartialEq, Eq)]
+pub(crate) enum Kind {
+    Base(Base),
+    Optional(Base),
+    List(Base),
+    ListOfOptional(Base),
+    OptionalList(Base),
+}
+
+impl Kind {
+    /// A kind by the number that the proved code has for it.
+    pub fn of_code(code: u32) -> Option<Kind> {
+        let base = [Base::YesNo, Base::Text, Base::Number][(code.checked_sub(1)? % 3) as usize];
+        Some(match (code - 1) / 3 {
+            0 => Kind::Base(base),
+            1 => Kind::Optional(base),
+            2 => Kind::List(base),
+            3 => Kind::ListOfOptional(base),
+            4 => Kind::OptionalList(base),
+            _ => return None,
+        })
+    }
+}
+
+/// A value of a field. Texts are parts of the arguments that were read, or of the form where a fallback gave them.
+#[derive(Clone, Debug, PartialEq, Eq)]
+pub enum Value<'a> {
+    /// of a flag or switch
+    YesNo(bool),
+    /// of an argument or positional that takes a number, or of a count
+    Number(u32),
+    /// of an argument or positional that takes a text
+    Text(&'a OsStr),
+    /// of an optional
+    Optional(Option<Box<Value<'a>>>),
+    /// of a many or some
+    List(Vec<Value<'a>>),
+}
+
+/// The answer words of an accepted run, read from the left.
+///
+/// That there are as many words as the fields' kinds ask for, and that each text word is an item or a text name, is proved
+/// of the run; if it were not so, reading them would panic.
+pub struct Words<'r, 'a> {
+    run: &'r Run<'r, 'a>,
+    rest: std::slice::Iter<'r, u32>,
+}
+
+impl<'r, 'a> Words<'r, 'a> {
+    pub(crate) fn new(run: &'r Run<'r, 'a>) -> Words<'r, 'a> {
+        Words { run, rest: run.words.iter() }
+    }
+
+    pub(crate) fn number(&mut self) -> u32 {
+        *self.rest.next().expect("a word for each value")
+    }
+
+    pub(crate) fn yes_no(&mut self) -> bool {
+        self.number() == 1
+    }
+
+    pub(crate) fn text(&mut self) -> &'a OsStr {
+        let word = self.number();
+        self.run.text(word)
+    }
+
+    pub(crate) fn optional<T>(&mut self, value: impl FnOnce(&mut Self) -> T) -> Option<T> {
+        self.yes_no().then(|| value(self))
+    }
+
+    pub(crate) fn list<T>(&mut self, mut element: impl FnMut(&mut Self) -> T) -> Vec<T> {
+        (0..self.number()).map(|_| element(self)).collect()
+    }
+
+    fn base(&mut self, base: Base) -> Value<'a> {
+        match base {
+            Base::YesNo => Value::YesNo(self.yes_no()),
+            Base::Text => Value::Text(self.text()),
+            Base::Number => Value::Number(self.number()),
+        }
+    }
+
+    fn optional_base(&mut self, base: Base) -> Value<'a> {
+        Value::Optional(self.optional(|words| Box::new(words.base(base))))
+    }
+
+    fn list_of_base(&mut self, base: Base) -> Value<'a> {
+        Value::List(self.list(|words| words.base(base)))
+    }
+
+    pub(crate) fn value(&mut self, kind: Kind) -> Value<'a> {
+        match kind {
+            Kind::Base(base) => self.base(base),
+            Kind::Optional(base) => self.optional_base(base),
+            Kind::List(base) => self.list_of_base(base),
+            Kind::ListOfOptional(base) => Value::List(self.list(|words| words.optional_base(base))),
+            Kind::OptionalList(base) => Value::Optional(self.optional(|words| Box::new(words.list_of_base(base)))),
+        }
+    }
+}
