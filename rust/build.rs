@@ -23,9 +23,12 @@ fn build() -> PathBuf {
     let root = Path::new(&manifest).parent().expect("the crate stands in the project's root");
     println!("cargo::rerun-if-changed={}", root.join("crates").display());
     println!("cargo::rerun-if-changed={}", root.join("crates.txt").display());
-    match Command::new("rt").args(["staticlib", "exports"]).current_dir(root).status() {
-        Ok(status) => assert!(status.success(), "`rt staticlib exports` failed"),
-        Err(error) => panic!("`rt` cannot be run ({error}): set SILVERPOISE_LIB to the folder of libexports.a"),
+    // `check` proves crates side by side, `staticlib` one after the other
+    for command in ["check", "staticlib"] {
+        match Command::new("rt").args([command, "exports"]).current_dir(root).status() {
+            Ok(status) => assert!(status.success(), "`rt {command} exports` failed"),
+            Err(error) => panic!("`rt` cannot be run ({error}): set SILVERPOISE_LIB to the folder of libexports.a"),
+        }
     }
     root.join("target/staticlib")
 }
