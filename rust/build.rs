@@ -23,12 +23,18 @@ fn build() -> PathBuf {
     let root = Path::new(&manifest).parent().expect("the crate stands in the project's root");
     println!("cargo::rerun-if-changed={}", root.join("crates").display());
     println!("cargo::rerun-if-changed={}", root.join("crates.txt").display());
-    // `check` proves crates side by side, `staticlib` one after the other
-    for command in ["check", "staticlib"] {
-        match Command::new("rt").args([command, "exports"]).current_dir(root).status() {
-            Ok(status) => assert!(status.success(), "`rt {command} exports` failed"),
-            Err(error) => panic!("`rt` cannot be run ({error}): set SILVERPOISE_LIB to the folder of libexports.a"),
-        }
-    }
+    // what `exports` rests on is proved side by side: `staticlib` by itself would prove one crate after the other
+    rt(root, &["check", "runner", "text"]);
+    rt(root, &["staticlib", "exports"]);
     root.join("target/staticlib")
+}
+
+/// Runs `rt` with two jobs a processor, where the caller does not say how many: a crate often waits for one that it rests on.
+fn rt(root: &Path, words: &[&str]) {
+    let processors = std::thread::available_parallelism().map_or(1, |n| n.get());
+    let jobs = env::var("RT_JOBS").unwrap_or_else(|_| (2 * processors).min(8).to_string());
+    match Command::new("rt").args(words).env("RT_JOBS", jobs).current_dir(root).status() {
+        Ok(status) => assert!(status.success(), "`rt {}` failed", words.join(" ")),
+        Err(error) => panic!("`rt` cannot be run ({error}): set SILVERPOISE_LIB to the folder of libexports.a"),
+    }
 }
