@@ -55,7 +55,8 @@ fn many_of_all_parsers(named: impl Fn() -> NamedArg) -> Box<dyn Fields> {
 /// taken one by one, and each time all names are compared with all items.
 fn near_names(length: usize) -> Input {
     let names = (0..128).map(|k| Name { ty: LONG, offset: k, length: length as u16 }).collect();
-    let items = (SHEET_AREA / (length + 3)).min(128);
+    // the words behind them take a byte each
+    let items = ((SHEET_AREA - 256) / (length + 1)).min(128);
     let item = [b"--".to_vec(), vec![b'a'; length - 1], b"b".to_vec()].concat();
     let mut line = vec![item; items];
     line.resize(256, b"x".to_vec());
