@@ -4,7 +4,7 @@ ghost use mathlib.Core.Bool.{true};
 ghost use Prim.Native.Nat.{_+_, _*_, _^_, _≤_, _<_};
 ghost use lib.ListN.{length, getD, drop};
 ghost use lib.Seq.{sets};
-ghost use Rattle.utf8.specs.Utf8.{wellFormed};
+ghost use Rattle.utf8.specs.Utf8.{decodeAt, wellFormed};
 ghost use Rattle.rules.specs.Base.{contains as has};
 ghost use Rattle.rules.specs.Split.{splitLong, splitShort, splitOsArgument};
 ghost use Rattle.arg.specs.Parts.{equalsFrom, Tells};
@@ -131,6 +131,19 @@ fn contains(s: &[u32], letter: u32) -> bool
     false
 }
 
+// The letter at a place. Most letters are ASCII, and are not decoded.
+pub fn letter_at(name: &[u8], at: usize) -> Decoded
+    ensures { λ r. ⌜ r ≡ decodeAt (now (name .entry)) at ⌝ }
+{
+    if at < name.len() {
+        let b = name[at];
+        if b < 0x80 {
+            return Decoded::Char(b as u32, 1);
+        }
+    }
+    utf8::decode_at(name, at)
+}
+
 // Each letter of the name is looked up among those of flags and of arguments.
 fn look_up(name: &[u8], flags: &[u32], arguments: &[u32]) -> Outcome
     requires { ⌜ wellFormed (now name) ≡ true ⌝ }
@@ -139,7 +152,7 @@ fn look_up(name: &[u8], flags: &[u32], arguments: &[u32]) -> Outcome
     let mut at = 0;
     let mut before = 0;
     let outcome = loop {
-        let Decoded::Char(letter, size) = utf8::decode_at(name, at) else {
+        let Decoded::Char(letter, size) = letter_at(name, at) else {
             break Outcome::AllFlags { before };
         };
         let flag = contains(flags, letter);

@@ -24,7 +24,7 @@ use Rattle.rules.specs.Demands.{hasMarker}
 use Rattle.rules.proofs.SplitLaws.{split-ok, flatten-append, records-from-length, MarkerAt, marker-law, ambiguous-law}
 use Rattle.arg.proofs.LookUp.{ok-same}
 use Rattle.groups.specs.declared.Group.{Group as Made}
-use Rattle.groups.specs.Groups.{stored, told, Fits, Makes}
+use Rattle.groups.specs.Groups.{stored, Fits, Makes}
 use Rattle.groups.proofs.Stores.{sets-append, no-room, has-room}
 use Rattle.args.specs.Construct.{groupAt, markerAfter, lineFor, refusalNumber, refusalPlace, Ends}
 use Rattle.args.proofs.Sheets.{Checked, arguments-length, has-entry, argument-next, argument-end, argument-fits}

@@ -1,24 +1,22 @@
 -- The answer of a run, as the text that the rules lay down.
-use mathlib.Core.Bool.{Bool, true, false}
-use mathlib.Core.List.{List, [], _∷_, _++_}
-use mathlib.Core.Option.{Option, some, none, Option·some-injective, Option·none-ne-some}
+use mathlib.Core.List.{List, _++_}
+use mathlib.Core.Option.{Option, none, Option·some-injective, Option·none-ne-some}
 use mathlib.Core.Path.{_≡_, refl, sym, _∙_, ap}
-use Prim.Native.Nat.{ℕ, _+_, _-_, _*_, _≤_}
+use Prim.Native.Nat.{ℕ, _+_, _-_, _≤_}
 use native.Mathlib.Omega.{arith}
 use lib.Dec.{ltb}
 use lib.ListN.{length, take, drop, replicate, length-append}
 use lib.Seq.{take-at, length-take-le}
 use Rattle.io.specs.Counts.{Counts}
-use Rattle.utf8.specs.Utf8.{if_then_else_}
 use Rattle.rules.specs.Base.{concatMap}
 use Rattle.rules.specs.Outcome.{Outcome, ok, refused, fault, _>>=_}
-use Rattle.rules.specs.Value.{Value, answerWords}
+use Rattle.rules.specs.Value.{Value}
 use Rattle.rules.specs.Sheet.{sheetFault}
 use Rattle.rules.specs.Form.{formEnd}
 use Rattle.rules.specs.Accept.{Checked, Accepted, accepted, refusedAt, checkForm}
 use Rattle.rules.specs.Eval.{Ran}
 use Rattle.rules.specs.Run.{Line, Report, split, runLine, padded, refusedInput, reportWith, report, shortSlices, runChecked, run}
-use Rattle.rules.specs.Bench.{decimal, placeText, firstLine, wordLine, benchText, bench}
+use Rattle.rules.specs.Bench.{firstLine, wordLine, benchText, bench}
 use Rattle.rules.proofs.Went.{if-holds}
 use Rattle.reader.specs.Reader.{placeOf}
 use Rattle.reader.proofs.Splits.{place-code}

@@ -1,9 +1,9 @@
 -- The answers of single calls, and lines of the list of calls.
 use mathlib.Core.Path.{_≡_, refl, sym, _∙_, ap}
 use mathlib.Core.Bool.{Bool, true, false}
-use mathlib.Core.List.{List, [], _∷_, _++_}
+use mathlib.Core.List.{List, [], _∷_}
 use mathlib.Core.Option.{Option, some, none}
-use Prim.Native.Nat.{ℕ, _-_, _≤_, suc}
+use Prim.Native.Nat.{ℕ, _-_, _≤_}
 use native.Mathlib.Omega.{arith}
 use lib.Dec.{eqb}
 use lib.ListN.{length, getD, take, drop, length-drop}
@@ -28,8 +28,8 @@ use Rattle.reader.specs.Reader.{splittingOf}
 use Rattle.reader.specs.declared.SplitAnswer.{SplitAnswer}
 use Rattle.tokens.specs.declared.call.Call.{Call}
 use Rattle.tokens.specs.declared.call.Layout.{Layout}
-use Rattle.tokens.specs.Compare.{Follows, WordsFollow, StateFollows, refusalText, spaced, stateText, wordsText}
-use Rattle.tokens.specs.Call.{layoutOf, nameText, argumentsText, answerText, statesText, StatesFollow}
+use Rattle.tokens.specs.Compare.{Follows, WordsFollow, StateFollows, refusalText, spaced, stateText}
+use Rattle.tokens.specs.Call.{layoutOf, nameText, argumentsText, answerText, StatesFollow}
 use Rattle.tokens.proofs.Standing.{joined}
 use Rattle.tokens.specs.Laws.{alone}
 use Rattle.calls_list.specs.CallsList.{stated, shown, withState, foundCode, notOutside, outsideIsNone, callAnswer, callText, CallTold, evalText, EvalTold, Said, CallsTold}

@@ -1,4 +1,5 @@
--- Where a repeat over a leaf may search from: a leaf uses the first place that it seeks, so behind what it used.
+-- Where a repeat over a leaf may search from: a leaf uses the first place that it seeks, so behind what it used. A guard or an
+-- optional over it leaves the state that it left, or the one that it was given.
 use mathlib.Core.Bool.{Bool, true, false, false≢true}
 use mathlib.Core.List.{List}
 use mathlib.Core.Logic.{_⊎_, inl, inr, ⊎-elim}
@@ -11,14 +12,14 @@ use lib.Dec.{eqb}
 use lib.ListN.{length, getD, take}
 use borrow.Author.Tests.{eqb-false, lt-ltb, le-ltb}
 use Rattle.utf8.specs.Utf8.{if_then_else_}
-use Rattle.rules.specs.Outcome.{Outcome, ok, refused, Refusal, refuseAt, _>>=_}
-use Rattle.rules.specs.Value.{Base, Value}
+use Rattle.rules.specs.Outcome.{Outcome, ok, refused, fault, Refusal, refuseAt, _>>=_}
+use Rattle.rules.specs.Value.{Base, Value, absent, present}
 use Rattle.rules.specs.Tree.{Named, Position, Tree, Flag, Argument, Positional, Optional, Many, Some, Count, Last, Choice, Fallback, Guard}
 use Rattle.rules.specs.Split.{Item}
 use Rattle.rules.specs.State.{State, Found, parsed, presentAt, unused, get, find, withCurrent}
 use Rattle.rules.specs.Take.{Took, took, Taken, matchesArg, takeFlag, valueText, takeValue, takeArg, isOperand, operand, takePositionalWord}
 use Rattle.rules.specs.Calls.{fromRaw}
-use Rattle.rules.specs.Eval.{visit, tried, answer, flagValue, evalFlag, argumentValue, evalArgument, positionalValue, evalPositional, eval}
+use Rattle.rules.specs.Eval.{Ran as Run, ended, after, _then_, visit, tried, answer, flagValue, evalFlag, argumentValue, evalArgument, positionalValue, evalPositional, swallowed, parseOption, evalOptional, evalGuard, eval}
 use Rattle.rules.specs.Demands.{Good}
 use Rattle.rules.proofs.Acceptance.{lookup-some}
 use Rattle.rules.proofs.Places.{mark-present}
@@ -31,8 +32,12 @@ use Rattle.state.proofs.Marks.{present-at}
 use Rattle.named.proofs.Search.{NoneIn, found-first}
 use Rattle.take.specs.Takes.{Ready, Skips, Left}
 use Rattle.take.proofs.Laws.{skip-none}
+use Rattle.nodes.specs.Children.{Hint}
 use Rattle.eval.specs.Values.{nextFrom}
-use Rattle.eval.specs.Cycle.{Hint}
+
+-- a run that ended so
+abbrev ran : Run Value → Outcome Value → Run Value
+ran r o = record { outcome = o; state = r .state; tries = r .tries; trace = r .trace }
 
 -- ---- what a leaf used
 
@@ -203,6 +208,38 @@ module _ (k : ℕ) (told : parsed k ≡ true) (is : List Item) (s : State) (g : 
       go none e h = inl (tried-took s (takeArg k is m adjacent s) (argumentValue n m b) (record { answer = none; state = s }) (rw e))
       go (some x) e h = key x e (h .free) (valueText (get is s (suc (x .place)))) refl
 
+-- ---- what a guard and an optional leave of the state
+
+guard-state : (lo hi : ℕ) (r : Run Value) → evalGuard lo hi r .state ≡ r .state
+unfolding evalGuard _then_ after ended
+guard-state lo hi r = go (r .outcome)
+  where
+    go : (o : Outcome Value) → evalGuard lo hi (ran r o) .state ≡ r .state
+    go (ok v) = refl
+    go (refused e) = refl
+    go (fault x) = refl
+
+-- its child's state, or the one that it was given
+optional-state : (catch : Bool) (s : State) (r : Run Value)
+    → (evalOptional catch s r .state ≡ r .state) ⊎ (evalOptional catch s r .state ≡ s)
+unfolding evalOptional parseOption _then_ after ended if_then_else_
+optional-state catch s r = go (r .outcome)
+  where
+    swallows : (e : Refusal) (b : Bool)
+        → _then_ {B = Value} (after (ran r (refused e)) (if b then ended {A = Option Value} (ok none) s else ended (refused e) (r .state)))
+        (λ v t. ended (ok (elim v [ none ↦ absent | some x ↦ present x ])) t) .state ≡ (if b then s else r .state)
+    swallows e true = refl
+    swallows e false = refl
+
+    either : (b : Bool) (u : State) → u ≡ (if b then s else r .state) → (u ≡ r .state) ⊎ (u ≡ s)
+    either true u h = inr h
+    either false u h = inl h
+
+    go : (o : Outcome Value) → (evalOptional catch s (ran r o) .state ≡ r .state) ⊎ (evalOptional catch s (ran r o) .state ≡ s)
+    go (ok v) = inl refl
+    go (refused e) = let b = swallowed catch e s (r .state) in either b _ (swallows e b)
+    go (fault x) = inl refl
+
 -- ---- the hint, turn by turn
 
 -- at the start of the scope
@@ -210,14 +247,14 @@ pub hint-first : (t : Tree) (area words m : List ℕ) (p : Numbers) → Fine m p
 hint-first (Flag n names w) area words m p fine f e = skip-none area words _ m p fine f e
 hint-first (Argument n names b a) area words m p fine f e = skip-none area words _ m p fine f e
 hint-first (Positional n q b) area words m p fine f e = skip-none area words _ m p fine f e
-hint-first (Optional c t) area words m p fine f e = tt
+hint-first (Optional c t) area words m p fine f e = hint-first t area words m p fine f e
 hint-first (Many c t) area words m p fine f e = tt
 hint-first (Some c t) area words m p fine f e = tt
 hint-first (Count t) area words m p fine f e = tt
 hint-first (Last t) area words m p fine f e = tt
 hint-first (Choice t u) area words m p fine f e = tt
 hint-first (Fallback v t) area words m p fine f e = tt
-hint-first (Guard l h t) area words m p fine f e = tt
+hint-first (Guard l h t) area words m p fine f e = hint-first t area words m p fine f e
 
 -- the marks of a state, and those that are lent
 lent-present : (m : List ℕ) (p : Numbers) → Fine m p → (k : ℕ) → k < p .count → presentAt (stateOf m p .marks) k ≡ presentAt m k
@@ -292,6 +329,24 @@ module _ (area words m : List ℕ) (p : Numbers) (mark : ℕ) (z : Ready area wo
   unfolding Goes stateOf fromRaw
   skip-next test f k w = ⊎-elim (λ e. skip-still test f k (ap (λ (u : State). u .remaining) e)) (λ v. skip-moved test f v) w
 
+  -- an optional that is absent leaves the state that it was given
+  hint-still : (t : Tree) (f : ℕ) → Hint t area words m p f → q .remaining ≡ p .remaining → Hint t area words m′ q (nextFrom f (p .remaining) q)
+  hint-still (Flag n names w) f k e = skip-still (matchesArg names false) f k e
+  hint-still (Argument n names b a) f k e = skip-still (matchesArg names a) f k e
+  hint-still (Positional n w b) f k e = skip-still isOperand f k e
+  hint-still (Optional c t) f k e = hint-still t f k e
+  hint-still (Many c t) f k e = tt
+  hint-still (Some c t) f k e = tt
+  hint-still (Count t) f k e = tt
+  hint-still (Last t) f k e = tt
+  hint-still (Choice t u) f k e = tt
+  hint-still (Fallback v t) f k e = tt
+  hint-still (Guard l h t) f k e = hint-still t f k e
+
+  unmoved : stateOf m p ≡ stateOf m′ q → q .remaining ≡ p .remaining
+  unfolding stateOf fromRaw
+  unmoved e = ap (λ (u : State). u .remaining) (sym e)
+
   pub hint-next : (t : Tree) (f : ℕ) → Hint t area words m p f → eval mark (z .items) t (stateOf m p) .state ≡ stateOf m′ q
       → Hint t area words m′ q (nextFrom f (p .remaining) q)
   unfolding eval visit
@@ -304,11 +359,15 @@ module _ (area words m : List ℕ) (p : Numbers) (mark : ℕ) (z : Ready area wo
   hint-next (Positional n w b) f k e =
       skip-next isOperand f k
       (subst (Goes (z .items) isOperand (stateOf m p)) e (positional-goes mark (z .told) (z .items) (stateOf m p) good n w b))
-  hint-next (Optional c t) f k e = tt
+  hint-next (Optional c t) f k e =
+      ⊎-elim
+      (λ v. hint-next t f k (sym v ∙ e))
+      (λ v. hint-still t f k (unmoved (sym v ∙ e)))
+      (optional-state c (stateOf m p) (eval mark (z .items) t (stateOf m p)))
   hint-next (Many c t) f k e = tt
   hint-next (Some c t) f k e = tt
   hint-next (Count t) f k e = tt
   hint-next (Last t) f k e = tt
   hint-next (Choice t u) f k e = tt
   hint-next (Fallback v t) f k e = tt
-  hint-next (Guard l h t) f k e = tt
+  hint-next (Guard l h t) f k e = hint-next t f k (sym (guard-state l h (eval mark (z .items) t (stateOf m p))) ∙ e)

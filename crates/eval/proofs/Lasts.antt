@@ -29,12 +29,13 @@ use Rattle.outcome.specs.Told.{told, Numbered, scalarWords, answered}
 use Rattle.outcome.specs.Nodes.{treeAt, Scalar}
 use Rattle.outcome.specs.Lists.{toldList}
 use Rattle.outcome.proofs.ListLaws.{listTold, count-value, count-refused, last-refused, last-again, last-value}
+use Rattle.nodes.specs.Children.{Wraps, Wrapped}
+use Rattle.nodes.proofs.Trees.{sound-at}
+use Rattle.nodes.proofs.Given.{Says}
+use Rattle.nodes.proofs.Steps.{inside, wrapped, child-told, child-left, child-tries}
 use Rattle.eval.specs.declared.Repeated.{Repeated}
 use Rattle.eval.specs.Values.{refusedList, countedValues, lastValue, moreTries}
-use Rattle.eval.specs.Cycle.{Wraps, Wrapped, listed, Repeating, Repeats}
-use Rattle.eval.proofs.Trees.{sound-at}
-use Rattle.eval.proofs.Given.{Says}
-use Rattle.eval.proofs.Steps.{inside, wrapped, child-told, child-left, child-tries}
+use Rattle.eval.specs.Cycle.{listed, Repeating, Repeats}
 
 -- ---- a repeat's refusal has a number
 fine-numbered : {A : Type 0} (h : ℕ) (P : A → Type 0) (o : Outcome A) → Fine h P o → Numbered o

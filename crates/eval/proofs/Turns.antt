@@ -12,7 +12,6 @@ use borrow.Author.Tests.{eqb-true, ltb-true}
 use Rattle.utf8.specs.Utf8.{if_then_else_}
 use Rattle.rules.specs.Outcome.{ok, refuse}
 use Rattle.rules.specs.Value.{Value, words}
-use Rattle.rules.specs.Form.{Node, readForm}
 use Rattle.rules.specs.Sheet.{sheetArea}
 use Rattle.rules.specs.Tree.{Tree}
 use Rattle.rules.specs.Split.{Item}
@@ -20,9 +19,7 @@ use Rattle.rules.specs.State.{State}
 use Rattle.rules.specs.Calls.{fromRaw}
 use Rattle.rules.specs.Eval.{Ran as Run, Visit, ended, fewer, swallowed, idle, repeat, repeated, eval}
 use Rattle.rules.specs.Demands.{leaves}
-use Rattle.rules.proofs.Acceptance.{lookup-some}
 use Rattle.rules.proofs.Steps.{Step, most, Runs}
-use Rattle.layout.proofs.Sizes.{nodes-length}
 use Rattle.structs.specs.declared.Counting.{Counting}
 use Rattle.structs.specs.declared.Counting.the-variants.{Counted, Uncounted, Absent, PassedOn}
 use Rattle.structs.specs.Decisions.{withRemaining, countedOf, optionWay}
@@ -37,14 +34,17 @@ use Rattle.outcome.specs.Nodes.{treeAt, Scalar}
 use Rattle.outcome.specs.Lists.{toldList, lastWords, prefixed}
 use Rattle.outcome.proofs.Visits.{runs-numbered}
 use Rattle.outcome.proofs.Repeats.{told-state, told-tries, prefixed-none, Went, turn-uncounted, turn-absent, turn-passed, turn-idle, turn-counted, list-ended, list-refused}
+use Rattle.nodes.specs.Marks.{keepsMarks}
+use Rattle.nodes.specs.Children.{Hint, Turns}
+use Rattle.nodes.proofs.Words.{scalar-short}
+use Rattle.nodes.proofs.Given.{Says}
+use Rattle.nodes.proofs.Absent.{absent-by}
+use Rattle.nodes.proofs.Steps.{few-left, child-runs, child-told, child-left}
 use Rattle.eval.specs.declared.Repeated.{Repeated}
-use Rattle.eval.specs.Values.{Wrote, noValue, Fits, oneMore, endedWith, passedOn, nextFrom, keepsMarks}
-use Rattle.eval.specs.Cycle.{Hint, Turns, listed, Room, Repeating, Repeats}
-use Rattle.eval.proofs.Words.{sets-append, sets-back, scalar-short}
-use Rattle.eval.proofs.Given.{Says, node-below}
+use Rattle.eval.specs.Values.{Wrote, noValue, Fits, oneMore, endedWith, passedOn, nextFrom}
+use Rattle.eval.specs.Cycle.{listed, Room, Repeating, Repeats}
+use Rattle.eval.proofs.Words.{sets-append, sets-back}
 use Rattle.eval.proofs.Hints.{hint-first, hint-next}
-use Rattle.eval.proofs.Absent.{absent-same}
-use Rattle.eval.proofs.Steps.{few-left, child-runs, child-told, child-left}
 
 -- ---- lists
 lists-same :
@@ -437,21 +437,19 @@ module _ (b known sh ws m₀ : List ℕ) (n : ℕ) (catch stops writes : Bool) (
         put-back :
             Decides Absent
             → (keeps : Bool)
-            → ((x : Node) → getElem? (readForm b .nodes) n ≡ some x → keeps ≡ keepsMarks catch x)
+            → ((t : Tree) → treeAt b n ≡ some t → keeps ≡ keepsMarks catch t)
             → (before : List ℕ)
             → (keeps ≡ true → before ≡ m)
             → (if keeps then before else m′) ≡ m
         unfolding if_then_else_
         put-back w true k before f = f refl
         put-back w false k before f =
-            let below = node-below b known sh ws m s mark n turn-ready in
-            let x = lookup-some (readForm b .nodes) n (omega (arith, nodes-length b)) in
-            absent-same b known sh ws m s mark n turn-ready m′ ran said (x .0) (x .1) catch (countedOf last) w (sym (k (x .0) (x .1)))
+            absent-by b known sh ws m s mark n turn-ready m′ ran said catch false k refl (countedOf last) w
 
         pub turn-stops :
             Decides Absent
             → (keeps : Bool)
-            → ((x : Node) → getElem? (readForm b .nodes) n ≡ some x → keeps ≡ keepsMarks catch x)
+            → ((t : Tree) → treeAt b n ≡ some t → keeps ≡ keepsMarks catch t)
             → (before : List ℕ)
             → (keeps ≡ true → before ≡ m)
             → (m″ : List ℕ)

@@ -6,7 +6,6 @@ use Prim.Native.Nat.{ℕ, suc, _+_, _≤_, _<_}
 use native.Mathlib.Nat.{add-zero, add-suc, suc-add}
 use native.Mathlib.Numerals.{add-one}
 use native.Mathlib.Omega.{arith}
-use lib.Dec.{eqb}
 use lib.ListN.{length, getD, set, replicate}
 use lib.Seq.{sets, set-comm, set-set, set-getD}
 use borrow.Author.Tests.{ne-eqb}
@@ -50,16 +49,6 @@ put-one o at len word e = rw e (record { width = refl; same = refl })
 pub put-two : (o : List ℕ) (at len word : ℕ) → (len ≡ 0 → ⊥) → (len ≡ 1 → ⊥) → Put o at len word (set (set o at 1) (at + 1) word) 2
 unfolding scalarWords if_then_else_
 put-two o at len word a b = record { width = rw (ne-eqb len 0 a, ne-eqb len 1 b); same = rw (ne-eqb len 0 a, ne-eqb len 1 b, add-one at) }
-
--- at most two words
-pub scalar-short : (len word : ℕ) → length (scalarWords len word) ≤ 2
-unfolding scalarWords if_then_else_
-scalar-short len word = go (eqb len 0) (eqb len 1)
-  where
-    go : (a b : Bool) → length (if a then [] else (if b then word ∷ [] else 1 ∷ word ∷ [])) ≤ 2
-    go true b = omega arith
-    go false true = omega arith
-    go false false = omega arith
 
 -- ---- where values are written
 pub wrote-put :

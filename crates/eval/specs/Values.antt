@@ -1,13 +1,12 @@
 -- What the small functions of a repeat make.
-use mathlib.Core.Bool.{Bool, true}
+use mathlib.Core.Bool.{Bool}
 use mathlib.Core.List.{List}
 use mathlib.Core.Path.{_≡_}
 use Prim.Native.Nat.{ℕ, _+_, _≤_}
-use lib.Dec.{leb, eqb, ltb}
+use lib.Dec.{ltb}
 use lib.ListN.{length}
 use lib.Seq.{sets}
 use Rattle.utf8.specs.Utf8.{if_then_else_}
-use Rattle.rules.specs.Form.{Node}
 use Rattle.state.specs.declared.Numbers.{Numbers}
 use Rattle.outcome.specs.Told.{scalarWords}
 use Rattle.outcome.specs.declared.Ran.{Ran}
@@ -16,10 +15,6 @@ use Rattle.eval.specs.declared.Repeated.{Repeated}
 -- where the next turn of a repeat over a leaf searches from: behind what was used, if anything was
 unfoldable pub nextFrom : ℕ → ℕ → Numbers → ℕ
 nextFrom from given after = if ltb (after .remaining) given then after .current else from
-
--- whether a child that is absent may have used something, so that its marks are to be put back
-unfoldable pub keepsMarks : Bool → Node → Bool
-keepsMarks catch x = if catch then true else (if eqb (x .kind) 3 then leb 2 (x .p) else ltb 3 (x .kind))
 
 -- a value's words are written
 pub record Put (o : List ℕ) (at len word : ℕ) (o′ : List ℕ) (r : ℕ) : Type 0 where

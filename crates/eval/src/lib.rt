@@ -4,17 +4,16 @@ ghost use mathlib.Core.Path.{_≡_};
 ghost use mathlib.Core.Bool.{true};
 ghost use mathlib.Core.Option.{some};
 ghost use Prim.Native.Nat.{_+_, _≤_, _<_};
-ghost use lib.ListN.{length, replicate, getElem?};
+ghost use lib.ListN.{length, replicate};
 ghost use lib.Seq.{sets};
 ghost use Rattle.utf8.specs.Utf8.{if_then_else_};
-ghost use Rattle.rules.specs.Form.{Node, nodeCount, readForm};
-ghost use Rattle.rules.specs.Accept.{lengthGood};
 ghost use Rattle.rules.specs.Sheet.{sheetArea};
 ghost use Rattle.rules.specs.Tree.{Tree, Optional, Count, Last, Choice, Guard};
 ghost use Rattle.outcome.specs.Told.{Evaluates};
 ghost use Rattle.outcome.specs.Nodes.{treeAt, Scalar};
-ghost use Rattle.eval.specs.Cycle.{Wraps, Wrapped, Falls, Both, Turns, Repeating, Repeats};
-ghost use Rattle.eval.specs.Values.{Put, Wrote, noValue, Fits, oneMore, endedWith, passedOn, refusedList, countedValues, lastValue, moreTries, nextFrom, keepsMarks};
+ghost use Rattle.nodes.specs.Children.{Wraps, Wrapped, Falls, Both, Turns, Searched};
+ghost use Rattle.eval.specs.Cycle.{Repeating, Repeats};
+ghost use Rattle.eval.specs.Values.{Put, Wrote, noValue, Fits, oneMore, endedWith, passedOn, refusedList, countedValues, lastValue, moreTries, nextFrom};
 use outcome::Ran;
 use state::Numbers;
 use structs::Counting;
@@ -210,22 +209,6 @@ fn next_from(from: usize, given: u32, after: Numbers) -> usize
     from
 }
 
-// Whether a child that is absent may have used something, so that the marks must be put back. A leaf has not, unless refusals
-// are caught or it is a non-strict positional.
-fn keeps_marks(form: &[u8], child: usize, catch: bool) -> bool
-    requires { ⌜ (lengthGood (now form) ≡ true) × (child < nodeCount (now form)) ⌝ }
-    ensures { λ r. ⌜ ((x : Node) → getElem? (readForm (now (form .entry)) .nodes) child ≡ some x → r ≡ keepsMarks catch x) ⌝ }
-{
-    if catch {
-        return true;
-    }
-    let x = layout::node_at(form, child);
-    if x.kind == 3 {
-        return 2 <= x.p;
-    }
-    3 < x.kind
-}
-
 // Copies marks, if that is wanted.
 fn copy_if(wanted: bool, from: &[u16; 256], to: &mut [u16; 256])
     ensures { λ _. ⌜ now (to .exit) ≡ (if wanted then now (from .entry) else now (to .entry)) ⌝ }
@@ -278,14 +261,46 @@ fn run_optional(
     requires { ⌜ Wraps (Optional catch) (now form) (now known) (now sheet) (now items) (now marks) p mark child ⌝ }
     ensures { λ r. ⌜ Wrapped (Optional catch) mark (now (form .entry)) (now (sheet .entry)) (now (items .entry)) child (now (marks .entry)) p (now (marks .exit)) r ⌝ }
 {
-    let before = *marks;
+    if nodes::keeps_marks(form, child, catch) {
+        let before = *marks;
+        let ran = run_node(form, known, sheet, items, marks, p, child, mark);
+        let made = results::optional(ran, p, catch, &before, marks);
+        let answer = made.ran;
+        return answer;
+    }
     let ran = run_node(form, known, sheet, items, marks, p, child, mark);
-    let made = results::optional(ran, p, catch, &before, marks);
+    let made = results::optional_unchanged(ran, p, catch);
     let answer = made.ran;
     answer
 }
 
 fn run_fallback(
+    form: &[u8],
+    known: &[u64],
+    sheet: &[u8],
+    items: &[u32],
+    marks: &mut [u16; 256],
+    p: Numbers,
+    node: usize,
+    child: usize,
+    mark: u16,
+) -> Ran
+    requires { ⌜ Falls (now form) (now known) (now sheet) (now items) (now marks) p mark node child ⌝ }
+    ensures { λ r. ⌜ ((t : Tree) → treeAt (now (form .entry)) node ≡ some t → Evaluates mark (sheetArea (now (sheet .entry))) (now (items .entry)) t (now (marks .entry)) p (now (marks .exit)) r) ⌝ }
+{
+    if nodes::stays(form, known, child) {
+        let ran = run_node(form, known, sheet, items, marks, p, child, mark);
+        if ran.number == 0 {
+            return ran;
+        }
+        let word = results::fallback_word(form, node);
+        return results::fallback_unchanged(ran, p, word);
+    }
+    fallback_by_copy(form, known, sheet, items, marks, p, node, child, mark)
+}
+
+// A fallback whose child may have used something though it is refused: the marks are copied.
+fn fallback_by_copy(
     form: &[u8],
     known: &[u64],
     sheet: &[u8],
@@ -328,6 +343,36 @@ fn run_guard(
 }
 
 fn run_choice(
+    form: &[u8],
+    known: &[u64],
+    sheet: &[u8],
+    items: &[u32],
+    marks: &mut [u16; 256],
+    p: Numbers,
+    left: usize,
+    right: usize,
+    mark: u16,
+) -> Ran
+    requires { ⌜ Both (now form) (now known) (now sheet) (now items) (now marks) p mark left right ⌝ }
+    ensures { λ r. ⌜ ((t u : Tree) → treeAt (now (form .entry)) left ≡ some t → treeAt (now (form .entry)) right ≡ some u → Evaluates mark (sheetArea (now (sheet .entry))) (now (items .entry)) (Choice t u) (now (marks .entry)) p (now (marks .exit)) r) ⌝ }
+{
+    if nodes::alone(form, known, left, right) {
+        let x = run_node(form, known, sheet, items, marks, p, left, mark);
+        let one = results::first_alone(x, p);
+        let answer = one.ran;
+        return answer;
+    }
+    if nodes::alone(form, known, right, left) {
+        let y = run_node(form, known, sheet, items, marks, p, right, mark);
+        let other = results::second_alone(y, p);
+        let answer = other.ran;
+        return answer;
+    }
+    choice_by_copy(form, known, sheet, items, marks, p, left, right, mark)
+}
+
+// A choice of which both sides may change the marks: they are copied.
+fn choice_by_copy(
     form: &[u8],
     known: &[u64],
     sheet: &[u8],
@@ -428,7 +473,32 @@ fn run_last(
     more_tries(again, all.tries)
 }
 
-// One evaluation of a repeat's child. A leaf searches from `from` on: the turns before used all that it would find earlier.
+// A leaf searches from `from` on: the turns before used all that it would find earlier. Any other node runs as it does elsewhere.
+fn run_leaf(
+    form: &[u8],
+    known: &[u64],
+    sheet: &[u8],
+    items: &[u32],
+    marks: &mut [u16; 256],
+    p: Numbers,
+    leaf: usize,
+    from: usize,
+    mark: u16,
+) -> Ran
+    requires { ⌜ Turns (now form) (now known) (now sheet) (now items) (now marks) p mark leaf from ⌝ }
+    ensures { λ r. ⌜ ((t : Tree) → treeAt (now (form .entry)) leaf ≡ some t → Evaluates mark (sheetArea (now (sheet .entry))) (now (items .entry)) t (now (marks .entry)) p (now (marks .exit)) r) ⌝ }
+{
+    let x = layout::node_at(form, leaf);
+    let kind = x.kind;
+    match kind {
+        1 => params::eval_flag_from(known, marks, p, from, leaf, x.r == 1, mark),
+        2 => params::eval_argument_from(known, sheet, items, marks, p, from, leaf, 2 <= x.r, mark),
+        3 => params::eval_positional_from(sheet, items, marks, p, from, x.p, x.r == 2, mark),
+        _ => run_node(form, known, sheet, items, marks, p, leaf, mark),
+    }
+}
+
+// One evaluation of a repeat's child: its leaf goes on from `from`, and the child makes its result of the leaf's.
 fn run_turn(
     form: &[u8],
     known: &[u64],
@@ -437,20 +507,15 @@ fn run_turn(
     marks: &mut [u16; 256],
     p: Numbers,
     child: usize,
+    leaf: usize,
     from: usize,
     mark: u16,
 ) -> Ran
-    requires { ⌜ Turns (now form) (now known) (now sheet) (now items) (now marks) p mark child from ⌝ }
+    requires { ⌜ Turns (now form) (now known) (now sheet) (now items) (now marks) p mark child from × Searched (now form) child leaf ⌝ }
     ensures { λ r. ⌜ ((t : Tree) → treeAt (now (form .entry)) child ≡ some t → Evaluates mark (sheetArea (now (sheet .entry))) (now (items .entry)) t (now (marks .entry)) p (now (marks .exit)) r) ⌝ }
 {
-    let x = layout::node_at(form, child);
-    let kind = x.kind;
-    match kind {
-        1 => params::eval_flag_from(known, marks, p, from, child, x.r == 1, mark),
-        2 => params::eval_argument_from(known, sheet, items, marks, p, from, child, 2 <= x.r, mark),
-        3 => params::eval_positional_from(sheet, items, marks, p, from, x.p, x.r == 2, mark),
-        _ => run_node(form, known, sheet, items, marks, p, child, mark),
-    }
+    let ran = run_leaf(form, known, sheet, items, marks, p, leaf, from, mark);
+    nodes::wrap(form, child, leaf, ran, p)
 }
 
 // Evaluates the child until it is absent, or a success does not count, or one of `count` and `last` used nothing. Each value is
@@ -473,7 +538,8 @@ pub fn run_repeat(
     requires { ⌜ Repeating (now form) (now known) (now sheet) (now items) (now marks) p mark child writes (now out) at ⌝ }
     ensures { λ r. ⌜ ((t : Tree) → treeAt (now (form .entry)) child ≡ some t → Repeats mark (sheetArea (now (sheet .entry))) (now (items .entry)) t catch stops writes (now (marks .entry)) p (now (marks .exit)) (now (out .entry)) at (now (out .exit)) r) ⌝ }
 {
-    let keeps = keeps_marks(form, child, catch);
+    let leaf = nodes::leaf_below(form, child);
+    let keeps = nodes::keeps_marks(form, child, catch);
     let mut before = *marks;
     let mut s = p;
     let mut from = wide(p.start);
@@ -481,7 +547,7 @@ pub fn run_repeat(
     let mut all = nothing(p);
     loop {
         let given = s.remaining;
-        let ran = run_turn(form, known, sheet, items, marks, s, child, from, mark);
+        let ran = run_turn(form, known, sheet, items, marks, s, child, leaf, from, mark);
         let after = ran.numbers;
         let way = structs::parse_option(ran.number, catch, given, after.remaining, last);
         match way {

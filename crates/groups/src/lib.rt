@@ -42,7 +42,7 @@ fn write_flags(name: &[u8], count: usize, whole: Part, items: &mut [u32], at: us
     let mut place = 0;
     let mut k = 0;
     while k < count {
-        let Decoded::Char(letter, size) = utf8::decode_at(name, place) else {
+        let Decoded::Char(letter, size) = arg::letter_at(name, place) else {
             return;
         };
         arg::write_item(items, at + k, Item::Short(letter, false, text));

@@ -1,7 +1,7 @@
 -- The steps of the functions that test a node's numbers and names.
-use mathlib.Core.Bool.{Bool, true, false, not, _&&_, false≢true}
+use mathlib.Core.Bool.{Bool, true, false, _&&_}
 use mathlib.Core.List.{List, [], _∷_}
-use mathlib.Core.Option.{Option, some, none, Option·none-ne-some, Option·some-injective}
+use mathlib.Core.Option.{some, none, Option·none-ne-some, Option·some-injective}
 use mathlib.Core.Path.{_≡_, refl, sym, _∙_, ap}
 use Prim.Native.Nat.{ℕ, zero, suc, _+_, _-_, _≤_, _<_}
 use native.Mathlib.Omega.{arith}
@@ -11,7 +11,7 @@ use lib.Seq.{length-take-le}
 use borrow.Author.Tests.{eq-eqb, ne-eqb, le-leb, lt-leb, eqb-true, eqb-false}
 use Rattle.utf8.specs.Utf8.{if_then_else_}
 use Rattle.rules.specs.Base.{all, null, isSome, _>>?_, slice}
-use Rattle.rules.specs.Form.{Node, Name, Form, nameCount, readForm}
+use Rattle.rules.specs.Form.{Node, Name, nameCount, readForm}
 use Rattle.rules.specs.Tree.{zeros, namesOf}
 use Rattle.names.specs.declared.Name as names
 use Rattle.names.specs.Names.{nameOf}

@@ -1,8 +1,8 @@
 -- Codes of nodes, by numbers alone. A code is the number of a node's kind (1 to 15), 16 more if there is a repeat here or
 -- beneath, and 32 if the node is at fault. A child that is not there has 0. (proofs/Trees.antt: they are those of the trees.)
-use mathlib.Core.Bool.{Bool, true, false, _&&_}
-use mathlib.Core.List.{List, [], _∷_}
-use mathlib.Core.Option.{Option, some, none}
+use mathlib.Core.Bool.{Bool, false, _&&_}
+use mathlib.Core.List.{[], _∷_}
+use mathlib.Core.Option.{some, none}
 use Prim.Native.Nat.{ℕ, _+_, _%_}
 use lib.Dec.{leb, ltb, eqb}
 use lib.ListN.{getElem?}

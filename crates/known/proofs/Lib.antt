@@ -2,3 +2,4 @@
 pub mod Bits
 pub mod Owners
 pub mod Lookups
+pub mod Absent

@@ -1,6 +1,6 @@
 -- The nodes that match an item: the owners of the name records that are its name.
 use mathlib.Core.Path.{_≡_, refl, sym, _∙_}
-use mathlib.Core.Bool.{Bool, true, false, _&&_, _||_, and-true, and-false, and-assoc, or-true, or-false, or-assoc}
+use mathlib.Core.Bool.{Bool, true, false, _&&_, _||_, false≢true, and-true, and-false, and-assoc, or-true, or-false, or-assoc}
 use mathlib.Core.List.{List, [], _∷_}
 use mathlib.Core.Logic.{⊎-elim}
 use mathlib.Core.Option.{some}
@@ -17,7 +17,6 @@ use types.Run.{OneOf}
 use denote.Enum.Declared.{tagOf}
 use Rattle.rules.specs.Base.{contains, concatMap}
 use Rattle.rules.specs.Form.{Node, Name, nameCount, readForm}
-use Rattle.rules.specs.Calls.{itemFrom}
 use Rattle.rules.specs.Sheet.{sheetArea}
 use Rattle.rules.specs.Split as rules
 use Rattle.rules.specs.Tree.{shortOf, longOf, namedBy}
@@ -243,27 +242,62 @@ item-there b codes s words n i g h =
     let (x, e) = lookup-some (g .items) i (omega arith) in
     record { made = g .made; room = omega arith; item = x; here = g .table .at i x e }
 
-pub record Listing (b area words : List ℕ) (n : ℕ) (table : List ℕ) (i : ℕ) : Type 0 where
+-- the words of the first i items are there, and `all` has every node of one of them
+pub record Listing (b area words : List ℕ) (n : ℕ) (table : List ℕ) (all i : ℕ) : Type 0 where
   pub within : i ≤ n
-  pub long : n ≤ length table
+  pub few : n ≤ 256
+  pub long : length table ≡ 257
   pub at : (j : ℕ) → j < i → MatchSet b area words j (getD table j 0)
+  pub any : (k : ℕ) → bitAt all k ≡ false → (j : ℕ) → j < i → bitAt (getD table j 0) k ≡ false
+
+neither : (x y : Bool) → (x || y) ≡ false → (x ≡ false) × (y ≡ false)
+neither true y e = absurd (false≢true (sym e))
+neither false y e = (refl, e)
+
+-- a property of the word at j, of those up to i, where word i was put
+put-at : (t : List ℕ) (i set : ℕ) → i < length t → (j : ℕ) → j < i + 1 → (P : ℕ → Type 0) → (j ≡ i → P set) → (j < i → P (getD t j 0))
+    → P (getD (put t i set) j 0)
+put-at t i set l j g P here before =
+    ⊎-elim
+    (λ (q : j ≡ i). rw (q, getD-set-same t i set 0 l) (here q))
+    (λ (f : j < i). rw (getD-set-other t i j set 0 (λ q. omega arith)) (before f))
+    (eq-or-lt-of-le {n = j} {m = i} (omega arith))
 
 module _ (b area words : List ℕ) (n : ℕ) (t : List ℕ) where
-  pub listing-first : n ≤ length t → Listing b area words n t 0
-  listing-first l = record { within = omega arith; long = l; at = λ j h. absurd (omega arith) }
+  pub listing-first : n ≤ 256 → length t ≡ 257 → Listing b area words n t 0 0
+  listing-first h l = record {
+    within = omega arith;
+    few = h;
+    long = l;
+    at = λ j h. absurd (omega arith);
+    any = λ k e j h. absurd (omega arith);
+  }
 
-  module _ (i : ℕ) (z : Listing b area words n t i) where
-    pub listing-next : i < n → (set : ℕ) → MatchSet b area words i set → Listing b area words n (put t i set) (i + 1)
-    listing-next h set m =
+  module _ (all i : ℕ) (z : Listing b area words n t all i) where
+    pub listing-next : i < n → (set : ℕ) → MatchSet b area words i set → (all′ : ℕ) → ((k : ℕ) → bitAt all′ k ≡ (bitAt all k || bitAt set k))
+        → Listing b area words n (put t i set) all′ (i + 1)
+    listing-next h set m all′ u =
         let l = z .long in
+        let f = z .few in
         record {
           within = omega arith;
-          long = omega (arith, length-set t i set);
-          at = λ j g. ⊎-elim
-              (λ (q : j ≡ i). rw (q, getD-set-same t i set 0 (omega arith)) m)
-              (λ (f : j < i). rw (getD-set-other t i j set 0 (λ q. omega arith)) (z .at j f))
-              (eq-or-lt-of-le {n = j} {m = i} (omega arith));
+          few = f;
+          long = length-set t i set ∙ l;
+          at = λ j g. put-at t i set (omega arith) j (omega arith) (MatchSet b area words j) (λ q. rw q m) (z .at j);
+          any = λ k e j g.
+              let w = neither (bitAt all k) (bitAt set k) (sym (u k) ∙ e) in
+              put-at t i set (omega arith) j (omega arith) (λ (v : ℕ). bitAt v k ≡ false) (λ q. w .1) (z .any k (w .0) j);
         }
 
-    pub listing-last : n ≤ i → Known b area words n t
-    listing-last h = record { long = z .long; at = λ j x g. z .at j (omega arith) x }
+    pub listing-last : n ≤ i → Known b area words n (put t 256 all)
+    listing-last h =
+        let l = z .long in
+        let f = z .few in
+        record {
+          long = omega (arith, length-set t 256 all);
+          few = f;
+          at = λ j x g. rw (getD-set-other t 256 j all 0 (λ q. omega arith)) (z .at j (omega arith) x);
+          any = λ k e j g.
+              rw (getD-set-other t 256 j all 0 (λ q. omega arith))
+              (z .any k (rw (getD-set-same t 256 all 0 (omega arith)) at e) j (omega arith));
+        }

@@ -1,5 +1,5 @@
 -- Which flags and arguments each item matches, as bits: bit k of word i is set if item i has one of the names of node k.
-use mathlib.Core.Bool.{Bool, _&&_, _||_}
+use mathlib.Core.Bool.{Bool, false, _&&_, _||_}
 use mathlib.Core.List.{List}
 use mathlib.Core.Option.{some}
 use mathlib.Core.Path.{_≡_}
@@ -44,13 +44,15 @@ pub record Matchable (b codes s words : List ℕ) (n : ℕ) : Type 0 where
 abbrev pub MatchSet : List ℕ → List ℕ → List ℕ → ℕ → ℕ → Type 0
 MatchSet b area words i set = (x : Item) → itemFrom area (recordAt words i) ≡ some x → SetOf b (λ y. nodeMatches b y x) set
 
--- the table of the first n items
+-- the table of the first n items; word 256 has every node that one of them matches
 pub record Known (b area words : List ℕ) (n : ℕ) (table : List ℕ) : Type 0 where
-  pub long : n ≤ length table
+  pub long : 257 ≤ length table
+  pub few : n ≤ 256
   pub at : (i : ℕ) (x : Item) → i < n → itemFrom area (recordAt words i) ≡ some x
       → SetOf b (λ y. nodeMatches b y x) (getD table i 0)
+  pub any : (k : ℕ) → bitAt (getD table 256 0) k ≡ false → (i : ℕ) → i < n → bitAt (getD table i 0) k ≡ false
 
--- of the first n items, the bits of a node are a test
-abbrev pub Says : List ℕ → ℕ → ℕ → List ℕ → List ℕ → (Item → Bool) → Type 0
-Says table n node area words test =
-    (i : ℕ) (x : Item) → i < n → itemFrom area (recordAt words i) ≡ some x → bitAt (getD table i 0) node ≡ test x
+-- of the first n items, the bits of a node are a test; a node that word 256 does not have is in none of them
+pub record Says (table : List ℕ) (n node : ℕ) (area words : List ℕ) (test : Item → Bool) : Type 0 where
+  pub at : (i : ℕ) (x : Item) → i < n → itemFrom area (recordAt words i) ≡ some x → bitAt (getD table i 0) node ≡ test x
+  pub none : bitAt (getD table 256 0) node ≡ false → (i : ℕ) → i < n → bitAt (getD table i 0) node ≡ false

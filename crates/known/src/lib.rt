@@ -1,10 +1,10 @@
 // Which flags and arguments each item matches, worked out once: bit n of an item's word is set if node n matches the item.
 ghost use mathlib.Core.Path.{_≡_};
-ghost use mathlib.Core.Bool.{Bool, true, _&&_, _||_};
+ghost use mathlib.Core.Bool.{Bool, true, not, _&&_, _||_};
 ghost use mathlib.Core.List.{List};
 ghost use Prim.Native.Nat.{ℕ, _≤_, _<_};
 ghost use lib.Dec.{eqb};
-ghost use lib.ListN.{length, replicate};
+ghost use lib.ListN.{length, getD, replicate};
 ghost use Rattle.rules.specs.Accept.{lengthGood};
 ghost use Rattle.rules.specs.Form.{nameCount};
 ghost use Rattle.rules.specs.Sheet.{sheetArea};
@@ -192,33 +192,49 @@ fn matching(
     }
 }
 
-// The nodes that match each of the first `count` items. Every item is compared with every name record at most once.
+// The nodes that match each of the first `count` items, and in word 256 those that match any of them. Every item is compared with
+// every name record at most once.
 pub fn known(
     form: &[u8],
     codes: &[u32],
     sheet: &[u8],
     items: &[u32],
     count: usize,
-    table: &mut [u64; 256],
+    table: &mut [u64; 257],
 )
-    requires { ⌜ Matchable (now form) (now codes) (now sheet) (now items) count × (count ≤ length (now table)) ⌝ }
+    requires { ⌜ Matchable (now form) (now codes) (now sheet) (now items) count × (count ≤ 256) × (length (now table) ≡ 257) ⌝ }
     ensures { λ _. ⌜ Known (now (form .entry)) (sheetArea (now (sheet .entry))) (now (items .entry)) count (now (table .exit)) ⌝ }
 {
     let names = layout::name_count(form);
     let mut owners = no_owners();
     let loose = mark_nodes(form, names, &mut owners);
+    let mut all: u64 = 0;
     let mut i = 0;
     while i < count {
-        table[i] = matching(form, codes, sheet, items, i, names, &owners, loose);
+        let set = matching(form, codes, sheet, items, i, names, &owners, loose);
+        table[i] = set;
+        all = union(all, set);
         i += 1;
     }
+    table[256] = all;
+}
+
+// Whether a node matches no item at all.
+pub fn is_absent(table: &[u64], node: usize) -> bool
+    requires { ⌜ (node < 64) × (257 ≤ length (now table)) ⌝ }
+    ensures { λ r. ⌜ r ≡ not (bitAt (getD (now (table .entry)) 256 0) node) ⌝ }
+{
+    !has(table[256], node)
 }
 
 // The first present place from `from` on, below `end`, whose word has the bit of a node; `end` if there is none.
 pub fn find(table: &[u64], marks: &[u16], node: usize, from: usize, end: usize) -> usize
-    requires { ⌜ (node < 64) × (from ≤ end) × (end ≤ length (now table)) × (end ≤ length (now marks)) ⌝ }
+    requires { ⌜ (node < 64) × (from ≤ end) × (end ≤ 256) × (257 ≤ length (now table)) × (end ≤ length (now marks)) ⌝ }
     ensures { λ r. ⌜ ((area words : List ℕ) (test : RulesItem → Bool) → Says (now (table .entry)) end node area words test → Sought area words test (now (marks .entry)) from end r) ⌝ }
 {
+    if is_absent(table, node) {
+        return end;
+    }
     let mut i = from;
     while i < end {
         if marks[i] != 1 {

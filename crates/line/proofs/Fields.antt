@@ -2,18 +2,21 @@
 use mathlib.Core.Bool.{Bool, true, false, not}
 use mathlib.Core.List.{List, [], _∷_}
 use mathlib.Core.Option.{some, Option·some-injective, Option·none-ne-some}
+use mathlib.Core.Logic.{_⊎_, inl, ⊎-elim}
 use mathlib.Core.Path.{_≡_, refl, sym, ap, _∙_}
-use Prim.Native.Nat.{ℕ, zero, suc, _≤_}
+use Prim.Native.Nat.{ℕ, zero, suc, _≤_, _<_}
 use native.Mathlib.Omega.{arith}
 use lib.Dec.{leb}
 use lib.ListN.{length, getElem?}
 use Rattle.utf8.specs.Utf8.{if_then_else_}
-use Rattle.rules.specs.Form.{Node, Form, fieldCount, readForm}
+use Rattle.rules.specs.Form.{Node, Form, nodeCount, fieldCount, readForm}
 use Rattle.rules.specs.Tree.{Tree, kindOf}
-use Rattle.rules.specs.Accept.{Accepted, accepted, checkForm, treesAt, leafCount}
+use Rattle.rules.specs.Accept.{Accepted, accepted, checkForm, lengthGood, treesAt, leafCount}
 use Rattle.rules.specs.Demands.{Sound, leaves, allLeaves}
 use Rattle.rules.proofs.Acceptance.{All-at, fields-step, accepted-passed, accepted-length, accepted-form, accepted-sound, accepted-fields}
 use Rattle.rules.proofs.Uses.{leaves-law}
+use Rattle.layout.specs.Layout.{nodeOf}
+use Rattle.layout.specs.declared.Node as declared
 use Rattle.layout.proofs.Sizes.{sized, nodes-length, fields-length}
 use Rattle.state.specs.declared.Numbers.{Numbers}
 use Rattle.outcome.specs.declared.Ran.{Ran}
@@ -21,9 +24,11 @@ use Rattle.outcome.specs.Told.{Evaluates, scalarWords}
 use Rattle.outcome.specs.Nodes.{treeAt, isScalar, Scalar}
 use Rattle.outcome.proofs.NodeLaw.{at-tree}
 use Rattle.eval.specs.Values.{Put}
-use Rattle.eval.proofs.Words.{scalar-short}
+use Rattle.nodes.proofs.Words.{scalar-short}
+use Rattle.nodes.proofs.Trees.{form-good, node-inside}
 use Rattle.lists.specs.Lists.{Listed, Writes}
-use Rattle.line.specs.Line.{Fields, written}
+use Rattle.line.specs.Line.{Fields, written, PutValue}
+use Rattle.line.proofs.Shapes.{single-here}
 
 -- ---- one field
 module _
@@ -43,6 +48,34 @@ module _
     pub field-scalar : r ≡ false → Scalar b known s words m p mark n
     field-scalar h = record { stands = f .stands; scalar = sym (says (f .stands .tree) (f .stands .node)) ∙ ap not h }
 
+-- a field that is a leaf
+module _
+    (b known s words m : List ℕ)
+    (p : Numbers)
+    (mark n : ℕ)
+    (o : List ℕ)
+    (at : ℕ)
+    (f : Fields b known s words m p mark n o at)
+  where
+    pub field-good : lengthGood b ≡ true
+    field-good = form-good b n (f .stands .tree) (f .stands .node)
+
+    pub field-inside : n < nodeCount b
+    field-inside = node-inside b n (f .stands .tree) (f .stands .node)
+
+    pub field-leaf :
+        (x : declared.Node)
+        → getElem? (readForm b .nodes) n ≡ some (nodeOf x)
+        → (x .kind ≡ 1) ⊎ (x .kind ≡ 3)
+        → Scalar b known s words m p mark n
+    field-leaf x h k =
+        let low : x .kind < 4 = ⊎-elim (λ (e : x .kind ≡ 1). omega arith) (λ (e : x .kind ≡ 3). omega arith) k in
+        let other : (x .kind ≡ 4) ⊎ (x .kind ≡ 9) → ⊥ = ⊎-elim (λ e. omega arith) (λ e. omega arith) in
+        record {
+          stands = f .stands;
+          scalar = sym (single-here b n (f .stands .tree) (f .stands .node) x h (x .kind) refl (inl low) other);
+        }
+
 -- a value that is no list, written
 pub field-written :
     (mark : ℕ) (area words : List ℕ) (t : Tree) (m : List ℕ) (p : Numbers) (m′ o : List ℕ) (at : ℕ) (o′ : List ℕ) (x : Ran) (len : ℕ) (r : Ran)
@@ -60,6 +93,21 @@ field-written mark area words t m p m′ o at o′ x len r e w q =
       fits = omega (arith, scalar-short (x .len) (x .word));
       left = e .left;
     })
+
+pub field-put :
+    (mark : ℕ) (area words : List ℕ) (t : Tree) (m : List ℕ) (p : Numbers) (m′ o : List ℕ) (at : ℕ) (o′ : List ℕ) (x r : Ran)
+    → Evaluates mark area words t m p m′ x
+    → PutValue o at x o′ r
+    → Writes mark area words t m p m′ o at o′ r
+field-put mark area words t m p m′ o at o′ x r e w =
+    field-written mark area words t m p m′ o at o′ x (r .len) r e (w .put) (w .same)
+
+pub value-put :
+    (o : List ℕ) (at : ℕ) (o′ : List ℕ) (x : Ran) (len : ℕ) (r : Ran)
+    → Put o at (x .len) (x .word) o′ len
+    → r ≡ written x len
+    → PutValue o at x o′ r
+value-put o at o′ x len r w q = rw q (record { put = w; same = refl })
 
 -- ---- the fields of an accepted form
 leaf-few : (xs : List Node) → leafCount xs ≤ length xs

@@ -136,3 +136,25 @@ module _ (b : List ℕ) (k : ℕ) (t : Tree) (h : treeAt b k ≡ some t) where
         go a (through c y i q) = absurd (z (⊎-elim (λ (v : x .kind ≡ 4). inl (same ∙ v)) (λ (v : x .kind ≡ 9). inr (same ∙ v)) y))
         go a (listed y q) = absurd (⊎-elim (λ (v : n < 4). ⊎-elim (λ w. omega arith) (λ w. omega arith) y) (λ (v : 7 ≤ n). ⊎-elim (λ w. omega arith) (λ w. omega arith) y) l)
         go a (single i y o u q) = sym q
+
+-- ---- the walk from a node down through optionals and choices
+pub record Walked (b : List ℕ) (node n : ℕ) : Type 0 where
+  pub tree : Tree
+  pub here : treeAt b n ≡ some tree
+  pub same : (t : Tree) → treeAt b node ≡ some t → isScalar (kindOf t) ≡ isScalar (kindOf tree)
+
+pub walked-first : (b : List ℕ) (node : ℕ) → ((t : Tree) × (treeAt b node ≡ some t)) → Walked b node node
+walked-first b node (t, h) = record {
+  tree = t;
+  here = h;
+  same = λ u e. ap (λ (v : Tree). isScalar (kindOf v)) (Option·some-injective u t (sym e ∙ h));
+}
+
+module _ (b : List ℕ) (node n : ℕ) (w : Walked b node n) (x : declared.Node) (s : getElem? (readForm b .nodes) n ≡ some (nodeOf x)) where
+  pub walked-less : (x .kind ≡ 4) ⊎ (x .kind ≡ 9) → x .p < n
+  walked-less z = beneath b n (w .tree) (w .here) x s z .lower
+
+  pub walked-next : (x .kind ≡ 4) ⊎ (x .kind ≡ 9) → Walked b node (x .p)
+  walked-next z =
+      let under = beneath b n (w .tree) (w .here) x s z in
+      record { tree = under .tree; here = under .node; same = λ t h. w .same t h ∙ under .same }

@@ -23,6 +23,7 @@ use Rattle.outcome.specs.declared.Ran.{Ran}
 use Rattle.outcome.specs.Told.{Told}
 use Rattle.outcome.specs.Nodes.{Standing}
 use Rattle.eval.specs.Cycle.{Room}
+use Rattle.eval.specs.Values.{Put}
 use Rattle.line.specs.declared.Reached.{Reached}
 
 -- an accepted form, a checked sheet, a state over the items, which nodes each item matches, and an answer slice of zeros
@@ -50,6 +51,11 @@ written r len = record {
   word = 0;
   numbers = r .numbers;
 }
+
+-- a value that is no list, whose words are put from `at` on
+pub record PutValue (o : List ℕ) (at : ℕ) (x : Ran) (o′ : List ℕ) (r : Ran) : Type 0 where
+  pub put : Put o at (x .len) (x .word) o′ (r .len)
+  pub same : r ≡ written x (r .len)
 
 -- a run of fields without its trace and without what was missing. A fault tells nothing
 unfoldable pub toldAll : Run (List Value) → Option Told

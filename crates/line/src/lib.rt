@@ -2,12 +2,13 @@
 ghost use mathlib.Core.Path.{_≡_};
 ghost use mathlib.Core.Bool.{not};
 ghost use mathlib.Core.Option.{some};
-ghost use Prim.Native.Nat.{_≤_};
+ghost use Prim.Native.Nat.{_+_, _≤_};
+ghost use lib.ListN.{length};
 ghost use Rattle.rules.specs.Accept.{Accepted, accepted, checkForm};
 ghost use Rattle.rules.specs.Sheet.{sheetArea};
 ghost use Rattle.rules.specs.Tree.{Tree, kindOf};
 ghost use Rattle.outcome.specs.Nodes.{treeAt, isScalar};
-ghost use Rattle.line.specs.Line.{Starts, Fields, written, RunsFields, Reaches, refusedWith, valuesOf};
+ghost use Rattle.line.specs.Line.{Starts, Fields, written, PutValue, RunsFields, Reaches, refusedWith, valuesOf};
 ghost use Rattle.lists.specs.Lists.{Writes};
 use outcome::Ran;
 use state::Numbers;
@@ -32,12 +33,15 @@ pub fn is_list(form: &[u8], node: usize) -> bool
     requires { ⌜ ((t : Tree) × (treeAt (now form) node ≡ some t)) ⌝ }
     ensures { λ r. ⌜ ((t : Tree) → treeAt (now (form .entry)) node ≡ some t → not r ≡ isScalar (kindOf t)) ⌝ }
 {
-    let x = layout::node_at(form, node);
-    let kind = x.kind;
-    match kind {
-        4 | 9 => is_list(form, x.p),
-        5 | 6 => true,
-        _ => false,
+    let mut n = node;
+    loop {
+        let x = layout::node_at(form, n);
+        let kind = x.kind;
+        match kind {
+            4 | 9 => n = x.p,
+            5 | 6 => return true,
+            _ => return false,
+        }
     }
 }
 
@@ -56,8 +60,17 @@ fn wrote(ran: Ran, len: u32) -> Ran
     }
 }
 
-// One field: its words go to `out` from `at` on.
-fn run_field(
+// A value that is no list: its words go to `out` from `at` on.
+fn put_value(out: &mut [u32], at: usize, ran: Ran) -> Ran
+    requires { ⌜ at + 2 ≤ length (now out) ⌝ }
+    ensures { λ r. ⌜ PutValue (now (out .entry)) at ran (now (out .exit)) r ⌝ }
+{
+    let len = eval::put(out, at, ran.len, ran.word);
+    wrote(ran, len)
+}
+
+// A field by the general run, whatever its node is.
+fn run_other(
     form: &[u8],
     known: &[u64],
     sheet: &[u8],
@@ -76,8 +89,35 @@ fn run_field(
         return lists::run_list(form, known, sheet, items, marks, p, node, at, out, mark);
     }
     let ran = eval::run_node(form, known, sheet, items, marks, p, node, mark);
-    let len = eval::put(out, at, ran.len, ran.word);
-    wrote(ran, len)
+    put_value(out, at, ran)
+}
+
+// One field: its words go to `out` from `at` on. A flag or a positional is evaluated in place, which is quicker than the general run.
+fn run_field(
+    form: &[u8],
+    known: &[u64],
+    sheet: &[u8],
+    items: &[u32],
+    marks: &mut [u16; 256],
+    p: Numbers,
+    node: usize,
+    at: usize,
+    out: &mut [u32],
+    mark: u16,
+) -> Ran
+    requires { ⌜ Fields (now form) (now known) (now sheet) (now items) (now marks) p mark node (now out) at ⌝ }
+    ensures { λ r. ⌜ ((t : Tree) → treeAt (now (form .entry)) node ≡ some t → Writes mark (sheetArea (now (sheet .entry))) (now (items .entry)) t (now (marks .entry)) p (now (marks .exit)) (now (out .entry)) at (now (out .exit)) r) ⌝ }
+{
+    let x = layout::node_at(form, node);
+    if x.kind == 1 {
+        let flag = params::eval_flag(known, marks, p, node, x.r == 1, mark);
+        return put_value(out, at, flag);
+    }
+    if x.kind == 3 {
+        let operand = params::eval_positional(sheet, items, marks, p, x.p, x.r == 2, mark);
+        return put_value(out, at, operand);
+    }
+    run_other(form, known, sheet, items, marks, p, node, at, out, mark)
 }
 
 fn refused(number: u32, place: u32, tries: u32, numbers: Numbers) -> Reached

@@ -20,7 +20,7 @@ use Rattle.state.specs.declared.Numbers.{Numbers}
 use Rattle.outcome.specs.declared.Ran.{Ran}
 use Rattle.outcome.specs.Nodes.{treeAt, isScalar, Standing}
 use Rattle.lists.specs.Lists.{Listed, Writes, OverScalar, OverList, WritesOver, Both}
-use Rattle.eval.proofs.Trees.{Single, Double, form-good, node-inside, sound-at, optional-tree}
+use Rattle.nodes.proofs.Trees.{Single, Double, form-good, node-inside, sound-at, optional-tree}
 use Rattle.lists.proofs.Trees.{list-scalar, optional-long, many-tree, some-tree, other-tree}
 
 module _

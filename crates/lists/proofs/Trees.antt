@@ -16,7 +16,7 @@ use Rattle.rules.specs.Accept.{Accepted, accepted, checkForm}
 use Rattle.rules.proofs.Acceptance.{if-some, if-not-some, bind-some, Made, flagMade, argumentMade, positionalMade, optionalMade, manyMade, someMade, countMade, lastMade, choiceMade, fallbackMade, guardMade, inside-same, tree-made}
 use Rattle.rules.proofs.KindLaws.{base-kind}
 use Rattle.outcome.specs.Nodes.{treeAt, isScalar}
-use Rattle.eval.proofs.Trees.{Single, Double, choice-tree}
+use Rattle.nodes.proofs.Trees.{Single, Double, choice-tree}
 use Rattle.outcome.proofs.NodeLaw.{node-tree, at-tree, tree-accepted}
 
 -- ---- kinds

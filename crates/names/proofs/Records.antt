@@ -1,5 +1,5 @@
 -- The steps of the functions on name records.
-use mathlib.Core.Bool.{Bool, true, false, not, _&&_}
+use mathlib.Core.Bool.{Bool, true, false, not}
 use mathlib.Core.List.{List}
 use mathlib.Core.Option.{Option, some, none}
 use mathlib.Core.Path.{_≡_, refl, sym, _∙_, ap}
@@ -9,7 +9,7 @@ use lib.Dec.{leb, eqb}
 use lib.ListN.{length, getD, take, drop}
 use borrow.Author.Tests.{eq-eqb, ne-eqb, le-leb, lt-leb, not-true, not-false}
 use borrow.Author.Count.{below-more}
-use Rattle.utf8.specs.Utf8.{if_then_else_, decode, decodeAt, wellFormed}
+use Rattle.utf8.specs.Utf8.{if_then_else_, decodeAt, wellFormed}
 use Rattle.utf8.specs.Laws.{decode-ascii}
 use Rattle.utf8.specs.declared.Decoded.{Decoded}
 use Rattle.utf8.specs.declared.Decoded.the-variants.{Char, Bad}

@@ -74,8 +74,11 @@ codes-room b l c e =
     let long : length l ≡ 128 = ap length e ∙ length-replicate {A = ℕ} 128 0 in
     omega arith
 
-pub known-room : (n : ℕ) (l : List ℕ) (area words : List ℕ) → Holds area words n → l ≡ replicate 256 0 → n ≤ length l
-known-room n l area words h e = omega (arith, h .count, h .table .small, ap length e ∙ length-replicate {A = ℕ} 256 0)
+pub known-few : (n : ℕ) (area words : List ℕ) → Holds area words n → n ≤ 256
+known-few n area words h = omega (arith, h .count, h .table .small)
+
+pub known-long : (l : List ℕ) → l ≡ replicate 257 0 → length l ≡ 257
+known-long l e = ap length e ∙ length-replicate {A = ℕ} 257 0
 
 pub known-matchable : (b codes s words : List ℕ) (n : ℕ) → Checked b → Coded b codes → sheetFault s ≡ 0 → Holds (sheetArea s) words n
     → Matchable b codes s words n

@@ -70,10 +70,10 @@ fn codes_of(form: &[u8]) -> [u32; 128]
     codes
 }
 
-fn nothing_known() -> [u64; 256]
-    ensures { λ r. ⌜ r ≡ replicate 256 0 ⌝ }
+fn nothing_known() -> [u64; 257]
+    ensures { λ r. ⌜ r ≡ replicate 257 0 ⌝ }
 {
-    [0u64; 256]
+    [0u64; 257]
 }
 
 fn wide(x: u32) -> usize
@@ -83,7 +83,7 @@ fn wide(x: u32) -> usize
 }
 
 // Which nodes each of the items matches.
-fn known_of(form: &[u8], sheet: &[u8], items: &[u32], count: usize) -> [u64; 256]
+fn known_of(form: &[u8], sheet: &[u8], items: &[u32], count: usize) -> [u64; 257]
     requires { ⌜ Checked (now form) × (sheetFault (now sheet) ≡ 0) × Holds (sheetArea (now sheet)) (now items) count ⌝ }
     ensures { λ r. ⌜ Known (now (form .entry)) (sheetArea (now (sheet .entry))) (now (items .entry)) count r ⌝ }
 {

@@ -1,18 +1,18 @@
 -- Many, some, count and last, from what their repeat tells.
 use mathlib.Core.Bool.{Bool, true, false}
 use mathlib.Core.List.{List, [], _∷_, _++_, map, flatten}
-use mathlib.Core.Option.{Option, some, none, Option·some-injective, Option·none-ne-some}
+use mathlib.Core.Option.{some, none, Option·some-injective, Option·none-ne-some}
 use mathlib.Core.Path.{_≡_, refl, sym, _∙_, ap, ap₂, subst}
-use Prim.Native.Nat.{ℕ, zero, suc, _+_}
+use Prim.Native.Nat.{ℕ, suc, _+_}
 use native.Mathlib.Omega.{arith}
 use lib.ListN.{length}
 use Rattle.utf8.specs.Utf8.{if_then_else_}
 use Rattle.rules.specs.Base.{null}
 use Rattle.rules.specs.Outcome.{Outcome, ok, refused, fault, Refusal, refuse}
-use Rattle.rules.specs.Value.{Value, base, isNumber, nil, cons, listOf, word, words, elements, size}
+use Rattle.rules.specs.Value.{Value, base, isNumber, listOf, word, words, elements, size}
 use Rattle.rules.specs.Codes.{placeCode}
 use Rattle.rules.specs.State.{State}
-use Rattle.rules.specs.Eval.{Ran as Run, Visit, ended, after, _then_, repeated, evalMany, evalSome, evalCount, lastOf, evalLast}
+use Rattle.rules.specs.Eval.{Ran as Run, ended, after, _then_, repeated, evalMany, evalSome, evalCount, lastOf, evalLast}
 use Rattle.outcome.specs.Told.{Told, told, Numbered}
 use Rattle.outcome.specs.Lists.{ToldList, toldList, lastWords}
 

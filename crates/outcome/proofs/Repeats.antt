@@ -1,12 +1,11 @@
 -- A repeat, turn by turn, from what its child tells.
 use mathlib.Core.Bool.{Bool, true, false, false≢true}
-use mathlib.Core.List.{List, [], _∷_, _++_, map, flatten}
+use mathlib.Core.List.{List, [], _∷_, _++_, map}
 use mathlib.Core.Option.{Option, some, none, Option·some-injective, Option·none-ne-some}
-use mathlib.Core.Path.{_≡_, refl, sym, _∙_, ap, ap₂, subst}
+use mathlib.Core.Path.{_≡_, refl, sym, _∙_, ap, ap₂}
 use Prim.Native.Nat.{ℕ, zero, suc, _+_}
 use native.Mathlib.Omega.{arith}
 use lib.Dec.{eqb}
-use lib.ListN.{length}
 use borrow.Author.Tests.{eq-eqb, eqb-true}
 use Rattle.utf8.specs.Utf8.{if_then_else_}
 use Rattle.rules.specs.Outcome.{Outcome, ok, refused, fault, Refusal, refuse}
@@ -19,7 +18,7 @@ use Rattle.structs.specs.declared.Counting.the-variants.{Counted, Uncounted, Ab
 use Rattle.structs.specs.Decisions.{withRemaining, optionWay, optionBy, someOf}
 use Rattle.structs.specs.Laws.{option-ok, option-refused}
 use Rattle.outcome.specs.Told.{Told, told, Numbered}
-use Rattle.outcome.specs.Lists.{ToldList, toldList, prefixed}
+use Rattle.outcome.specs.Lists.{toldList, prefixed}
 
 -- ---- lists
 add-zero : (n : ℕ) → n + 0 ≡ n

@@ -1,21 +1,17 @@
 -- What an evaluation tells is what the run inside it tells: its value is of the node's kind.
 use mathlib.Core.Bool.{Bool, true, false}
-use mathlib.Core.List.{List}
-use mathlib.Core.Option.{Option, some, none, Option·some-injective, Option·none-ne-some}
-use mathlib.Core.Path.{_≡_, refl, sym, _∙_, ap, subst}
-use Prim.Native.Nat.{ℕ, _+_, _*_, _≤_, _<_}
-use native.Mathlib.Nat.{le-trans}
+use mathlib.Core.Option.{Option}
+use mathlib.Core.Path.{_≡_, refl}
+use Prim.Native.Nat.{ℕ, _+_}
 use native.Mathlib.Omega.{arith}
-use lib.ListN.{length}
 use Rattle.utf8.specs.Utf8.{if_then_else_}
 use Rattle.rules.specs.Outcome.{Outcome, ok, refused, fault, wrongKind}
-use Rattle.rules.specs.Value.{Kind, Value, words}
-use Rattle.rules.specs.Codes.{placeCode}
+use Rattle.rules.specs.Value.{Kind, Value}
 use Rattle.rules.specs.Tree.{Tree, kindOf}
 use Rattle.rules.specs.State.{State}
 use Rattle.rules.specs.Eval.{Ran as Run, ofKind, checked, visit}
 use Rattle.rules.proofs.Steps.{EndsOne, Runs}
-use Rattle.outcome.specs.Told.{Told, told, Numbered}
+use Rattle.outcome.specs.Told.{told, Numbered}
 
 checked-ends : (m : ℕ) (k : Option Kind) (o : Outcome Value) → EndsOne m k (checked k o) → checked k o ≡ o
 unfolding checked if_then_else_

@@ -2,7 +2,7 @@
 use mathlib.Core.List.{List, [], _∷_, _++_, map}
 use mathlib.Core.Option.{Option, some, none}
 use Prim.Native.Nat.{ℕ, _+_}
-use Rattle.rules.specs.Outcome.{Outcome, ok, refused, fault}
+use Rattle.rules.specs.Outcome.{ok, refused, fault}
 use Rattle.rules.specs.Value.{Value, words}
 use Rattle.rules.specs.Codes.{placeCode}
 use Rattle.rules.specs.State.{State}

@@ -4,6 +4,7 @@ ghost use mathlib.Core.Path.{_≡_};
 ghost use mathlib.Core.Bool.{Bool, true, false};
 ghost use mathlib.Core.List.{List};
 ghost use Prim.Native.Nat.{ℕ, _≤_, _<_, min};
+ghost use lib.ListN.{length};
 ghost use Rattle.utf8.specs.Utf8.{if_then_else_};
 ghost use Rattle.rules.specs.Sheet.{sheetArea, sheetFault};
 ghost use Rattle.rules.specs.Value.{text, number};
@@ -15,7 +16,7 @@ ghost use Rattle.state.specs.Lent.{Fine};
 ghost use Rattle.named.specs.Items.{partBytes};
 ghost use Rattle.take.specs.Takes.{Ready, Reaches, Skips};
 ghost use Rattle.outcome.specs.Told.{Evaluates};
-ghost use Rattle.params.specs.Leaves.{Leaf, valueRan, refusedRan, Tells, refusalOf};
+ghost use Rattle.params.specs.Leaves.{Leaf, Missing, valueRan, refusedRan, Tells, refusalOf};
 use arg::Part;
 use number::Number;
 use outcome::Ran;
@@ -115,6 +116,14 @@ fn placed(
         return refused(wrong, place as u32 + 1, numbers);
     }
     parsed(sheet, place, t, numeric, numbers)
+}
+
+// Whether no item has the names of a node.
+pub fn is_missing(known: &[u64], node: usize) -> bool
+    requires { ⌜ (node < 64) × (257 ≤ length (now known)) ⌝ }
+    ensures { λ r. ⌜ (r ≡ true → Missing (now (known .entry)) node) ⌝ }
+{
+    known::is_absent(known, node)
 }
 
 // A flag. Which items have its names, the table `known` tells by the node. A switch that is missing is "no".

@@ -1,12 +1,11 @@
 -- A text that was compared to its end is the one that the list must have.
-use mathlib.Core.Path.{_≡_, refl, sym, _∙_, ap}
+use mathlib.Core.Path.{_≡_}
 use mathlib.Core.Bool.{true}
-use mathlib.Core.List.{List, [], _∷_, _++_}
-use mathlib.Core.Option.{some}
-use Prim.Native.Nat.{ℕ, _*_, _≤_}
+use mathlib.Core.List.{List, [], _∷_}
+use Prim.Native.Nat.{ℕ, _*_}
 use native.Mathlib.Omega.{arith}
 use lib.Dec.{eqb}
-use lib.ListN.{length, take, drop}
+use lib.ListN.{length}
 use borrow.Author.Tests.{eqb-true}
 use Rattle.rules.specs.Outcome.{ok}
 use Rattle.rules.specs.Calls.{callSplit}
@@ -16,7 +15,7 @@ use Rattle.reader.specs.Reader.{splittingOf}
 use Rattle.reader.specs.declared.SplitAnswer.{SplitAnswer}
 use Rattle.runner.specs.Runner.{runAnswer, ended}
 use Rattle.runner.specs.declared.RunAnswer.{RunAnswer}
-use Rattle.tokens.specs.Compare.{Follows, WordsFollow, StateFollows, refusalText, spaced, stateText, wordsText}
+use Rattle.tokens.specs.Compare.{Follows, WordsFollow, StateFollows, refusalText, spaced, stateText}
 use Rattle.tokens.proofs.Standing.{joined}
 use Rattle.tokens.specs.Laws.{alone}
 use Rattle.replay.specs.CheckList.{firstRefusal, CheckTold}

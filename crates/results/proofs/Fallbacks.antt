@@ -2,7 +2,7 @@
 use mathlib.Core.Bool.{Bool, true, false}
 use mathlib.Core.List.{List}
 use mathlib.Core.Option.{some, Option·none-ne-some}
-use mathlib.Core.Path.{_≡_, refl, sym, ap, _∙_}
+use mathlib.Core.Path.{_≡_, refl, sym, ap, subst, _∙_}
 use Prim.Native.Nat.{ℕ}
 use native.Mathlib.Omega.{arith}
 use lib.Dec.{eqb}
@@ -21,7 +21,7 @@ use Rattle.structs.specs.Decisions.{fallbackWay, fallbackBy}
 use Rattle.structs.specs.Laws.{fallback-refused}
 use Rattle.outcome.specs.declared.Ran.{Ran}
 use Rattle.outcome.specs.Told.{Told, told, Numbered, toldWith, answered, scalarWords}
-use Rattle.results.specs.Made.{valueOf, refusalOf, Returned, FallbackOf}
+use Rattle.results.specs.Made.{valueOf, refusalOf, Returned, FallbackOf, Unchanged}
 use Rattle.results.proofs.Tells.{runOf, told-same, value-told, refusal-told}
 
 -- ---- the number, by what was decided
@@ -146,3 +146,22 @@ module _ (own : ℕ) (before : List ℕ) (p : Numbers) (ran : Ran) (m : List ℕ
           same = λ v _ R w i h _. whole v before p ran m _ z (λ x t n l w′ i′ h′. passed-same v before p ran m x t n l w′ i′ h′ (sym a ∙ q)) R w i h;
           left = left-same before p (given .fine);
         })
+
+-- ---- where a refused child left the marks as they were
+module _ (own : ℕ) (p : Numbers) (ran : Ran) (k : Fallback) (q : k ≡ fallbackWay (ran .number)) where
+  abbrev Made : Ran → Type 0
+  Made r = (before m : List ℕ) → Returned before p m ran → Unchanged before m ran → FallbackOf own before p ran m m r
+
+  pub unchanged-child : k ≡ Child → Made ran
+  unchanged-child a before m given _ = fallback-child own before p ran m given k q a
+
+  module _ (r : Ran) where
+    pub unchanged-own : k ≡ Own → r ≡ valueOf (ran .tries) 1 own p → Made r
+    unchanged-own a e before m given u =
+        let z = refusing own before p ran m given k q (λ c. let y : _≡_ {A = ℕ} 0 1 = cc in omega arith) in
+        subst (λ (l : List ℕ). FallbackOf own before p ran m l r) (sym (u z)) (fallback-own own before p ran m given k q r a e)
+
+    pub unchanged-passed : k ≡ Passed → r ≡ refusalOf (ran .number) (ran .place) (ran .tries) p → Made r
+    unchanged-passed a e before m given u =
+        let z = refusing own before p ran m given k q (λ c. let y : _≡_ {A = ℕ} 0 1 = cc in omega arith) in
+        subst (λ (l : List ℕ). FallbackOf own before p ran m l r) (sym (u z)) (fallback-passed own before p ran m given k q r a e)

@@ -3,4 +3,5 @@ pub mod Optionals
 pub mod Fallbacks
 pub mod Guards
 pub mod Choices
+pub mod Alone
 pub mod Words

@@ -3,7 +3,7 @@ use mathlib.Core.Bool.{Bool, true, false, false≢true}
 use mathlib.Core.List.{List, [], _∷_}
 use mathlib.Core.Logic.{⊎-elim}
 use mathlib.Core.Option.{Option, some, none, Option·none-ne-some}
-use mathlib.Core.Path.{_≡_, refl, sym, ap, _∙_}
+use mathlib.Core.Path.{_≡_, refl, sym, ap, subst, _∙_}
 use Prim.Native.Nat.{ℕ, _+_}
 use native.Mathlib.Omega.{arith}
 use lib.Dec.{eqb}
@@ -26,7 +26,7 @@ use Rattle.structs.specs.Laws.{counted-none, option-refused}
 use Rattle.structs.proofs.Counting as T
 use Rattle.outcome.specs.declared.Ran.{Ran}
 use Rattle.outcome.specs.Told.{told, Numbered, toldWith}
-use Rattle.results.specs.Made.{valueOf, refusalOf, Given, optionalWords, OptionalOf}
+use Rattle.results.specs.Made.{valueOf, refusalOf, Given, Undone, optionalWords, OptionalOf}
 use Rattle.results.specs.declared.Optioned.{Optioned}
 use Rattle.results.proofs.Tells.{runOf, told-same, value-told, refusal-told}
 
@@ -206,3 +206,20 @@ module _ (catch : Bool) (before : List ℕ) (p : Numbers) (ran : Ran) (m : List 
         absent = λ f. absurd (z f);
         refused = λ _. (refl, refl);
       })
+
+-- ---- where an absent child left the marks as they were
+module _ (catch : Bool) (p : Numbers) (ran : Ran) (k : Counting)
+    (q : k ≡ optionWay (ran .number) catch (p .remaining) (ran .numbers .remaining) (countedOf 4294967295)) (r : Ran) where
+  abbrev Made : Bool → Type 0
+  Made b = (before m : List ℕ) → Given before p m ran → Undone catch before p m ran → OptionalOf catch before p ran m m (record { ran = r; present = b })
+
+  pub unchanged-present : OneOf (0 ∷ 1 ∷ []) (tagOf T.the-type k) → r ≡ valueOf (ran .tries) (ran .len + 1) (ran .word) (ran .numbers) → Made true
+  unchanged-present o e before m given _ = optional-present catch before p ran m given k q r o e
+
+  pub unchanged-absent : k ≡ Absent → r ≡ valueOf (ran .tries) 1 0 p → Made false
+  unchanged-absent a e before m given u =
+      subst (λ (l : List ℕ). OptionalOf catch before p ran m l (record { ran = r; present = false })) (sym (u (sym q ∙ a)))
+      (optional-absent catch before p ran m given k q r a e)
+
+  pub unchanged-passed : k ≡ PassedOn → r ≡ refusalOf (ran .number) (ran .place) (ran .tries) (ran .numbers) → Made false
+  unchanged-passed a e before m given _ = optional-passed catch before p ran m given k q r a e

@@ -1,7 +1,7 @@
 -- What the functions of this crate make, by the rules.
 use mathlib.Core.Bool.{Bool, true, false}
 use mathlib.Core.List.{List, [], _∷_, _++_}
-use mathlib.Core.Option.{some, none}
+use mathlib.Core.Option.{some}
 use mathlib.Core.Path.{_≡_}
 use Prim.Native.Nat.{ℕ, _+_, _-_, _^_, _≤_, _<_}
 use lib.Dec.{eqb}
@@ -17,6 +17,8 @@ use Rattle.rules.specs.declared.Refused.{Refused}
 use Rattle.state.specs.declared.Numbers.{Numbers}
 use Rattle.state.specs.Lent.{stateOf, Fine, pickOf}
 use Rattle.take.specs.Takes.{Left}
+use Rattle.structs.specs.declared.Counting.the-variants.{Absent}
+use Rattle.structs.specs.Decisions.{countedOf, optionWay}
 use Rattle.outcome.specs.declared.Ran.{Ran}
 use Rattle.outcome.specs.Told.{told, Numbered, toldWith, answered, scalarWords}
 use Rattle.outcome.specs.Nodes.{treeAt}
@@ -28,6 +30,10 @@ valueOf tries len word p = record { number = 0; place = 0; tries = tries; len = 
 
 abbrev pub refusalOf : ℕ → ℕ → ℕ → Numbers → Ran
 refusalOf number place tries p = record { number = number; place = place; tries = tries; len = 0; word = 0; numbers = p }
+
+-- the result of a node that is missing: 20, after one try
+abbrev pub missingOf : Numbers → Ran
+missingOf p = refusalOf 20 0 1 p
 
 -- a child's result, and what it left of the state that it was given
 pub record Given (before : List ℕ) (p : Numbers) (m : List ℕ) (ran : Ran) : Type 0 where
@@ -48,6 +54,11 @@ pub record OptionalOf (catch : Bool) (before : List ℕ) (p : Numbers) (ran : Ra
   pub absent : r .ran .number ≡ 0 → r .present ≡ false → (r .ran .len ≡ 1) × (r .ran .word ≡ 0)
   pub refused : (r .ran .number ≡ 0 → ⊥) → (r .ran .len ≡ 0) × (r .present ≡ false)
 
+-- an absent child left the marks as they were
+abbrev pub Undone : Bool → List ℕ → Numbers → List ℕ → Ran → Type 0
+Undone catch before p m ran =
+    optionWay (ran .number) catch (p .remaining) (ran .numbers .remaining) (countedOf 4294967295) ≡ Absent → m ≡ before
+
 -- ---- fallback, whose own value is this word
 pub record Returned (before : List ℕ) (p : Numbers) (m : List ℕ) (ran : Ran) : Type 0 where
   pub fine : Fine before p
@@ -59,6 +70,10 @@ pub record FallbackOf (word : ℕ) (before : List ℕ) (p : Numbers) (ran : Ran)
       → w ≡ scalarWords (ran .len) (ran .word)
       → told (evalFallback v (stateOf before p) R) ≡ some (answered r m′)
   pub left : Left before p m′ (r .numbers)
+
+-- a refused child left the marks as they were
+abbrev pub Unchanged : List ℕ → List ℕ → Ran → Type 0
+Unchanged before m ran = (ran .number ≡ 0 → ⊥) → m ≡ before
 
 -- ---- guard
 pub record GuardOf (lo hi : ℕ) (ran r : Ran) : Type 0 where

@@ -1,10 +1,12 @@
 // What a combinator makes of its children's results. Where the rules put the state back, the marks are put back.
 ghost use mathlib.Core.Path.{_≡_};
+ghost use mathlib.Core.List.{List};
 ghost use mathlib.Core.Option.{some};
+ghost use Prim.Native.Nat.{ℕ, _+_, _^_, _<_};
 ghost use Rattle.rules.specs.Value.{BaseValue, word};
 ghost use Rattle.rules.specs.Tree.{Tree, Fallback as FallbackTree};
 ghost use Rattle.outcome.specs.Nodes.{treeAt};
-ghost use Rattle.results.specs.Made.{valueOf, refusalOf, Given, OptionalOf, Returned, FallbackOf, GuardOf, Sides, ChoiceOf, endedOf, wonOf, Decided, wonMarks, Marked, WinnerOf, FallbackAt};
+ghost use Rattle.results.specs.Made.{valueOf, refusalOf, missingOf, Given, Undone, OptionalOf, Returned, FallbackOf, Unchanged, GuardOf, Sides, ChoiceOf, endedOf, wonOf, Decided, wonMarks, Marked, WinnerOf, FallbackAt};
 use outcome::Ran;
 use state::Numbers;
 use structs::Counting;
@@ -84,6 +86,28 @@ pub fn optional(
     }
 }
 
+// What an optional makes of its child's result, where an absent child left the marks as they were.
+pub fn optional_unchanged(ran: Ran, p: Numbers, catch: bool) -> Optioned
+    requires { ⌜ ran .len < 1000 ⌝ }
+    ensures { λ r. ⌜ ((before m : List ℕ) → Given before p m ran → Undone catch before p m ran → OptionalOf catch before p ran m m r) ⌝ }
+{
+    let left = ran.numbers;
+    match structs::parse_option(ran.number, catch, p.remaining, left.remaining, 4294967295) {
+        Counting::Absent => Optioned {
+            ran: value(ran.tries, 1, 0, p), // the word 0 alone
+            present: false,
+        },
+        Counting::PassedOn => Optioned {
+            ran: refusal(ran.number, ran.place, ran.tries, left),
+            present: false,
+        },
+        _ => Optioned {
+            ran: value(ran.tries, ran.len + 1, ran.word, left),
+            present: true,
+        },
+    }
+}
+
 // What a fallback makes of its child's result. `word` is its own value.
 pub fn fallback(ran: Ran, p: Numbers, word: u32, before: &[u16; 256], marks: &mut [u16; 256]) -> Ran
     requires { ⌜ Returned (now before) p (now marks) ran ⌝ }
@@ -99,6 +123,17 @@ pub fn fallback(ran: Ran, p: Numbers, word: u32, before: &[u16; 256], marks: &mu
             *marks = *before; // a refusal leaves what was given
             refusal(ran.number, ran.place, ran.tries, p)
         },
+    }
+}
+
+// What a fallback makes of its child's result, where a refused child left the marks as they were.
+pub fn fallback_unchanged(ran: Ran, p: Numbers, word: u32) -> Ran
+    ensures { λ r. ⌜ ((before m : List ℕ) → Returned before p m ran → Unchanged before m ran → FallbackOf word before p ran m m r) ⌝ }
+{
+    match structs::parse_fallback(ran.number) {
+        Fallback::Child => ran,
+        Fallback::Own => value(ran.tries, 1, word, p),
+        Fallback::Refusal => refusal(ran.number, ran.place, ran.tries, p),
     }
 }
 
@@ -236,5 +271,55 @@ pub fn choose(
                 first: false,
             }
         },
+    }
+}
+
+// What a choice makes of its first side, where the second is missing and a refused first side left the marks as they were.
+pub fn first_alone(ran: Ran, p: Numbers) -> Chosen
+    requires { ⌜ ran .tries + 1 < 2 ^ 32 ⌝ }
+    ensures { λ r. ⌜ ((before m : List ℕ) → Sides before p m ran before (missingOf p) → Unchanged before m ran → ChoiceOf before p m ran before (missingOf p) m r) ⌝ }
+{
+    let tries = ran.tries + 1;
+    if ran.number == 0 {
+        return Chosen {
+            ran: won(ran, tries),
+            first: true, // 20 is not for wrong input
+        };
+    }
+    let e = error::combine_with(
+        ended(ran),
+        rules::Refused {
+            number: 20,
+            place: 0,
+        },
+    );
+    Chosen {
+        ran: refusal(e.number, e.place, tries, p),
+        first: false,
+    }
+}
+
+// The same of its second side, where the first is missing.
+pub fn second_alone(ran: Ran, p: Numbers) -> Chosen
+    requires { ⌜ ran .tries + 1 < 2 ^ 32 ⌝ }
+    ensures { λ r. ⌜ ((before m : List ℕ) → Sides before p before (missingOf p) m ran → Unchanged before m ran → ChoiceOf before p before (missingOf p) m ran m r) ⌝ }
+{
+    let tries = ran.tries + 1;
+    if ran.number == 0 {
+        return Chosen {
+            ran: won(ran, tries),
+            first: false,
+        };
+    }
+    let e = error::combine_with(
+        rules::Refused {
+            number: 20,
+            place: 0,
+        },
+        ended(ran),
+    );
+    Chosen {
+        ran: refusal(e.number, e.place, tries, p),
+        first: false,
     }
 }

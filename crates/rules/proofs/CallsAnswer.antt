@@ -4,9 +4,9 @@ use mathlib.Core.List.{List, [], _∷_, reverse}
 use mathlib.Core.Logic.{⊎-elim}
 use mathlib.Core.Option.{Option, some, none, Option·some-injective}
 use mathlib.Core.Path.{_≡_, refl, sym, ap, _∙_}
-use Prim.Native.Nat.{ℕ, zero, suc, _+_, _-_, _≤_, _<_}
+use Prim.Native.Nat.{ℕ, suc, _+_, _-_, _≤_, _<_}
 use native.Mathlib.Omega.{arith}
-use borrow.Author.Tests.{leb-true, ltb-true, eqb-true, le-leb}
+use borrow.Author.Tests.{leb-true, ltb-true, le-leb}
 use lib.Dec.{leb, ltb, eqb}
 use lib.ListN.{length, getElem?, take, drop, length-reverse}
 use lib.Seq.{length-take-le}
@@ -23,7 +23,7 @@ use Rattle.rules.specs.State.{State, Scope, Found, position, matchShort,
 use Rattle.rules.specs.Take.{Took, took, Operand, isCommand, takeCommand, takeArg, takePositionalWord, takeCmd}
 use Rattle.rules.specs.Run.{parsedMark}
 use Rattle.rules.specs.Calls.{callRemove, callPickWinner, callSaveConflicts, callSetScope, callAdjacentScope, callAvailableFrom, onItems, callGet, callConflict, operandOr20, callTakePositional, callOnlyOnce, onForm, keyOf, flagNames, argumentKey, commandName, callMatches, callTakeFlag, callTakeArg, callTakeCmd, callText, evaluated, evalIn, callEval}
-use Rattle.rules.specs.Calls.{formIn, sheetIn, sliceIn, itemsFrom, trimmed, recordsIn, itemsIn, fromRaw, stateIn, asked, placeIn, scopeIn, Called, handed}
+use Rattle.rules.specs.Calls.{formIn, sheetIn, sliceIn, itemsFrom, trimmed, recordsIn, itemsIn, fromRaw, stateIn, asked, placeIn, scopeIn, handed}
 use Rattle.rules.specs.declared.State.{State as Raw}
 use Rattle.rules.specs.Demands.{Good, Sound}
 use Rattle.rules.proofs.StepLaws.{test-good, first-found, remove-step, set-scope-good, flag-takes, arg-takes, positional-takes}

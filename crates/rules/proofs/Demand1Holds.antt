@@ -1,10 +1,10 @@
 -- Demand 1: every input is answered; it is run exactly if it is ready.
 use mathlib.Core.Bool.{Bool, true, false, _||_, true≢false}
-use mathlib.Core.List.{List, [], _∷_, _++_}
+use mathlib.Core.List.{List, []}
 use mathlib.Core.Logic.{_⊎_, inl, inr, ⊎-elim}
 use mathlib.Core.Option.{Option, some, none}
 use mathlib.Core.Path.{_≡_, refl, sym, ap, _∙_}
-use Prim.Native.Nat.{ℕ, zero, suc, _+_, _-_, _*_, _≤_, _<_}
+use Prim.Native.Nat.{ℕ, zero, suc, _+_, _-_, _≤_, _<_}
 use native.Mathlib.Omega.{arith}
 use borrow.Author.Tests.{ltb-true, ltb-false, le-ltb, lt-ltb}
 use lib.Dec.{ltb}
@@ -18,11 +18,9 @@ use Rattle.rules.specs.Form.{Form, readForm, fieldCount}
 use Rattle.rules.specs.Accept.{Checked, accepted, refusedAt, Accepted, checkForm}
 use Rattle.rules.specs.Outcome.{refuseAt}
 use Rattle.rules.specs.State.{emptyState}
-use Rattle.rules.specs.Eval.{Ran, ended}
-use Rattle.rules.specs.Run.{Line, Report, tooMany, padded, refusedInput, report, reportWith, shortSlices, split, runLine, runChecked, run}
-use Rattle.rules.specs.Demands.{Ends}
-use Rattle.rules.specs.WellMade.{WellMade}
-use Rattle.rules.specs.Answered.{Ready, RunNumber, InputNumber, Demand1}
+use Rattle.rules.specs.Eval.{ended}
+use Rattle.rules.specs.Run.{Line, tooMany, padded, refusedInput, report, reportWith, shortSlices, split, runLine, runChecked, run}
+use Rattle.rules.specs.Answered.{Ready, InputNumber, Demand1}
 use Rattle.rules.proofs.Acceptance.{accepted-form, accepted-fields}
 use Rattle.rules.proofs.WellMadeLaws.{well-made, refused-not-made, check-numbers}
 use Rattle.rules.proofs.SplitLaws.{some≢none, ok-injective, LineGood, split-line, line-law, line-refusal}

@@ -2,19 +2,18 @@
 use mathlib.Core.Bool.{false}
 use mathlib.Core.List.{List, [], _∷_}
 use mathlib.Core.Logic.{⊎-elim}
-use mathlib.Core.Option.{some, none}
+use mathlib.Core.Option.{none}
 use mathlib.Core.Path.{_≡_, refl, sym, ap, _∙_}
-use Prim.Native.Nat.{ℕ, _+_, _*_, _≤_}
+use Prim.Native.Nat.{ℕ}
 use lib.ListN.{length}
 use Rattle.utf8.specs.Utf8.{if_then_else_}
-use Rattle.rules.specs.Outcome.{Outcome, ok, _>>=_}
-use Rattle.rules.specs.Value.{Value}
+use Rattle.rules.specs.Outcome.{ok, _>>=_}
 use Rattle.rules.specs.Sheet.{sheetFault, arguments}
-use Rattle.rules.specs.Accept.{Accepted, accepted, checkForm, leafCount}
+use Rattle.rules.specs.Accept.{Accepted, accepted, checkForm}
 use Rattle.rules.specs.State.{State, parsed}
 use Rattle.rules.specs.Eval.{statesOf}
-use Rattle.rules.specs.Run.{Line, Report, split, runAll, runLine, tooMany, parsedMark, shortSlices, report, runChecked, run}
-use Rattle.rules.specs.Demands.{All, Counted, Good, Demand3, placesLeft, allLeaves}
+use Rattle.rules.specs.Run.{Line, split, runLine, tooMany, parsedMark, shortSlices, report, runChecked, run}
+use Rattle.rules.specs.Demands.{All, Counted, Good, Demand3}
 use Rattle.rules.proofs.Acceptance.{accepted-sound}
 use Rattle.rules.proofs.Uses.{leaves-law}
 use Rattle.rules.proofs.SplitLaws.{some≢none, LineGood, line-law}

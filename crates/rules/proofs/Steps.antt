@@ -1,7 +1,6 @@
 -- What a run does to a state, and what is proved of every evaluation: the records that the proofs hand on.
-use mathlib.Core.Bool.{Bool, true, false}
-use mathlib.Core.List.{List, [], _∷_}
-use mathlib.Core.Option.{Option, some, none}
+use mathlib.Core.Bool.{true, false}
+use mathlib.Core.Option.{Option}
 use mathlib.Core.Path.{_≡_}
 use Prim.Native.Nat.{ℕ, _+_, _*_, _≤_, _<_}
 use Rattle.utf8.specs.Utf8.{if_then_else_}
@@ -9,7 +8,7 @@ use Rattle.rules.specs.Outcome.{Outcome, ok, refused, fault}
 use Rattle.rules.specs.Value.{Kind, Value, base, absent, present, nil, cons, size}
 use Rattle.rules.specs.Tree.{Tree, kindOf, hasRepeat}
 use Rattle.rules.specs.State.{State, presentAt}
-use Rattle.rules.specs.Eval.{Ran, Visit, statesOf, ofKind}
+use Rattle.rules.specs.Eval.{Ran, statesOf, ofKind}
 use Rattle.rules.specs.Demands.{All, Good, leaves}
 
 -- From a good state to another over the same items and in the same scope

@@ -1,16 +1,16 @@
 -- Single calls: what they are refused with (1 to 7, then 30, 29, 28, in this order) and what they hand back.
-use mathlib.Core.Bool.{Bool, true, false, not, _&&_}
-use mathlib.Core.List.{List, [], _∷_, _++_}
+use mathlib.Core.Bool.{Bool, true, false, _&&_}
+use mathlib.Core.List.{List, [], _∷_}
 use mathlib.Core.Option.{Option, some, none}
-use Prim.Native.Nat.{ℕ, zero, suc, _+_, _-_, pred}
+use Prim.Native.Nat.{ℕ, zero, suc, _+_, _-_}
 use lib.Dec.{leb, eqb, ltb}
 use lib.ListN.{length, getD, take, drop, getElem?}
 use Rattle.utf8.specs.Utf8.{if_then_else_}
-use Rattle.rules.specs.Base.{_>>?_, isSome}
+use Rattle.rules.specs.Base.{_>>?_}
 use Rattle.rules.specs.Outcome.{Outcome, ok, refused, fault, _>>=_, Refusal, refuse}
 use Rattle.rules.specs.Value.{Kind, Value, words}
 use Rattle.rules.specs.Sheet.{sheetFault, sheetArea}
-use Rattle.rules.specs.Form.{Form, Name, nameBytes, portable}
+use Rattle.rules.specs.Form.{Form, nameBytes, portable}
 use Rattle.rules.specs.Tree.{Named, Tree, Flag, Argument, Positional, Optional, Many, Some, Count, Last, Choice, Fallback, Guard, zeros, kindOf}
 use Rattle.rules.specs.Accept.{Accepted, accepted, refusedAt, checkForm}
 use Rattle.rules.specs.Split.{Item, Short, Long, ArgWord, Word, PosWord}

@@ -1,22 +1,19 @@
 -- What the theorems say: the words of the demands, as types.
 use mathlib.Core.Bool.{Bool, true, false, not, _&&_, _||_}
-use mathlib.Core.List.{List, [], _∷_, map}
-use mathlib.Core.Option.{Option, some, none}
+use mathlib.Core.List.{List, [], _∷_}
 use mathlib.Core.Path.{_≡_}
 use Prim.Native.Nat.{ℕ, _+_, _-_, _*_, _≤_}
-use lib.Dec.{eqb, ltb}
 use lib.ListN.{length}
 use Rattle.utf8.specs.Utf8.{if_then_else_}
 use Rattle.rules.specs.Base.{all, null, same, isSome}
 use Rattle.rules.specs.Outcome.{Outcome, ok, refused, fault}
 use Rattle.rules.specs.Value.{Value}
 use Rattle.rules.specs.Sheet.{arguments}
-use Rattle.rules.specs.Form.{Form}
 use Rattle.rules.specs.Tree.{Named, Tree, Flag, Argument, Positional, Optional, Many, Some, Count, Last, Choice, Fallback, Guard, kindOf, hasRepeat}
 use Rattle.rules.specs.Accept.{Accepted, leafCount}
 use Rattle.rules.specs.Split.{dash}
 use Rattle.rules.specs.State.{State, unused, parsed, markGood, currentGood}
-use Rattle.rules.specs.Eval.{Ran, Visit, statesOf, ofKind}
+use Rattle.rules.specs.Eval.{statesOf, ofKind}
 use Rattle.rules.specs.Run.{Line, runLine}
 
 -- ---- states

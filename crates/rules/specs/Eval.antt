@@ -6,8 +6,8 @@ use Prim.Native.Nat.{ℕ, zero, suc, _+_, _-_, _*_}
 use lib.Dec.{leb, eqb, ltb}
 use lib.ListN.{length, getElem?}
 use Rattle.utf8.specs.Utf8.{if_then_else_}
-use Rattle.rules.specs.Base.{null, all, isSome, _>>?_}
-use Rattle.rules.specs.Outcome.{Outcome, ok, refused, fault, panic, wrongKind, endless, _>>=_, at, Refusal, Missing, refuse, refuseAt, isMissing, canCatch, wrongInput, combineWith}
+use Rattle.rules.specs.Base.{null, all, _>>?_}
+use Rattle.rules.specs.Outcome.{Outcome, ok, refused, fault, panic, wrongKind, endless, _>>=_, at, Refusal, refuse, refuseAt, isMissing, canCatch, wrongInput, combineWith}
 use Rattle.rules.specs.Outcome.{shortLong125, shortLong126, shortLong127, parseFlag559, takeArgument679, orElse305, orElse307}
 use Rattle.rules.specs.Value.{Base, yesNo, text, number, Kind, item, BaseValue, isYes, isText, isNumber, Value, base, absent, present, nil, cons, listOf, hasKind}
 use Rattle.rules.specs.Tree.{Named, Position, unrestricted, strict, nonStrict, Tree, Flag, Argument, Positional, Optional, Many, Some, Count, Last, Choice, Fallback, Guard, kindOf}

@@ -1,12 +1,11 @@
 -- The form: header of counts, field numbers, nodes of 16 bytes, names of 6 bytes, the area.
 use mathlib.Core.Bool.{Bool, true, false, _&&_}
-use mathlib.Core.List.{List, [], _∷_, map}
+use mathlib.Core.List.{List, map}
 use mathlib.Core.Option.{Option, some, none}
 use Prim.Native.Nat.{ℕ, _+_, _*_}
 use lib.Dec.{leb, eqb}
 use lib.ListN.{length, take, drop}
 use Rattle.utf8.specs.Utf8.{if_then_else_, decode, wellFormed}
-use Rattle.utf8.specs.declared.Decoded.{Decoded}
 use Rattle.utf8.specs.declared.Decoded.the-variants.{Char, Bad}
 use Rattle.wire.specs.Wire.{numberAt}
 use Rattle.rules.specs.Base.{all, isSome, numbers}

@@ -1,9 +1,9 @@
 -- The run: the whole answer to a form and a sheet, with what both slices hold.
-use mathlib.Core.Bool.{Bool, true, false, _||_}
+use mathlib.Core.Bool.{Bool, _||_}
 use mathlib.Core.List.{List, [], _∷_, _++_}
 use mathlib.Core.Option.{Option, some, none}
 use Prim.Native.Nat.{ℕ, _+_, _-_}
-use lib.Dec.{eqb, ltb}
+use lib.Dec.{ltb}
 use lib.ListN.{length, replicate}
 use Rattle.utf8.specs.Utf8.{if_then_else_}
 use Rattle.rules.specs.Outcome.{Outcome, ok, refused, fault, _>>=_, Refusal, refuse, refuseAt}
@@ -11,7 +11,7 @@ use Rattle.rules.specs.Value.{Value, answerWords}
 use Rattle.rules.specs.Sheet.{sheetFault, arguments}
 use Rattle.rules.specs.Form.{Form}
 use Rattle.rules.specs.Tree.{Tree}
-use Rattle.rules.specs.Accept.{Checked, accepted, refusedAt, Accepted, checkForm, lettersOf}
+use Rattle.rules.specs.Accept.{accepted, refusedAt, Accepted, checkForm, lettersOf}
 use Rattle.rules.specs.Split.{Item, Split, splitFrom, itemsOf, recordsFrom}
 use Rattle.rules.specs.State.{State, Found, construct, emptyState, first}
 use Rattle.rules.specs.Eval.{Ran, ended, _then_, eval}

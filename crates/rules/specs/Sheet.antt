@@ -1,5 +1,5 @@
 -- The sheet: count n of arguments (0..256), n + 1 offsets, then the byte area (at most 32,768).
-use mathlib.Core.Bool.{Bool, true, false, _&&_}
+use mathlib.Core.Bool.{Bool, _&&_}
 use mathlib.Core.List.{List, map}
 use Prim.Native.Nat.{ℕ}
 use lib.Dec.{leb, ltb}

@@ -1,15 +1,14 @@
 -- Splitting: from arguments to items.
-use mathlib.Core.Bool.{Bool, true, false, not, _&&_}
-use mathlib.Core.List.{List, [], _∷_, _++_, map, flatten}
+use mathlib.Core.Bool.{Bool, true, false}
+use mathlib.Core.List.{List, [], _∷_, _++_, flatten}
 use mathlib.Core.Option.{Option, some, none}
 use Prim.Native.Nat.{ℕ, zero, suc, _+_, _-_}
-use lib.Dec.{leb, eqb, ltb}
-use lib.ListN.{length, replicate}
+use lib.Dec.{eqb}
+use lib.ListN.{length}
 use Rattle.utf8.specs.Utf8.{if_then_else_, decode, wellFormed}
-use Rattle.utf8.specs.declared.Decoded.{Decoded}
 use Rattle.utf8.specs.declared.Decoded.the-variants.{Char, Bad}
 use Rattle.rules.specs.Base.{null, contains, same, sliceFrom, concatMap}
-use Rattle.rules.specs.Outcome.{Outcome, ok, refused, fault, panic, _>>=_, at, disambiguateShort207, construct361}
+use Rattle.rules.specs.Outcome.{Outcome, ok, fault, panic, _>>=_, at, disambiguateShort207, construct361}
 use Rattle.rules.specs.Accept.{Letters}
 
 -- The Rust's Arg, preprocessed command line argument. The last part of Short and Long is the text for messages.

@@ -1,13 +1,13 @@
 -- States, marks, and the calls on them.
 use mathlib.Core.Bool.{Bool, true, false, not, xor, _&&_}
-use mathlib.Core.List.{List, [], _∷_, _++_, reverse}
+use mathlib.Core.List.{List, [], _∷_, reverse}
 use mathlib.Core.Option.{Option, some, none}
 use Prim.Native.Nat.{ℕ, zero, suc, _+_, _-_}
 use lib.Dec.{leb, eqb, ltb}
 use lib.ListN.{length, drop, replicate, getElem?}
 use Rattle.utf8.specs.Utf8.{if_then_else_}
-use Rattle.rules.specs.Base.{all, null, contains, same, isSome, _>>?_, minus, write, sliceFrom, slice}
-use Rattle.rules.specs.Outcome.{Outcome, ok, refused, fault, panic, _>>=_, at}
+use Rattle.rules.specs.Base.{all, null, same, _>>?_, minus, write, sliceFrom, slice}
+use Rattle.rules.specs.Outcome.{Outcome, ok, _>>=_, at}
 use Rattle.rules.specs.Outcome.{construct390, construct391, remove431, remove433, remove434, adjacentScope506, adjacentScope508, setScope561, argsIter635, onlyOnce282, onlyOnce288}
 use Rattle.rules.specs.Split.{Item, Short, Long, ArgWord, Word, PosWord}
 

@@ -5,7 +5,7 @@ use mathlib.Core.Option.{Option, some, none}
 use Prim.Native.Nat.{ℕ, suc}
 use Rattle.utf8.specs.Utf8.{if_then_else_}
 use Rattle.rules.specs.Base.{contains, same}
-use Rattle.rules.specs.Outcome.{Outcome, ok, refused, fault, _>>=_, refuseAt}
+use Rattle.rules.specs.Outcome.{Outcome, ok, refused, _>>=_, refuseAt}
 use Rattle.rules.specs.Tree.{Named}
 use Rattle.rules.specs.Split.{Item, Short, Long, ArgWord, Word, PosWord}
 use Rattle.rules.specs.State.{State, Found, get, find, first, remove, withCurrent}

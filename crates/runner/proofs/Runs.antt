@@ -285,8 +285,8 @@ module _ (form sheet i a : List ℕ) (c : Checked form sheet i a) (a′ : List �
         ap length (u .put) ∙ length-sets a′ 0 (u .values) ∙ fill-long a′ a 0 (length a) z
 
 -- ---- which nodes each item matches
-pub table-room : (n : ℕ) (l : List ℕ) → n ≤ 256 → l ≡ replicate 256 0 → n ≤ length l
-table-room n l h e = omega (arith, ap length e ∙ length-replicate {A = ℕ} 256 0)
+pub table-long : (l : List ℕ) → l ≡ replicate 257 0 → length l ≡ 257
+table-long l e = ap length e ∙ length-replicate {A = ℕ} 257 0
 
 module _ (b codes s words m : List ℕ) (p : Numbers) (o : List ℕ) (g : Begins b codes s words m p o) (n : ℕ) (e : n ≡ p .count) where
   pub items-few : n ≤ 256

@@ -43,10 +43,10 @@ fn no_codes() -> [u32; 128]
     [0u32; 128]
 }
 
-fn nothing_known() -> [u64; 256]
-    ensures { λ r. ⌜ r ≡ replicate 256 0 ⌝ }
+fn nothing_known() -> [u64; 257]
+    ensures { λ r. ⌜ r ≡ replicate 257 0 ⌝ }
 {
-    [0u64; 256]
+    [0u64; 257]
 }
 
 fn wide(x: u32) -> usize
@@ -86,7 +86,7 @@ fn refused_input(number: u32, place: u32, items: &mut [u32], answers: &mut [u32]
 // The fields, by a table of which nodes each item matches.
 fn run_known(
     form: &[u8],
-    known: &[u64; 256],
+    known: &[u64; 257],
     sheet: &[u8],
     items: &[u32],
     marks: &mut [u16; 256],

@@ -1,17 +1,17 @@
 -- A checked sheet's arguments: each is the entry that is handed out, and they lie in the area one behind the other.
-use mathlib.Core.Path.{_≡_, refl, sym, _∙_, ap}
+use mathlib.Core.Path.{_≡_, refl, _∙_, ap}
 use mathlib.Core.Logic.{inl}
 use mathlib.Core.List.{List, map}
-use mathlib.Core.Option.{Option, some}
+use mathlib.Core.Option.{some}
 use Prim.Native.Nat.{ℕ, zero, suc, _+_, _-_, _≤_, _<_}
-use native.Mathlib.Nat.{zero-add, le-refl}
+use native.Mathlib.Nat.{zero-add}
 use native.Mathlib.Omega.{arith}
 use lib.ListN.{length, getElem?, take, drop, length-drop}
 use Rattle.wire.specs.Wire.{offset, areaStart, area, entryOf, HasEntry}
-use Rattle.wire.specs.Laws.{GoodTable, good-table, offset-rises, placed, entry-length, start-rises}
+use Rattle.wire.specs.Laws.{good-table, placed, entry-length, start-rises}
 use Rattle.rules.specs.Base.{numbers}
 use Rattle.rules.specs.Sheet.{argumentCount, sheetArea, sheetFault, arguments}
-use Rattle.rules.proofs.Formats.{SheetGood, good-sheet}
+use Rattle.rules.proofs.Formats.{good-sheet}
 use Rattle.sheet.specs.Checked.{HasArgument, HasOffset}
 
 -- an element of the numbers from j on, mapped

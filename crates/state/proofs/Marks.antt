@@ -8,15 +8,15 @@ use Prim.Native.Nat.{ℕ, zero, suc, _+_, _-_, _≤_, _<_}
 use native.Mathlib.Nat.{not-suc-le-zero, le-of-suc-le-suc, eq-or-lt-of-le}
 use native.Mathlib.Numerals.{add-one}
 use native.Mathlib.Omega.{arith}
-use lib.Dec.{ltb}
+use lib.Dec.{ltb, eqb}
 use lib.ListN.{length, getD, take, drop, set, drop-of-length-le}
 use lib.Seq.{drop-cons, getD-take, length-take-le, set-at, getD-at}
-use borrow.Author.Tests.{eq-eqb, ne-eqb, le-leb, not-true, not-false}
+use borrow.Author.Tests.{eq-eqb, ne-eqb, eqb-true, ltb-true, ltb-false, le-leb, not-true, not-false}
 use Rattle.utf8.specs.Utf8.{if_then_else_}
 use Rattle.rules.specs.Base.{all}
 use Rattle.rules.specs.State.{parsed, present, presentAt, presentFrom, countPresent, pickFrom, conflicts, markGood}
 use Rattle.rules.proofs.Places.{conflicts-length}
-use Rattle.state.specs.Lent.{firstOr, placeOf, pickOf, conflictMark}
+use Rattle.state.specs.Lent.{firstOr, placeOf, pickOf, conflictMark, Alike}
 
 -- ---- one mark
 
@@ -229,6 +229,63 @@ module _ (a b : List ℕ) (count i : ℕ) (s : Picking a b count i) (la : count 
   pub picking-last : count ≤ i → pickOf (record { first = true; place = 0 }) ≡ pickFrom 0 (take count a) (take count b)
   unfolding pickFrom pickOf placeOf if_then_else_
   picking-last h = sym (sym (s .same) ∙ rw (part-none a count i h la))
+
+xor-same : (x : Bool) → xor x x ≡ false
+unfolding xor
+xor-same true = refl
+xor-same false = refl
+
+-- a block: unless others were found, the marks passed are the same
+pub record Blocked (a b : List ℕ) (from others k : ℕ) : Type 0 where
+  pub within : k ≤ 16
+  pub alike : others ≡ 0 → Alike a b from (from + k)
+
+pub blocked-first : (a b : List ℕ) (from : ℕ) → Blocked a b from 0 0
+blocked-first a b from = record { within = omega arith; alike = λ _ j l h. absurd (omega arith) }
+
+pub blocked-next : (a b : List ℕ) (from others k : ℕ) → Blocked a b from others k → k < 16
+    → (r : ℕ) → r ≡ (if eqb (getD a (from + k) 0) (getD b (from + k) 0) then others else 1) → Blocked a b from r (k + 1)
+unfolding if_then_else_
+blocked-next a b from others k s h r w = go (eqb (getD a (from + k) 0) (getD b (from + k) 0)) refl w
+  where
+    go : (c : Bool) → eqb (getD a (from + k) 0) (getD b (from + k) 0) ≡ c → r ≡ (if c then others else 1) → Blocked a b from r (k + 1)
+    go true c w = record {
+      within = omega arith;
+      alike = λ z j l q.
+          ⊎-elim
+          (λ (e : j ≡ from + k). subst (λ (i : ℕ). getD a i 0 ≡ getD b i 0) (sym e) (eqb-true (getD a (from + k) 0) (getD b (from + k) 0) c))
+          (λ (e : j < from + k). s .alike (sym w ∙ z) j l e)
+          (eq-or-lt-of-le (omega arith));
+    }
+    go false c w = record { within = omega arith; alike = λ e. absurd (omega arith) }
+
+pub blocked-last : (a b : List ℕ) (from others k : ℕ) → Blocked a b from others k → 16 ≤ k → eqb others 0 ≡ true → Alike a b from (from + 16)
+blocked-last a b from others k s h e = λ j l q. s .alike (eqb-true others 0 e) j l (omega arith)
+
+-- blocks: the marks passed are the same
+pub record Blocks (a b : List ℕ) (count i : ℕ) : Type 0 where
+  pub within : i ≤ count
+  pub alike : Alike a b 0 i
+
+pub blocks-first : (a b : List ℕ) (count : ℕ) → Blocks a b count 0
+blocks-first a b count = record { within = omega arith; alike = λ k l h. absurd (omega arith) }
+
+pub blocks-next : (a b : List ℕ) (count i : ℕ) → Blocks a b count i → i + 16 ≤ count → Alike a b i (i + 16) → Blocks a b count (i + 16)
+blocks-next a b count i s h f = record { within = h; alike = λ k l r. go k r (ltb k i) refl }
+  where
+    go : (k : ℕ) → k < i + 16 → (c : Bool) → ltb k i ≡ c → getD a k 0 ≡ getD b k 0
+    go k r true c = s .alike k (omega arith) (ltb-true k i c)
+    go k r false c = f k (ltb-false k i c) r
+
+-- marks that are the same are passed over
+pub picking-from : (a b : List ℕ) (count i : ℕ) → count ≤ length a → count ≤ length b → i ≤ count → Alike a b 0 i → Picking a b count i
+picking-from a b count zero la lb h f = picking-first a b count
+picking-from a b count (suc i) la lb h f =
+    let s = picking-from a b count i la lb (omega arith) (λ k l r. f k l (omega arith)) in
+    let same : getD a i 0 ≡ getD b i 0 = f i (omega arith) (omega arith) in
+    rw (← add-one i)
+    (picking-next a b count i s la lb (omega arith) (parsed (getD a i 0)) (parsed (getD b i 0)) false refl refl
+    (sym (rw same (xor-same (parsed (getD b i 0))))) refl)
 
 -- ---- conflicts
 

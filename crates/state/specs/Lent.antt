@@ -3,9 +3,9 @@ use mathlib.Core.Path.{_≡_}
 use mathlib.Core.Bool.{true, _&&_}
 use mathlib.Core.List.{List, [], _∷_}
 use mathlib.Core.Option.{Option, some, none}
-use Prim.Native.Nat.{ℕ, _+_, _-_, _≤_}
+use Prim.Native.Nat.{ℕ, _+_, _-_, _≤_, _<_}
 use lib.Dec.{eqb}
-use lib.ListN.{length, drop}
+use lib.ListN.{length, drop, getD}
 use Rattle.utf8.specs.Utf8.{if_then_else_}
 use Rattle.rules.specs.Outcome.{ok}
 use Rattle.rules.specs.Tree.{zeros}
@@ -69,3 +69,7 @@ pickOf r = record { first = r .first; place = placeOf (r .place) }
 -- one mark of `conflicts`
 unfoldable pub conflictMark : ℕ → ℕ → ℕ → ℕ
 conflictMark w m l = if present m && parsed l then 2 + w else m
+
+-- marks that are the same from one place on, below another
+abbrev pub Alike : List ℕ → List ℕ → ℕ → ℕ → Type 0
+Alike a b from to = (k : ℕ) → from ≤ k → k < to → getD a k 0 ≡ getD b k 0

@@ -2,7 +2,8 @@
 ghost use mathlib.Core.Path.{_≡_};
 ghost use mathlib.Core.Bool.{true, xor};
 ghost use mathlib.Core.List.{_++_};
-ghost use Prim.Native.Nat.{_-_, _≤_, _<_};
+ghost use Prim.Native.Nat.{_+_, _-_, _≤_, _<_};
+ghost use lib.Dec.{eqb};
 ghost use lib.ListN.{length, take, drop};
 ghost use Rattle.utf8.specs.Utf8.{if_then_else_};
 ghost use Rattle.rules.specs.Base.{all};
@@ -10,7 +11,7 @@ ghost use Rattle.rules.specs.Outcome.{ok, refused, refuse};
 ghost use Rattle.rules.specs.Tree.{zeros};
 ghost use Rattle.rules.specs.State.{parsed, presentFrom, countPresent, pickFrom, conflicts, markGood};
 ghost use Rattle.rules.specs.Calls.{fromRaw, stateIn};
-ghost use Rattle.state.specs.Lent.{Fine, Removed, firstOr, pickOf, conflictMark};
+ghost use Rattle.state.specs.Lent.{Fine, Removed, firstOr, pickOf, conflictMark, Alike};
 use rules::State;
 
 // A state without its marks. The current place is itself plus 1, or 0 for none.
@@ -101,12 +102,51 @@ fn differ(x: bool, y: bool) -> bool
     x != y
 }
 
+// 1 if two marks differ, else what was found before.
+fn or_differ(found: u16, x: u16, y: u16) -> u16
+    ensures { λ r. ⌜ r ≡ (if eqb x y then found else 1) ⌝ }
+{
+    if x == y {
+        return found;
+    }
+    1
+}
+
+// Whether 16 marks are the same in both. It looks at all of them, so that the compiler can take many at a time.
+fn same_block(a: &[u16], b: &[u16], from: usize) -> bool
+    requires { ⌜ (from + 16 ≤ length (now a)) × (from + 16 ≤ length (now b)) ⌝ }
+    ensures { λ r. ⌜ (r ≡ true → Alike (now (a .entry)) (now (b .entry)) from (from + 16)) ⌝ }
+{
+    let mut others: u16 = 0;
+    let mut k = 0;
+    while k < 16 {
+        others = or_differ(others, a[from + k], b[from + k]);
+        k += 1;
+    }
+    others == 0
+}
+
+// A place below which the marks are the same in both: as many blocks of 16 as are.
+fn same_blocks(a: &[u16], b: &[u16], count: usize) -> usize
+    requires { ⌜ (count ≤ length (now a)) × (count ≤ length (now b)) × (count ≤ 256) ⌝ }
+    ensures { λ r. ⌜ (r ≤ count) × Alike (now (a .entry)) (now (b .entry)) 0 r ⌝ }
+{
+    let mut i = 0;
+    while i + 16 <= count {
+        if !same_block(a, b, i) {
+            return i;
+        }
+        i += 16;
+    }
+    i
+}
+
 // The first of `count` places that one has used and the other has not; who has used it wins.
 pub fn pick_winner(a: &[u16], b: &[u16], count: usize) -> Picked
     requires { ⌜ (count ≤ length (now a)) × (count ≤ length (now b)) × (count ≤ 256) ⌝ }
     ensures { λ r. ⌜ pickOf r ≡ pickFrom 0 (take count (now (a .entry))) (take count (now (b .entry))) ⌝ }
 {
-    let mut i = 0;
+    let mut i = same_blocks(a, b, count);
     while i < count {
         let ours = is_parsed(a[i]);
         let theirs = is_parsed(b[i]);

@@ -3,7 +3,7 @@ use mathlib.Core.Path.{_≡_, refl, sym, _∙_, ap, ap₂}
 use mathlib.Core.Bool.{Bool, true, false, _&&_}
 use mathlib.Core.List.{List, [], _∷_}
 use mathlib.Core.Option.{Option, some, none}
-use Prim.Native.Nat.{ℕ, suc, _<_}
+use Prim.Native.Nat.{ℕ, _<_}
 use native.Mathlib.Omega.{arith}
 use lib.Dec.{eqb}
 use lib.ListN.{length}
@@ -17,7 +17,7 @@ use Rattle.rules.specs.Eval.{Ran, ended, after, _then_, fewer, swallowed, parse
 use Rattle.rules.specs.declared.Refused.{Refused}
 use Rattle.error.specs.Refusals.{refusedOf, refusalOf, combine-forgets}
 use Rattle.structs.specs.declared.Counting.the-variants.{Counted, Uncounted, Absent, PassedOn}
-use Rattle.structs.specs.declared.Fallback.the-variants.{Child, Own, Refusal as Passed}
+use Rattle.structs.specs.declared.Fallback.the-variants.{Own, Refusal as Passed}
 use Rattle.structs.specs.declared.Pick.{Pick}
 use Rattle.structs.specs.declared.Pick.the-variants.{First, Second, Winner, Neither}
 use Rattle.structs.specs.Decisions.{withRemaining, countedOf, optionWay, someOf, optionBy, someBy, fallbackWay, fallbackBy, EndedBy, forgotten, pickBy, winning, chosenBy, forgottenRan}

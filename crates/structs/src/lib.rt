@@ -6,7 +6,7 @@ ghost use mathlib.Core.Option.{Option};
 ghost use lib.Dec.{eqb};
 ghost use lib.ListN.{length};
 ghost use Rattle.utf8.specs.Utf8.{if_then_else_};
-ghost use Rattle.rules.specs.Outcome.{Outcome, ok, Refusal, refuse, wrongInput};
+ghost use Rattle.rules.specs.Outcome.{ok, Refusal, refuse, wrongInput};
 ghost use Rattle.rules.specs.Value.{Value, base, isNumber};
 ghost use Rattle.rules.specs.State.{State};
 ghost use Rattle.rules.specs.Eval.{Ran, _then_, fewer, swallowed, idle, guarded, repeated, evalSome, picksFirst};

@@ -43,7 +43,8 @@ pub record Skips (area words : List ℕ) (test : rules.Item → Bool) (m : List 
 -- a table of `known` for the places in scope, and a node that it may have
 pub record Reaches (table : List ℕ) (p : Numbers) (node : ℕ) : Type 0 where
   pub low : node < 64
-  pub long : p .end ≤ length table
+  pub long : 257 ≤ length table
+  pub few : p .end ≤ 256
 
 -- ---- small pieces
 -- `current` as a state holds it: the place plus 1, or 0

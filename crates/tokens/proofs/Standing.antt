@@ -2,19 +2,19 @@
 use mathlib.Core.Bool.{Bool, true, false, _&&_}
 use mathlib.Core.List.{List, [], _∷_, _++_, append-assoc, append-nil}
 use mathlib.Core.Path.{_≡_, refl, sym, _∙_, ap}
-use Prim.Native.Nat.{ℕ, zero, suc, _+_, _-_, _/_, _%_, _≤_, _<_}
+use Prim.Native.Nat.{ℕ, _+_, _-_, _/_, _%_, _≤_, _<_}
 use native.Mathlib.Omega.{arith}
 use native.Mathlib.Numerals.{add-one}
 use lib.Dec.{eqb}
 use lib.ListN.{length, getD, set, take, drop, length-drop, drop-of-length-le}
 use lib.Seq.{drop-cons, take-suc, take-suc-set, take-all}
-use borrow.Author.Tests.{eq-eqb, ne-eqb}
+use borrow.Author.Tests.{ne-eqb}
 use Rattle.utf8.specs.Utf8.{if_then_else_}
 use Rattle.rules.specs.Base.{all, concatMap}
 use Rattle.rules.specs.Bench.{decimal}
 use Rattle.rules.specs.Tree.{zeros}
 use Rattle.rules.specs.declared.State.{State}
-use Rattle.tokens.specs.Compare.{Stands, Follows, placeText, spaced, wordsText, refusalText, WordsFollow, stateText, StateFollows}
+use Rattle.tokens.specs.Compare.{Follows, placeText, spaced, wordsText, refusalText, WordsFollow, stateText, StateFollows}
 use Rattle.tokens.proofs.Decimal.{decimal-one, decimal-more}
 
 module _ (line : List ℕ) (at : ℕ) where

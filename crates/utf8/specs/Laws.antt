@@ -277,3 +277,10 @@ module _ (s : List ℕ) (at : ℕ) where
       let within = w .within in
       let past : at + 1 + (n - 1) ≡ at + n = omega arith in
       step (omega arith) ∙ rw (e, skipped (n - 1) (drop (at + 1) s), drop-drop (n - 1) (at + 1) s, past)
+
+-- ---- ASCII alone
+
+pub wellFormed-ascii : (s : List ℕ) → ((i : ℕ) → i < length s → getD s i 0 < 0x80) → wellFormed s ≡ true
+unfolding wellFormed wellFormedAfter
+wellFormed-ascii [] h = refl
+wellFormed-ascii (b ∷ s) h = rw (ascii b s (h 0 (suc-le-suc zero-le))) (wellFormed-ascii s (λ i l. h (suc i) (suc-le-suc l)))

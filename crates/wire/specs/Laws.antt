@@ -1,14 +1,14 @@
 -- Laws of numbers and tables, each over the width.
-use mathlib.Core.Path.{_≡_, refl, sym, _∙_, ap}
+use mathlib.Core.Path.{_≡_, refl, _∙_, ap}
 use mathlib.Core.Logic.{⊎-elim}
 use mathlib.Core.Bool.{Bool, true, false, _&&_, and-eq-true-iff}
 use mathlib.Core.List.{List, [], _∷_, _++_}
-use Prim.Native.Nat.{ℕ, zero, suc, _+_, _-_, _*_, _^_, _≤_, _<_, zero-le}
-use native.Mathlib.Nat.{zero-add, add-zero, suc-add, add-suc, mul-add, mul-one, mul-assoc, mul-le-mul-left, mul-le-mul-right, pow-succ', le-refl, le-trans, eq-or-lt-of-le}
+use Prim.Native.Nat.{ℕ, zero, suc, _+_, _-_, _*_, _^_, _≤_, _<_}
+use native.Mathlib.Nat.{mul-add, mul-one, mul-assoc, mul-le-mul-left, mul-le-mul-right, pow-succ', le-refl, le-trans, eq-or-lt-of-le}
 use native.Mathlib.Numerals.{add-one}
 use native.Mathlib.Omega.{arith}
 use lib.Dec.{leb, eqb, lit<}
-use lib.ListN.{length, getD, take, drop, length-drop, drop-of-length-le}
+use lib.ListN.{length, getD, take, drop, length-drop}
 use lib.Seq.{drop-cons, drop-drop, getD-drop, take-add, length-take-le}
 use borrow.Author.Tests.{leb-true, eqb-true, le-leb}
 use Rattle.wire.specs.Wire.{le, numberAt, Width, offset, areaStart, area, neverFall, tableGood, entryOf, HasEntry}

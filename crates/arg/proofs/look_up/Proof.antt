@@ -19,8 +19,8 @@ abbrev μ-loop : tie.MeasureT-loop
 loop-holds : tie.Need-loop-holds Inv-loop μ-loop
 loop-holds c = looked-first _ _ (c .before .before .before .pre)
 
-decode-at-requires : tie.Need-decode-at-requires Inv-loop μ-loop
-decode-at-requires c κs = search needs
+letter-at-requires : tie.Need-letter-at-requires Inv-loop μ-loop
+letter-at-requires c κs = search needs
 
 enum-known-letter : tie.Need-enum-known-letter Inv-loop μ-loop
 enum-known-letter c = search needs
@@ -35,31 +35,31 @@ contains-requires-2 : tie.Need-contains-requires-2 Inv-loop μ-loop
 contains-requires-2 c κs = search needs
 
 add-t16 : tie.Need-add-t16 Inv-loop μ-loop
-add-t16 c = omega (arith, character _ _ _ _ (sym (c .before .before .before .before .before .before .before .decode-at .ensures) ∙ c .before .before .before .before .before .letter .given .1), c .before .before .before .before .before .before .before .before .loop .inv .few)
+add-t16 c = omega (arith, character _ _ _ _ (sym (c .before .before .before .before .before .before .before .letter-at .ensures) ∙ c .before .before .before .before .before .letter .given .1), c .before .before .before .before .before .before .before .before .loop .inv .few)
 
 add-at : tie.Need-add-at Inv-loop μ-loop
-add-at c = omega (arith, character _ _ _ _ (sym (c .before .before .before .before .before .before .before .decode-at .ensures) ∙ c .before .before .before .before .before .letter .given .1), c .before .before .before .before .before .before .before .before .loop .inv .few)
+add-at c = omega (arith, character _ _ _ _ (sym (c .before .before .before .before .before .before .before .letter-at .ensures) ∙ c .before .before .before .before .before .letter .given .1), c .before .before .before .before .before .before .before .before .loop .inv .few)
 
 add-before : tie.Need-add-before Inv-loop μ-loop
-add-before c = omega (arith, character _ _ _ _ (sym (c .before .before .before .before .before .before .before .decode-at .ensures) ∙ c .before .before .before .before .before .letter .given .1), c .before .before .before .before .before .before .before .before .loop .inv .few)
+add-before c = omega (arith, character _ _ _ _ (sym (c .before .before .before .before .before .before .before .letter-at .ensures) ∙ c .before .before .before .before .before .letter .given .1), c .before .before .before .before .before .before .before .before .loop .inv .few)
 
 loop-less : tie.Need-loop-less Inv-loop μ-loop
-loop-less c = omega (arith, character _ _ _ _ (sym (c .before .before .before .before .before .before .before .decode-at .ensures) ∙ c .before .before .before .before .before .letter .given .1), c .before .before .before .before .before .before .before .before .loop .inv .few)
+loop-less c = omega (arith, character _ _ _ _ (sym (c .before .before .before .before .before .before .before .letter-at .ensures) ∙ c .before .before .before .before .before .letter .given .1), c .before .before .before .before .before .before .before .before .loop .inv .few)
 
 loop-again : tie.Need-loop-again Inv-loop μ-loop
-loop-again c = a-flag _ _ _ _ _ (c .before .before .before .before .before .before .before .before .loop .inv) _ _ (sym (c .before .before .before .before .before .before .before .decode-at .ensures) ∙ c .before .before .before .before .before .letter .given .1) _ _ (c .before .before .before .contains .ensures) (c .before .before .contains2 .ensures) (c .before .if1 .taken) (c .if2 .left)
+loop-again c = a-flag _ _ _ _ _ (c .before .before .before .before .before .before .before .before .loop .inv) _ _ (sym (c .before .before .before .before .before .before .before .letter-at .ensures) ∙ c .before .before .before .before .before .letter .given .1) _ _ (c .before .before .before .contains .ensures) (c .before .before .contains2 .ensures) (c .before .if1 .taken) (c .if2 .left)
 
 returns : tie.Need-returns Inv-loop μ-loop
-returns c = all-flags _ _ _ _ _ (c .before .before .before .loop .inv) (sym (c .before .before .decode-at .ensures) ∙ c .enum-told .given .1)
+returns c = all-flags _ _ _ _ _ (c .before .before .before .loop .inv) (sym (c .before .before .letter-at .ensures) ∙ c .enum-told .given .1)
 
 returns-2 : tie.Need-returns-2 Inv-loop μ-loop
-returns-2 c = both _ _ _ _ _ (c .before .before .before .before .before .before .before .before .loop .inv) _ _ (sym (c .before .before .before .before .before .before .before .decode-at .ensures) ∙ c .before .before .before .before .before .letter .given .1) _ _ (c .before .before .before .contains .ensures) (c .before .before .contains2 .ensures) (c .before .if1 .taken) (c .if2 .taken)
+returns-2 c = both _ _ _ _ _ (c .before .before .before .before .before .before .before .before .loop .inv) _ _ (sym (c .before .before .before .before .before .before .before .letter-at .ensures) ∙ c .before .before .before .before .before .letter .given .1) _ _ (c .before .before .before .contains .ensures) (c .before .before .contains2 .ensures) (c .before .if1 .taken) (c .if2 .taken)
 
 returns-3 : tie.Need-returns-3 Inv-loop μ-loop
-returns-3 c = an-argument _ _ _ _ _ (c .before .before .before .before .before .before .before .before .loop .inv) _ _ (sym (c .before .before .before .before .before .before .before .decode-at .ensures) ∙ c .before .before .before .before .before .letter .given .1) _ _ (c .before .before .before .contains .ensures) (c .before .before .contains2 .ensures) (c .before .if1 .left) (c .if3 .taken)
+returns-3 c = an-argument _ _ _ _ _ (c .before .before .before .before .before .before .before .before .loop .inv) _ _ (sym (c .before .before .before .before .before .before .before .letter-at .ensures) ∙ c .before .before .before .before .before .letter .given .1) _ _ (c .before .before .before .contains .ensures) (c .before .before .contains2 .ensures) (c .before .if1 .left) (c .if3 .taken)
 
 returns-4 : tie.Need-returns-4 Inv-loop μ-loop
-returns-4 c = neither _ _ _ _ _ (c .before .before .before .before .before .before .before .before .loop .inv) _ _ (sym (c .before .before .before .before .before .before .before .decode-at .ensures) ∙ c .before .before .before .before .before .letter .given .1) _ _ (c .before .before .before .contains .ensures) (c .before .before .contains2 .ensures) (c .before .if1 .left) (c .if3 .left)
+returns-4 c = neither _ _ _ _ _ (c .before .before .before .before .before .before .before .before .loop .inv) _ _ (sym (c .before .before .before .before .before .before .before .letter-at .ensures) ∙ c .before .before .before .before .before .letter .given .1) _ _ (c .before .before .before .contains .ensures) (c .before .before .contains2 .ensures) (c .before .if1 .left) (c .if3 .left)
 
 pub look-up-spec : {M : Type 1} → statement M
 look-up-spec =
@@ -68,7 +68,7 @@ look-up-spec =
     Inv-loop
     μ-loop
     loop-holds
-    decode-at-requires
+    letter-at-requires
     enum-known-letter
     enum-told
     contains-requires

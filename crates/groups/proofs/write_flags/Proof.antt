@@ -17,8 +17,8 @@ abbrev μ-loop : tie.MeasureT-loop
 loop-holds : tie.Need-loop-holds Inv-loop μ-loop
 loop-holds c = wrote-none _ _ _ _ _ (c .before .before .pre .0)
 
-decode-at-requires : tie.Need-decode-at-requires Inv-loop μ-loop
-decode-at-requires c κs = search needs
+letter-at-requires : tie.Need-letter-at-requires Inv-loop μ-loop
+letter-at-requires c κs = search needs
 
 enum-known-letter : tie.Need-enum-known-letter Inv-loop μ-loop
 enum-known-letter c = search needs
@@ -30,7 +30,7 @@ same-length : tie.Need-same-length Inv-loop μ-loop
 same-length c = search needs
 
 returns : tie.Need-returns Inv-loop μ-loop
-returns c = letter-there _ _ _ _ _ _ _ _ _ (c .before .before .before .before .loop .inv) (c .before .before .before .before .before .before .before .pre .0 .few) (c .before .before .before .loop-test .taken) (sym (c .before .before .decode-at .ensures) ∙ c .enum-told .given .1)
+returns c = letter-there _ _ _ _ _ _ _ _ _ (c .before .before .before .before .loop .inv) (c .before .before .before .before .before .before .before .pre .0 .few) (c .before .before .before .loop-test .taken) (sym (c .before .before .letter-at .ensures) ∙ c .enum-told .given .1)
 
 add-write-item : tie.Need-add-write-item Inv-loop μ-loop
 add-write-item c = omega (arith, c .before .before .before .before .before .before .before .before .before .pre .1)
@@ -39,7 +39,7 @@ write-item-requires : tie.Need-write-item-requires Inv-loop μ-loop
 write-item-requires c κs = omega (arith, c .before .before .before .before .before .before .before .before .before .pre .1)
 
 add-place : tie.Need-add-place Inv-loop μ-loop
-add-place c = omega (arith, character _ _ _ _ (sym (c .before .before .before .before .before .before .before .decode-at .ensures) ∙ c .before .before .before .before .before .letter .given .1))
+add-place c = omega (arith, character _ _ _ _ (sym (c .before .before .before .before .before .before .before .letter-at .ensures) ∙ c .before .before .before .before .before .letter .given .1))
 
 add-k : tie.Need-add-k Inv-loop μ-loop
 add-k c = omega arith
@@ -48,7 +48,7 @@ loop-less : tie.Need-loop-less Inv-loop μ-loop
 loop-less c = omega arith
 
 loop-again : tie.Need-loop-again Inv-loop μ-loop
-loop-again c = wrote-more _ _ _ _ _ _ _ _ _ (c .before .before .before .before .before .before .before .before .before .loop .inv) _ _ _ (sym (c .before .before .before .before .before .before .before .decode-at .ensures) ∙ c .before .before .before .before .before .letter .given .1) (c .before .before .before .before .before .before .before .before .loop-test .taken) (c .before .before .write-item .ensures)
+loop-again c = wrote-more _ _ _ _ _ _ _ _ _ (c .before .before .before .before .before .before .before .before .before .loop .inv) _ _ _ (sym (c .before .before .before .before .before .before .before .letter-at .ensures) ∙ c .before .before .before .before .before .letter .given .1) (c .before .before .before .before .before .before .before .before .loop-test .taken) (c .before .before .write-item .ensures)
 
 same-length-2 : tie.Need-same-length-2 Inv-loop μ-loop
 same-length-2 c = search needs
@@ -63,7 +63,7 @@ write-flags-spec =
     Inv-loop
     μ-loop
     loop-holds
-    decode-at-requires
+    letter-at-requires
     enum-known-letter
     enum-told
     same-length

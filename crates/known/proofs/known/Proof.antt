@@ -1,4 +1,4 @@
--- Invariant: the words of the first i items are there. Assumes nothing.
+-- Invariant: the words of the first i items are there, and `all` is their union. Assumes nothing.
 use Prim.Native.Nat.{_-_}
 use borrow.Author.Needs.{needs}
 use Rattle.rules.specs.Sheet.{sheetArea}
@@ -8,10 +8,10 @@ use Rattle.known.proofs.known.Statement.{statement}
 use Rattle.known.proofs.known.Tie as tie
 
 abbrev Inv-loop : tie.InvT-loop
-Inv-loop form codes sheet items count table₀ names owners loose i₀ table i = Listing form (sheetArea sheet) items count table i
+Inv-loop form codes sheet items count table₀ names owners loose all₀ i₀ table all i = Listing form (sheetArea sheet) items count table all i
 
 abbrev μ-loop : tie.MeasureT-loop
-μ-loop form codes sheet items count table₀ names owners loose i₀ table i = count - i
+μ-loop form codes sheet items count table₀ names owners loose all₀ i₀ table all i = count - i
 
 name-count-requires : tie.Need-name-count-requires Inv-loop μ-loop
 name-count-requires c κs = search (checked-long, needs)
@@ -34,6 +34,9 @@ mul-table c = search needs
 element-write-table : tie.Need-element-write-table Inv-loop μ-loop
 element-write-table c = search needs
 
+union-requires : tie.Need-union-requires Inv-loop μ-loop
+union-requires c κs = search needs
+
 add-i : tie.Need-add-i Inv-loop μ-loop
 add-i c = search needs
 
@@ -42,7 +45,10 @@ loop-less c = search needs
 
 loop-again : tie.Need-loop-again Inv-loop μ-loop
 loop-again c =
-    listing-next _ _ _ _ _ _ (c .before .before .before .loop .inv) (c .before .before .loop-test .taken) _ (c .matching .ensures)
+    listing-next _ _ _ _ _ _ _ (c .before .before .before .before .loop .inv) (c .before .before .before .loop-test .taken) _ (c .before .matching .ensures) _ (c .union .ensures)
+
+element-write-table-2 : tie.Need-element-write-table-2 Inv-loop μ-loop
+element-write-table-2 c = search needs
 
 returns : tie.Need-returns Inv-loop μ-loop
 returns c = search listing-last
@@ -60,7 +66,9 @@ known-spec =
     matching-requires
     mul-table
     element-write-table
+    union-requires
     add-i
     loop-less
     loop-again
+    element-write-table-2
     returns)

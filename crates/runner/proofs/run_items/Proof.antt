@@ -1,6 +1,6 @@
 -- Every item is matched with the nodes, then the fields are run. Assumes nothing.
 use borrow.Author.Needs.{needs}
-use Rattle.runner.proofs.Runs.{table-room, items-few, items-matchable, items-start}
+use Rattle.runner.proofs.Runs.{table-long, items-few, items-matchable, items-start}
 use Rattle.runner.proofs.run_items.Statement.{statement}
 use Rattle.runner.proofs.run_items.Tie as tie
 
@@ -11,7 +11,7 @@ wide-requires : tie.Need-wide-requires
 wide-requires c κs = search needs
 
 known-requires : tie.Need-known-requires
-known-requires c κs = (search items-matchable, search (table-room, items-few))
+known-requires c κs = (search items-matchable, search items-few, search table-long)
 
 run-known-requires : tie.Need-run-known-requires
 run-known-requires c κs = search items-start

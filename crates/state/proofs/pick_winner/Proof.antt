@@ -2,7 +2,7 @@
 -- cN is the place N before c.
 use Prim.Native.Nat.{_-_}
 use borrow.Author.Needs.{needs}
-use Rattle.state.proofs.Marks.{Picking, picking-first, picking-next, picking-hit, picking-last}
+use Rattle.state.proofs.Marks.{Picking, picking-from, picking-next, picking-hit, picking-last}
 use Rattle.state.proofs.pick_winner.Statement.{statement}
 use Rattle.state.proofs.pick_winner.Tie as tie
 
@@ -12,8 +12,11 @@ Inv-loop a b count i₀ i = Picking a b count i
 abbrev μ-loop : tie.MeasureT-loop
 μ-loop a b count i₀ i = count - i
 
+same-blocks-requires : tie.Need-same-blocks-requires Inv-loop μ-loop
+same-blocks-requires c κs = search needs
+
 loop-holds : tie.Need-loop-holds Inv-loop μ-loop
-loop-holds c = search picking-first
+loop-holds c = search picking-from
 
 mul-is-parsed : tie.Need-mul-is-parsed Inv-loop μ-loop
 mul-is-parsed c = search needs
@@ -43,7 +46,14 @@ add-t14 : tie.Need-add-t14 Inv-loop μ-loop
 add-t14 c = search needs
 
 returns : tie.Need-returns Inv-loop μ-loop
-returns c = search picking-hit
+returns c =
+    let c1 = c .before in
+    let c2 = c1 .before in
+    let c4 = c2 .before .before in
+    let c6 = c4 .before .before in
+    let c7 = c6 .before in
+    let c11 = c7 .before .before .before .before in
+    picking-hit _ _ _ _ (c7 .loop .inv) (c11 .pre .0) (c11 .pre .1) (c6 .loop-test .taken) _ _ _ (c4 .is-parsed .ensures) (c2 .is-parsed2 .ensures) (c1 .differ .ensures) (c .if1 .taken)
 
 add-i : tie.Need-add-i Inv-loop μ-loop
 add-i c = search needs
@@ -58,8 +68,8 @@ loop-again c =
     let c4 = c2 .before .before in
     let c6 = c4 .before .before in
     let c7 = c6 .before in
-    let c10 = c7 .before .before .before in
-    picking-next _ _ _ _ (c7 .loop .inv) (c10 .pre .0) (c10 .pre .1) (c6 .loop-test .taken) _ _ _ (c4 .is-parsed .ensures) (c2 .is-parsed2 .ensures) (c1 .differ .ensures) (c .if1 .left)
+    let c11 = c7 .before .before .before .before in
+    picking-next _ _ _ _ (c7 .loop .inv) (c11 .pre .0) (c11 .pre .1) (c6 .loop-test .taken) _ _ _ (c4 .is-parsed .ensures) (c2 .is-parsed2 .ensures) (c1 .differ .ensures) (c .if1 .left)
 
 returns-2 : tie.Need-returns-2 Inv-loop μ-loop
 returns-2 c = search picking-last
@@ -70,6 +80,7 @@ pick-winner-spec =
     (tie.spec
     Inv-loop
     μ-loop
+    same-blocks-requires
     loop-holds
     mul-is-parsed
     shared-slice-read-is-parsed

@@ -1,6 +1,6 @@
 -- Invariant: the first i marks are words. Measure: what is left. Assumes nothing.
 use mathlib.Core.Path.{_≡_, refl}
-use Prim.Native.Nat.{_-_, _≤_}
+use Prim.Native.Nat.{_-_}
 use lib.ListN.{length, take}
 use Rattle.tokens.proofs.Standing.{marks-more, marks-all}
 use borrow.Author.Needs.{needs}

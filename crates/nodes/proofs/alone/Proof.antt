@@ -1,0 +1,19 @@
+-- Both tests. Assumes nothing.
+use mathlib.Core.Bool.{false≢true}
+use Rattle.nodes.proofs.alone.Statement.{statement}
+use Rattle.nodes.proofs.alone.Tie as tie
+
+stays-requires : tie.Need-stays-requires
+stays-requires c κs = c .before .before .pre .0
+
+is-missing-requires : tie.Need-is-missing-requires
+is-missing-requires c κs = c .before .before .before .before .pre .1
+
+returns : tie.Need-returns
+returns c = λ e. record { stays = c .before .before .stays .ensures (c .before .if1 .taken); misses = c .is-missing .ensures e }
+
+returns-2 : tie.Need-returns-2
+returns-2 c = λ e. absurd (false≢true e)
+
+pub alone-spec : {M : Type 1} → statement M
+alone-spec = tie.close (tie.spec stays-requires is-missing-requires returns returns-2)

@@ -1,0 +1,29 @@
+-- By the kind of the node, from what the table says. Assumes nothing.
+use mathlib.Core.Bool.{false≢true}
+use Rattle.nodes.proofs.OneSide.{searchable-low, flag-misses, argument-misses}
+use Rattle.nodes.proofs.is_missing.Statement.{statement}
+use Rattle.nodes.proofs.is_missing.Tie as tie
+
+node-at-requires : tie.Need-node-at-requires
+node-at-requires c κs = (c .before .before .pre .sized, c .before .before .pre .inside)
+
+returns : tie.Need-returns
+returns c = λ e. absurd (false≢true e)
+
+is-missing-requires : tie.Need-is-missing-requires
+is-missing-requires c κs = (searchable-low _ _ _ (c .before .before .before .before .before .before .before .pre), c .before .before .before .before .before .before .before .pre .long)
+
+returns-2 : tie.Need-returns-2
+returns-2 c = λ e. flag-misses _ _ _ _ (c .before .before .before .before .before .node-at .ensures) _ (c .is-missing .ensures) e (c .before .before .before .if1 .taken) (c .before .if2 .left)
+
+is-missing-requires-2 : tie.Need-is-missing-requires-2
+is-missing-requires-2 c κs = (searchable-low _ _ _ (c .before .before .before .before .before .before .before .pre), c .before .before .before .before .before .before .before .pre .long)
+
+returns-3 : tie.Need-returns-3
+returns-3 c = λ e. argument-misses _ _ _ _ (c .before .before .before .before .before .node-at .ensures) _ (c .is-missing2 .ensures) e (c .before .if3 .taken)
+
+returns-4 : tie.Need-returns-4
+returns-4 c = λ e. absurd (false≢true e)
+
+pub is-missing-spec : {M : Type 1} → statement M
+is-missing-spec = tie.close (tie.spec node-at-requires returns is-missing-requires returns-2 is-missing-requires-2 returns-3 returns-4)

@@ -1,0 +1,14 @@
+-- By word 256 of the table. Assumes nothing.
+use borrow.Author.Needs.{needs}
+use Rattle.params.proofs.Absent.{absent-missing}
+use Rattle.params.proofs.is_missing.Statement.{statement}
+use Rattle.params.proofs.is_missing.Tie as tie
+
+is-absent-requires : tie.Need-is-absent-requires
+is-absent-requires c κs = search needs
+
+returns : tie.Need-returns
+returns c = absent-missing _ _ _ (c .is-absent .ensures)
+
+pub is-missing-spec : {M : Type 1} → statement M
+is-missing-spec = tie.close (tie.spec is-absent-requires returns)
