@@ -19,7 +19,7 @@ use Rattle.rules.specs.Split.{Item}
 use Rattle.rules.specs.State.{State, Found, parsed, presentAt, unused, get, find, withCurrent}
 use Rattle.rules.specs.Take.{Took, took, Taken, matchesArg, takeFlag, valueText, takeValue, takeArg, isOperand, operand, takePositionalWord}
 use Rattle.rules.specs.Calls.{fromRaw}
-use Rattle.rules.specs.Eval.{Ran as Run, ended, after, _then_, visit, tried, answer, flagValue, evalFlag, argumentValue, evalArgument, positionalValue, evalPositional, swallowed, parseOption, evalOptional, evalGuard, eval}
+use Rattle.rules.specs.Eval.{Ran as Run, ended, after, _then_, visit, leaf, flagValue, evalFlag, argumentValue, evalArgument, positionalValue, evalPositional, swallowed, parseOption, evalOptional, evalGuard, eval}
 use Rattle.rules.specs.Demands.{Good}
 use Rattle.rules.proofs.Acceptance.{lookup-some}
 use Rattle.rules.proofs.Places.{mark-present}
@@ -66,15 +66,15 @@ one-more is test m m′ a i kept gone f k l b p x e =
     (λ (z : k < i). f k l z (kept k p) x e)
     (eq-or-lt-of-le (omega arith))
 
-tried-took : {A : Type 0} (s : State) (o : Outcome (Took A)) (f : Took A → Outcome Value) (t : Took A) → o ≡ ok t
-    → tried s (o >>= λ t. answer (t .state) (f t)) .state ≡ t .state
-unfolding tried answer _>>=_
-tried-took {A} s o f t e = ap (λ (x : Outcome (Took A)). tried s (x >>= λ t. answer (t .state) (f t)) .state) e
+leaf-took : {A : Type 0} (s : State) (o : Outcome (Took A)) (f : A → State → Outcome Value) (t : Took A) → o ≡ ok t
+    → leaf s o f .state ≡ t .state
+unfolding leaf
+leaf-took {A} s o f t e = ap (λ (x : Outcome (Took A)). leaf s x f .state) e
 
-tried-refused : {A : Type 0} (s : State) (o : Outcome (Took A)) (f : Took A → Outcome Value) (r : Refusal) → o ≡ refused r
-    → tried s (o >>= λ t. answer (t .state) (f t)) .state ≡ s
-unfolding tried _>>=_
-tried-refused {A} s o f r e = ap (λ (x : Outcome (Took A)). tried s (x >>= λ t. answer (t .state) (f t)) .state) e
+leaf-refused : {A : Type 0} (s : State) (o : Outcome (Took A)) (f : A → State → Outcome Value) (r : Refusal) → o ≡ refused r
+    → leaf s o f .state ≡ s
+unfolding leaf
+leaf-refused {A} s o f r e = ap (λ (x : Outcome (Took A)). leaf s x f .state) e
 
 value-got : (o : Option Item) (t : List ℕ) → valueText o ≡ some t → (x : Item) × (o ≡ some x)
 unfolding valueText
@@ -117,12 +117,12 @@ module _ (k : ℕ) (told : parsed k ≡ true) (is : List Item) (s : State) (g : 
     where
       go : (x : Option Found) → find is (matchesArg m false) s ≡ ok x → Finds is (matchesArg m false) s x
           → Goes is (matchesArg m false) s (evalFlag k is n m switch s .state)
-      go none e h = inl (tried-took s (takeFlag k is m s) (flagValue n m switch) (record { answer = false; state = s }) (rw e))
+      go none e h = inl (leaf-took s (takeFlag k is m s) (flagValue n m switch) (record { answer = false; state = s }) (rw e))
       go (some x) e h =
           let r = remove-free k told (length is) s (x .place) g (h .free) in
           let u : State = removed k s (x .place) in
           inr (subst (Moved is (matchesArg m false) s)
-          (sym (tried-took s (takeFlag k is m s) (flagValue n m switch) (record { answer = true; state = u }) (rw (e, r))))
+          (sym (leaf-took s (takeFlag k is m s) (flagValue n m switch) (record { answer = true; state = u }) (rw (e, r))))
           (found-moved (matchesArg m false) x e (h .free)))
 
   positional-goes : (n : ℕ) (p : Position) (b : Base) → Goes is isOperand s (evalPositional k is n p b s .state)
@@ -131,7 +131,7 @@ module _ (k : ℕ) (told : parsed k ≡ true) (is : List Item) (s : State) (g : 
     where
       go : (x : Option Found) → find is isOperand s ≡ ok x → Finds is isOperand s x
           → Goes is isOperand s (evalPositional k is n p b s .state)
-      go none e h = inl (tried-took s (takePositionalWord k is s) (positionalValue n p b) (record { answer = none; state = s }) (rw e))
+      go none e h = inl (leaf-took s (takePositionalWord k is s) (positionalValue n p b) (record { answer = none; state = s }) (rw e))
       go (some x) e h =
           let i : ℕ = x .place in
           let c : State = withCurrent (some i) s in
@@ -139,7 +139,7 @@ module _ (k : ℕ) (told : parsed k ≡ true) (is : List Item) (s : State) (g : 
           let r = remove-free k told (length is) c i (current-good (length is) s i g (free-below (length is) s i g (h .free))) f in
           let u : State = removed k s i in
           inr (subst (Moved is isOperand s)
-          (sym (tried-took s (takePositionalWord k is s) (positionalValue n p b) (record { answer = some (operand x); state = u }) (rw (e, r))))
+          (sym (leaf-took s (takePositionalWord k is s) (positionalValue n p b) (record { answer = some (operand x); state = u }) (rw (e, r))))
           (found-moved isOperand x e (h .free)))
 
   -- the place behind it stays free
@@ -193,19 +193,19 @@ module _ (k : ℕ) (told : parsed k ≡ true) (is : List Item) (s : State) (g : 
           let r′ = remove-free k told (length is) u (suc i) (removed-good k told (length is) s i g f) (next-free x f next) in
           let taken : Took (Option Taken) = record { answer = some (record { place = suc i; text = t }); state = removed k u (suc i) } in
           inr (subst (Moved is (matchesArg m adjacent) s)
-          (sym (tried-took s (takeArg k is m adjacent s) (argumentValue n m b) taken (rw (e, v, r, r′))))
+          (sym (leaf-took s (takeArg k is m adjacent s) (argumentValue n m b) taken (rw (e, v, r, r′))))
           (both-moved (matchesArg m adjacent) x e f next))
 
       key : (x : Found) → find is (matchesArg m adjacent) s ≡ ok (some x) → Free s (x .place)
           → (o : Option (List ℕ)) → valueText (get is s (suc (x .place))) ≡ o
           → Goes is (matchesArg m adjacent) s (evalArgument k is n m b adjacent s .state)
       key x e f none v =
-          inl (tried-refused s (takeArg k is m adjacent s) (argumentValue n m b) (refuseAt 22 (x .place)) (rw (e, v)))
+          inl (leaf-refused s (takeArg k is m adjacent s) (argumentValue n m b) (refuseAt 22 (x .place)) (rw (e, v)))
       key x e f (some t) v = value x e f t v
 
       go : (x : Option Found) → find is (matchesArg m adjacent) s ≡ ok x → Finds is (matchesArg m adjacent) s x
           → Goes is (matchesArg m adjacent) s (evalArgument k is n m b adjacent s .state)
-      go none e h = inl (tried-took s (takeArg k is m adjacent s) (argumentValue n m b) (record { answer = none; state = s }) (rw e))
+      go none e h = inl (leaf-took s (takeArg k is m adjacent s) (argumentValue n m b) (record { answer = none; state = s }) (rw e))
       go (some x) e h = key x e (h .free) (valueText (get is s (suc (x .place)))) refl
 
 -- ---- what a guard and an optional leave of the state

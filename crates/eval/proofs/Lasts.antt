@@ -16,8 +16,7 @@ use Rattle.rules.specs.Split.{Item}
 use Rattle.rules.specs.State.{State, parsed}
 use Rattle.rules.specs.Eval.{Ran as Run, repeated, evalCount, evalLast, eval}
 use Rattle.rules.specs.Demands.{Good, Sound, leaves}
-use Rattle.rules.proofs.EvalSound.{eval-sound, sound-count, sound-last}
-use Rattle.rules.proofs.Nodes.{runs-went}
+use Rattle.rules.proofs.EvalSound.{sound-count, sound-last, Any, eval-went}
 use Rattle.rules.proofs.Repeats.{Listed, repeated-went}
 use Rattle.rules.proofs.Steps.{most}
 use Rattle.rules.proofs.Went.{Fine, Went, went-weaker, went-cost}
@@ -53,10 +52,10 @@ pub repeated-numbered :
 unfolding most if_then_else_
 repeated-numbered mark is t s catch stops told sound flat good =
     fine-numbered 26 (Listed (λ v. Unit {0}) (s .remaining + 1)) (repeated catch stops (eval mark is t) s .outcome)
-    (repeated-went (length is) (λ v. Unit {0}) (leaves t) (s .remaining) catch stops (eval mark is t) child s good (le-refl _) .ends)
+    (repeated-went Any (length is) (λ v. Unit {0}) (leaves t) (s .remaining) catch stops (eval mark is t) child s good (le-refl _) .ends)
   where
-    child : (u : State) → Good (length is) u → u .remaining ≤ s .remaining → Went (length is) 26 (λ v. Unit {0}) u (leaves t) (eval mark is t u)
-    child u g l = went-cost (rw flat (le-refl (leaves t))) (went-weaker (le-refl 26) (λ v f. tt) (runs-went (eval-sound mark told is t sound u g)))
+    child : (u : State) → Good (length is) u → u .remaining ≤ s .remaining → Went Any (length is) 26 (λ v. Unit {0}) u (leaves t) (eval mark is t u)
+    child u g l = went-cost (rw flat (le-refl (leaves t))) (went-weaker (le-refl 26) (λ v f. tt) (eval-went mark told is t sound u g .went))
 
 module _
     (b known s ws m : List ℕ)

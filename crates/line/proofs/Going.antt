@@ -23,7 +23,8 @@ use Rattle.rules.specs.Run.{runFields}
 use Rattle.rules.specs.Demands.{Good, leaves}
 use Rattle.rules.proofs.Acceptance.{accepted-length}
 use Rattle.rules.proofs.EvalSound.{eval-sound}
-use Rattle.rules.proofs.Fields.{most-leaves, remaining-within}
+use Rattle.rules.proofs.StepLaws.{remaining-within}
+use Rattle.rules.proofs.Fields.{most-leaves}
 use Rattle.rules.proofs.Places.{drop-below}
 use Rattle.rules.proofs.Steps.{Runs, most}
 use Rattle.state.specs.declared.Numbers.{Numbers}

@@ -18,6 +18,7 @@ use Rattle.rules.specs.Eval.{Ran as Run, ended, after, _then_}
 use Rattle.rules.specs.Run.{runFields, leftOver, runAll}
 use Rattle.rules.specs.Demands.{Good, Ends}
 use Rattle.rules.proofs.Acceptance.{lookup-some, accepted-sound}
+use Rattle.rules.proofs.EvalSound.{Any}
 use Rattle.rules.proofs.Fields.{fields-run}
 use Rattle.state.specs.declared.Numbers.{Numbers}
 use Rattle.state.specs.Lent.{stateOf, firstOr, Fine}
@@ -162,7 +163,7 @@ module _ (b known s words m₀ : List ℕ) (p₀ : Numbers) (o₀ : List ℕ) (m
           (fields-run mark (start .state .told) is (a .fields) (accepted-sound b a e) (stateOf m₀ p₀)
           (subst (λ (j : ℕ). Good j (stateOf m₀ p₀)) (sym (i .1)) (start .state .fine .good)) .ends)
         where
-          go : (o : Outcome (List Value)) → Ends (a .fields) o → Numbered o
+          go : (o : Outcome (List Value)) → Ends Any (a .fields) o → Numbered o
           go (ok v) w = tt
           go (refused v) w = λ z. omega (arith, w .0)
           go (fault v) w = tt

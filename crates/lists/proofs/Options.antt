@@ -131,9 +131,7 @@ module _
             → told (eval mark is (Optional catch t) (stateOf m p)) ≡ some (toldWith (made .ran) m″ value)
         unfolding eval
         outer is k =
-            visit-told (length is) (Optional catch t) (stateOf m p) (evalOptional catch (stateOf m p) (eval mark is t (stateOf m p)))
-            (node-runs mark (state .told) m p (state .fine) is (k .1) (Optional catch t) sound)
-            ∙ inner is k
+            visit-told (Optional catch t) (stateOf m p) (evalOptional catch (stateOf m p) (eval mark is t (stateOf m p))) ∙ inner is k
 
         short : length value ≤ 515
         short =

@@ -19,11 +19,11 @@ use Rattle.rules.specs.Split.{Item}
 use Rattle.rules.specs.State.{State}
 use Rattle.rules.specs.Eval.{Ran as Run, ended, _then_, repeated, evalMany, evalSome, eval}
 use Rattle.rules.specs.Demands.{Good, Sound, leaves}
-use Rattle.rules.proofs.Steps.{most, Runs}
+use Rattle.rules.proofs.Steps.{most}
 use Rattle.rules.proofs.Went.{Fine as FineEnd, Went, went-weaker, went-cost}
-use Rattle.rules.proofs.Nodes.{runs-went}
+use Rattle.rules.proofs.Nodes.{Evaluated}
 use Rattle.rules.proofs.Repeats.{repeated-went}
-use Rattle.rules.proofs.EvalSound.{Flat, sound-many, sound-some, eval-sound}
+use Rattle.rules.proofs.EvalSound.{Flat, sound-many, sound-some, Any, eval-went}
 use Rattle.structs.specs.Decisions.{someBy}
 use Rattle.state.specs.declared.Numbers.{Numbers}
 use Rattle.state.specs.Lent.{stateOf}
@@ -38,7 +38,7 @@ use Rattle.eval.specs.declared.Repeated.{Repeated}
 use Rattle.eval.specs.Cycle.{listed, Room, Repeating, Repeats}
 use Rattle.lists.specs.Lists.{Writes, OverScalar, WritesOver, refusedList, Counted}
 use Rattle.lists.proofs.Words.{sets-head}
-use Rattle.lists.proofs.Runs.{node-good, node-runs}
+use Rattle.lists.proofs.Runs.{node-good}
 
 -- ---- how a repeat ends
 fine-numbered : {A : Type 0} (h : ℕ) (P : A → Type 0) (o : Outcome A) → FineEnd h P o → Numbered o
@@ -49,17 +49,17 @@ fine-numbered h P (fault x) f = tt
 repeat-numbered :
     (n : ℕ) (t : Tree) (run : State → Run Value) (catch stops : Bool)
     → hasRepeat t ≡ false
-    → ((u : State) → Good n u → Runs n t u (run u))
+    → ((u : State) → Good n u → Evaluated Any n t u (run u))
     → (s : State)
     → Good n s
     → Numbered (repeated catch stops run s .outcome)
 unfolding most if_then_else_
 repeat-numbered n t run catch stops flat child s g =
     fine-numbered 26 _ (repeated catch stops run s .outcome)
-    (repeated-went n (λ v. Unit {0}) (leaves t) (s .remaining) catch stops run each s g (le-refl _) .ends)
+    (repeated-went Any n (λ v. Unit {0}) (leaves t) (s .remaining) catch stops run each s g (le-refl _) .ends)
   where
-    each : (u : State) → Good n u → u .remaining ≤ s .remaining → Went n 26 (λ (v : Value). Unit {0}) u (leaves t) (run u)
-    each u h l = went-cost (rw flat (le-refl (leaves t))) (went-weaker (le-refl 26) (λ v f. tt) (runs-went (child u h)))
+    each : (u : State) → Good n u → u .remaining ≤ s .remaining → Went Any n 26 (λ (v : Value). Unit {0}) u (leaves t) (run u)
+    each u h l = went-cost (rw flat (le-refl (leaves t))) (went-weaker (le-refl 26) (λ v f. tt) (child u h .went))
 
 -- a refused repeat has no values
 list-none : (r : Run (List Value)) (x : ToldList) → toldList r ≡ some x → (x .number ≡ 0 → ⊥) → x .values ≡ []
@@ -126,7 +126,7 @@ module _
     repeat-told : (is : List Item) → Flat t → length is ≡ p .count → Numbered (repeats is .outcome)
     repeat-told is f e =
         repeat-numbered (length is) t (eval mark is t) catch false (f .flat)
-        (λ u g. eval-sound mark (state .told) is t (f .sound) u g) (stateOf m p)
+        (λ u g. eval-went mark (state .told) is t (f .sound) u g) (stateOf m p)
         (node-good mark (state .told) m p (state .fine) is e)
 
     abbrev own : takes.Items area items p (state .items)
@@ -192,8 +192,7 @@ module _
       many-told : (is : List Item) → length is ≡ p .count → told (eval mark is (Many catch t) (stateOf m p)) ≡ told (evalMany catch (eval mark is t) (stateOf m p))
       unfolding eval
       many-told is e =
-          visit-told (length is) (Many catch t) (stateOf m p) (evalMany catch (eval mark is t) (stateOf m p))
-          (node-runs mark (state .told) m p (state .fine) is e (Many catch t) z)
+          visit-told (Many catch t) (stateOf m p) (evalMany catch (eval mark is t) (stateOf m p))
 
       pub many-denied : (all .number ≡ 0 → ⊥) → (q : Ran) → q ≡ refusedList (all .number) (all .place) (all .tries) (all .numbers) → Writes mark area items (Many catch t) m p m′ o at o′ q
       many-denied n q e =
@@ -212,8 +211,7 @@ module _
       some-told : (is : List Item) → length is ≡ p .count → told (eval mark is (Some catch t) (stateOf m p)) ≡ told (evalSome catch (eval mark is t) (stateOf m p))
       unfolding eval
       some-told is e =
-          visit-told (length is) (Some catch t) (stateOf m p) (evalSome catch (eval mark is t) (stateOf m p))
-          (node-runs mark (state .told) m p (state .fine) is e (Some catch t) z)
+          visit-told (Some catch t) (stateOf m p) (evalSome catch (eval mark is t) (stateOf m p))
 
       pub some-denied : (all .number ≡ 0 → ⊥) → (q : Ran) → q ≡ refusedList (all .number) (all .place) (all .tries) (all .numbers) → Writes mark area items (Some catch t) m p m′ o at o′ q
       some-denied n q e =

@@ -17,7 +17,7 @@ use Rattle.rules.specs.State.{parsed}
 use Rattle.rules.specs.Eval.{Ran as Run, eval}
 use Rattle.rules.specs.Demands.{Good, Sound, leaves}
 use Rattle.rules.proofs.Steps.{EndsOne, most, Runs}
-use Rattle.rules.proofs.Fields.{remaining-within}
+use Rattle.rules.proofs.StepLaws.{remaining-within}
 use Rattle.rules.proofs.ValueWords.{words-515}
 use Rattle.rules.proofs.EvalSound.{eval-sound}
 use Rattle.state.specs.declared.Numbers.{Numbers}

@@ -138,8 +138,7 @@ module _
                 → told (eval mark is (Choice t u) (stateOf m p)) ≡ some (toldWith (made .ran) m₃ value)
             unfolding eval
             same is q =
-                visit-told (length is) (Choice t u) (stateOf m p) (evalChoice (stateOf m p) (eval mark is t (stateOf m p)) (eval mark is u (stateOf m p)))
-                (node-runs mark (state .told) m p (state .fine) is (q .1) (Choice t u) sound)
+                visit-told (Choice t u) (stateOf m p) (evalChoice (stateOf m p) (eval mark is t (stateOf m p)) (eval mark is u (stateOf m p)))
                 ∙ f .same (eval mark is t (stateOf m p)) (eval mark is u (stateOf m p)) (h t g .value) (k u v .value)
                 (numbered t (sound-choice t u sound .0) is (q .1)) (numbered u (sound-choice t u sound .1) is (q .1))
                 (h t g .same is q) (k u v .same is q)

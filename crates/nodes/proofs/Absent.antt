@@ -10,8 +10,8 @@ use lib.Dec.{leb, eqb}
 use lib.ListN.{length, getElem?}
 use borrow.Author.Tests.{ne-eqb, eqb-true, eqb-false, lt-leb, le-leb}
 use Rattle.utf8.specs.Utf8.{if_then_else_}
-use Rattle.rules.specs.Base.{contains, _>>?_}
-use Rattle.rules.specs.Outcome.{Outcome, ok, refused, fault, panic, takeArgument679, _>>=_, refuse, refuseAt, isMissing, canCatch}
+use Rattle.rules.specs.Base.{contains}
+use Rattle.rules.specs.Outcome.{Spot, Outcome, ok, refused, fault, takeArgument679, _>>=_, refuse, refuseAt, isMissing, canCatch}
 use Rattle.rules.specs.Value.{Base, yesNo, text, number, Kind, isYes, isText, isNumber, Value, base, absent, present, nil, cons}
 use Rattle.rules.specs.Form.{nodeCount, readForm}
 use Rattle.rules.specs.Sheet.{sheetArea}
@@ -20,8 +20,8 @@ use Rattle.rules.specs.Split.{Item}
 use Rattle.rules.specs.State.{State, parsed}
 use Rattle.rules.specs.Take.{Took, Taken, Operand, takeArg, takePositionalWord}
 use Rattle.rules.specs.Calls.{fromRaw}
-use Rattle.rules.specs.Eval.{Ran as Run, ofKind, checked, visit, tried, missed, missing, answer, numberOf, parsedText, failedAt, parseText, argumentValue, evalArgument, wrongPosition, placedValue, positionalValue, evalPositional, fewer, swallowed, ended, after, _then_, guarded, evalGuard, eval}
-use Rattle.rules.specs.Demands.{Good, isNamed, wellBuilt}
+use Rattle.rules.specs.Eval.{Ran as Run, visit, leaf, refuseMissing, notFound, numberOf, failedAt, parseText, argumentValue, evalArgument, wrongPosition, placedValue, positionalValue, evalPositional, fewer, swallowed, ended, after, _then_, guarded, evalGuard, eval}
+use Rattle.rules.specs.Demands.{Good, isNamed, isRead, wellBuilt}
 use Rattle.rules.proofs.Nodes.{named-shown}
 use Rattle.rules.proofs.Places.{left}
 use Rattle.rules.proofs.StepLaws.{arg-takes, positional-takes}
@@ -53,37 +53,24 @@ Plain (ok v) = Unit {0}
 Plain (refused e) = (e .number ≡ 21 → ⊥) × (e .number ≡ 24 → ⊥)
 Plain (fault x) = Unit {0}
 
-plain-checked : (k : Option Kind) (o : Outcome Value) → Plain o → Plain (checked k o)
-unfolding checked
-plain-checked k (ok v) p = if-holds Plain (ofKind k v) _ _ (λ _. tt) (λ _. tt)
-plain-checked k (refused e) p = p
-plain-checked k (fault x) p = tt
-
-plain-missing : (unnamed : Outcome Value) (n : ℕ) (names : Named) (s : State) → isNamed names ≡ true → Plain (missing unnamed n names s)
-unfolding missing missed _>>=_ if_then_else_
+plain-missing : (unnamed : Spot) (n : ℕ) (names : Named) (s : State) → isNamed names ≡ true → Plain (notFound unnamed n names s)
+unfolding notFound refuseMissing _>>=_ if_then_else_
 plain-missing unnamed n names s h = rw (named-shown names h) (λ e. omega arith, λ e. omega arith)
 
 plain-text : (b : Base) (i : ℕ) (t : List ℕ) (s : State) → Plain (parseText b i t s)
-unfolding parseText parsedText failedAt _>>?_
-plain-text yesNo i t s = (λ e. omega arith, λ e. omega arith)
+unfolding parseText failedAt
+plain-text yesNo i t s = tt
 plain-text text i t s = tt
 plain-text number i t s = go (numberOf t)
   where
-    go : (x : Option ℕ) → Plain (elim (x >>? λ n. some (isNumber n)) [ none ↦ refused (failedAt 25 (s .current)) | some v ↦ ok (base v) ])
+    go : (x : Option ℕ) → Plain (elim x [ none ↦ refused (failedAt 25 (s .current)) | some n ↦ ok (base (isNumber n)) ])
     go none = (λ e. omega arith, λ e. omega arith)
     go (some x) = tt
 
-plain-argument : (n : ℕ) (names : Named) (b : Base) (t : Took (Option Taken)) → isNamed names ≡ true → Plain (argumentValue n names b t)
+plain-argument : (n : ℕ) (names : Named) (b : Base) (x : Option Taken) (s : State) → isNamed names ≡ true → Plain (argumentValue n names b x s)
 unfolding argumentValue
-plain-argument n names b t h = go (t .answer)
-  where
-    go : (x : Option Taken)
-        → Plain (elim x [
-          | none ↦ missing (fault (panic takeArgument679)) n names (t .state)
-          | some x ↦ parseText b (x .place) (x .text) (t .state)
-        ])
-    go none = plain-missing (fault (panic takeArgument679)) n names (t .state) h
-    go (some x) = plain-text b (x .place) (x .text) (t .state)
+plain-argument n names b none s h = plain-missing takeArgument679 n names s h
+plain-argument n names b (some x) s h = plain-text b (x .place) (x .text) s
 
 plain-placed : (q : Position) → (q ≡ nonStrict → ⊥) → (b : Base) (x : Operand) (s : State) → Plain (placedValue q b x s)
 unfolding placedValue wrongPosition refuseAt if_then_else_
@@ -96,13 +83,10 @@ plain-placed strict h b x s = go (x .strict)
     go false = (λ e. omega arith, λ e. omega arith)
 plain-placed nonStrict h b x s = absurd (h refl)
 
-plain-positional : (n : ℕ) (q : Position) → (q ≡ nonStrict → ⊥) → (b : Base) (t : Took (Option Operand)) → Plain (positionalValue n q b t)
-unfolding positionalValue missed
-plain-positional n q h b t = go (t .answer)
-  where
-    go : (x : Option Operand) → Plain (elim x [ none ↦ refused (missed n (t .state)) | some x ↦ placedValue q b x (t .state) ])
-    go none = (λ e. omega arith, λ e. omega arith)
-    go (some x) = plain-placed q h b x (t .state)
+plain-positional : (n : ℕ) (q : Position) → (q ≡ nonStrict → ⊥) → (b : Base) (x : Option Operand) (s : State) → Plain (positionalValue n q b x s)
+unfolding positionalValue refuseMissing
+plain-positional n q h b none s = (λ e. omega arith, λ e. omega arith)
+plain-positional n q h b (some x) s = plain-placed q h b x s
 
 plain-guarded : (lo hi : ℕ) (v : Value) (s : State) → Plain (guarded lo hi v s)
 unfolding guarded failedAt
@@ -134,33 +118,31 @@ plain-guard lo hi r = go (r .outcome)
 
 -- ---- the leaves
 
-tried-value : {A : Type 0} (s : State) (o : Outcome (Took A)) (f : Took A → Outcome Value) (t : Took A) → o ≡ ok t
-    → f t ≡ tried s (o >>= λ t. answer (t .state) (f t)) .outcome
-unfolding tried answer _>>=_
-tried-value {A} s o f t e = sym (ap (λ (x : Outcome (Took A)). tried s (x >>= λ t. answer (t .state) (f t)) .outcome) e)
+leaf-value : {A : Type 0} (s : State) (o : Outcome (Took A)) (f : A → State → Outcome Value) (t : Took A) → o ≡ ok t
+    → f (t .answer) (t .state) ≡ leaf s o f .outcome
+unfolding leaf
+leaf-value {A} s o f t e = sym (ap (λ (x : Outcome (Took A)). leaf s x f .outcome) e)
 
 module _ (k : ℕ) (told : parsed k ≡ true) (is : List Item) (s : State) (g : Good (length is) s) where
   argument-plain : (n : ℕ) (names : Named) (b : Base) (adjacent : Bool) → isNamed names ≡ true
       → Plain (eval k is (Argument n names b adjacent) s .outcome)
-  unfolding eval visit evalArgument tried refuseAt _>>=_
+  unfolding eval visit evalArgument leaf refuseAt
   argument-plain n names b adjacent h =
-      plain-checked (kindOf (Argument n names b adjacent)) _
-      (⊎-elim
-      (λ x. subst Plain (tried-value s (takeArg k is names adjacent s) (argumentValue n names b) (x .0) (x .1)) (plain-argument n names b (x .0) h))
+      ⊎-elim
+      (λ x. subst Plain (leaf-value s (takeArg k is names adjacent s) (argumentValue n names b) (x .0) (x .1)) (plain-argument n names b (x .0 .answer) (x .0 .state) h))
       (λ x. rw (x .1) (λ e. omega arith, λ e. omega arith))
-      (arg-takes k told is names adjacent s g))
+      (arg-takes k told is names adjacent s g)
 
   positional-plain : (n : ℕ) (q : Position) → (q ≡ nonStrict → ⊥) → (b : Base) → Plain (eval k is (Positional n q b) s .outcome)
   unfolding eval visit evalPositional
   positional-plain n q h b =
       let x = positional-takes k told is s g in
-      plain-checked (kindOf (Positional n q b)) _
-      (subst Plain (tried-value s (takePositionalWord k is s) (positionalValue n q b) (x .0) (x .1)) (plain-positional n q h b (x .0)))
+      subst Plain (leaf-value s (takePositionalWord k is s) (positionalValue n q b) (x .0) (x .1)) (plain-positional n q h b (x .0 .answer) (x .0 .state))
 
   leaf-plain : (t : Tree) → wellBuilt t ≡ true → keepsLeaf t ≡ false → Plain (eval k is t s .outcome)
   unfolding wellBuilt keepsLeaf isNonStrict
   leaf-plain (Flag n names switch) w e = absurd (false≢true (sym e))
-  leaf-plain (Argument n names b adjacent) w e = argument-plain n names b adjacent w
+  leaf-plain (Argument n names b adjacent) w e = argument-plain n names b adjacent (left (isNamed names) (isRead b) w)
   leaf-plain (Positional n q b) w e = positional-plain n q (λ x. false≢true (sym e ∙ ap isNonStrict x)) b
   leaf-plain (Optional c t) w e = absurd (false≢true (sym e))
   leaf-plain (Many c t) w e = absurd (false≢true (sym e))
@@ -183,7 +165,7 @@ module _ (k : ℕ) (told : parsed k ≡ true) (is : List Item) (s : State) (g : 
   under-plain (Last t) w e = absurd (false≢true (sym e))
   under-plain (Choice t u) w e = absurd (false≢true (sym e))
   under-plain (Fallback v t) w e = absurd (false≢true (sym e))
-  under-plain (Guard l h t) w e = plain-checked (kindOf (Guard l h t)) _ (plain-guard l h (eval k is t s) (leaf-plain t w e))
+  under-plain (Guard l h t) w e = plain-guard l h (eval k is t s) (leaf-plain t w e)
 
 -- ---- what is decided
 

@@ -19,6 +19,7 @@ use Rattle.rules.specs.State.{parsed}
 use Rattle.rules.specs.Take.{matchesArg, isOperand}
 use Rattle.rules.specs.Accept.{lengthGood}
 use Rattle.rules.specs.Demands.{Sound, leaves, isNamed, wellBuilt}
+use Rattle.rules.proofs.Places.{left}
 use Rattle.rules.proofs.KindLaws.{choice-kind, base-kind}
 use Rattle.layout.specs.Layout.{nodeOf}
 use Rattle.layout.specs.declared.Node.{Node}
@@ -181,24 +182,24 @@ module _ (b known s words m : List ℕ) (p : Numbers) (mark n : ℕ) (z : Scalar
 
     named-leaf :
         (make : ℕ → rules.Named → Tree) (adjacent : Bool)
-        → ((k : ℕ) (d : rules.Named) → wellBuilt (make k d) ≡ isNamed d)
+        → ((k : ℕ) (d : rules.Named) → wellBuilt (make k d) ≡ true → isNamed d ≡ true)
         → ((i : Item) → nodeMatches b (nodeOf x) i ≡ matchesArg (namedAt b (x .p) (x .q)) adjacent i)
         → Leaf make b (x .p) (x .q) (z .stands .tree)
         → params.Leaf known (sheetArea s) words m p n mark (namedAt b (x .p) (x .q)) adjacent
     named-leaf make adjacent built same q = record {
       state = z .stands .state;
       says = node-says (matchesArg (namedAt b (x .p) (x .q)) adjacent) same;
-      named = sym (built (q .place) (namedAt b (x .p) (x .q))) ∙ ap wellBuilt (q .same) ∙ sound .built;
+      named = built (q .place) (namedAt b (x .p) (x .q)) (ap wellBuilt (q .same) ∙ sound .built);
     }
 
     flag-leaf : x .kind ≡ 1 → params.Leaf known (sheetArea s) words m p n mark (namedAt b (x .p) (x .q)) false
     unfolding wellBuilt nodeMatches isNamedNode isAdjacent
-    flag-leaf k = named-leaf _ false (λ i d. refl) (λ i. rw k) (flag-tree b n (z .stands .tree) (z .stands .node) (nodeOf x) h k)
+    flag-leaf k = named-leaf _ false (λ i d e. e) (λ i. rw k) (flag-tree b n (z .stands .tree) (z .stands .node) (nodeOf x) h k)
 
     argument-leaf : x .kind ≡ 2 → params.Leaf known (sheetArea s) words m p n mark (namedAt b (x .p) (x .q)) (eqb (x .r % 2) 1)
     unfolding wellBuilt nodeMatches isNamedNode isAdjacent
     argument-leaf k =
-        named-leaf _ (eqb (x .r % 2) 1) (λ i d. refl) (λ i. rw k) (argument-tree b n (z .stands .tree) (z .stands .node) (nodeOf x) h k)
+        named-leaf _ (eqb (x .r % 2) 1) (λ i d e. left (isNamed d) _ e) (λ i. rw k) (argument-tree b n (z .stands .tree) (z .stands .node) (nodeOf x) h k)
 
     pub flag-ready : Fine m p × (parsed mark ≡ true) × takes.Reaches known p n
     flag-ready = (z .stands .state .fine, z .stands .state .told, leaf-reaches)

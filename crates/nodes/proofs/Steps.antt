@@ -11,17 +11,17 @@ use lib.ListN.{length}
 use borrow.Author.Tests.{eqb-true, eqb-false}
 use Rattle.utf8.specs.Utf8.{if_then_else_}
 use Rattle.rules.specs.Outcome.{Outcome, ok, refused, fault, Refusal}
-use Rattle.rules.specs.Value.{Base, number, Kind, one, optional, list, listOfOptional, optionalList, BaseValue, Value, base, absent, present, nil, cons, isBase, hasKind, word, words}
+use Rattle.rules.specs.Value.{Base, number, Kind, one, optional, list, listOfOptional, optionalList, BaseValue, Value, base, absent, present, nil, cons, isBase, hasKind, word, words, ofKind}
 use Rattle.rules.specs.Sheet.{sheetArea}
 use Rattle.rules.specs.Base.{isSome, _>>?_}
 use Rattle.rules.specs.Tree.{Tree, Optional, Choice, Fallback, Guard, optionalKind, shapeOf, kindOf, hasRepeat}
 use Rattle.rules.specs.Split.{Item}
 use Rattle.rules.specs.State.{State}
 use Rattle.rules.specs.Calls.{fromRaw}
-use Rattle.rules.specs.Eval.{Ran as Run, ofKind, ended, after, _then_, swallowed, parseOption, evalOptional, evalFallback, evalGuard, evalChoice, eval, visit}
+use Rattle.rules.specs.Eval.{Ran as Run, ended, after, _then_, swallowed, parseOption, evalOptional, evalFallback, evalGuard, evalChoice, eval, visit}
 use Rattle.rules.specs.Demands.{Good, Sound, leaves}
 use Rattle.rules.proofs.EvalSound.{eval-sound}
-use Rattle.rules.proofs.Fields.{remaining-within}
+use Rattle.rules.proofs.StepLaws.{remaining-within}
 use Rattle.rules.proofs.KindLaws.{base-kind}
 use Rattle.rules.proofs.Steps.{most, EndsOne, Runs}
 use Rattle.state.specs.declared.Numbers.{Numbers}
@@ -220,9 +220,7 @@ told-words r m e = ap (λ (u : List ℕ). some (toldWith r m u)) e
 -- the run inside a node's evaluation
 module _ (mark : ℕ) (area words m : List ℕ) (p : Numbers) (z : Ready area words m p mark) (t : Tree) (w : Sound t) (is : List Item) (i : Items area words p is) where
   pub inside : (r : Run Value) → eval mark is t (stateOf m p) ≡ visit t (stateOf m p) r → told (eval mark is t (stateOf m p)) ≡ told r
-  inside r e =
-      ap told e
-      ∙ visit-told (length is) t (stateOf m p) r (subst (λ (q : Run Value). Runs (length is) t (stateOf m p) q) e (good-runs mark area words m p z t w is i))
+  inside r e = ap told e ∙ visit-told t (stateOf m p) r
 
 -- a node has one tree
 pub wrapped :

@@ -11,14 +11,14 @@ use borrow.Author.Tests.{lt-ltb, le-ltb, eqb-true, leb-true, leb-false}
 use Rattle.utf8.specs.Utf8.{if_then_else_}
 use Rattle.rules.specs.Base.{all}
 use Rattle.rules.specs.Outcome.{Outcome, ok, refused, fault, _>>=_, at, canCatch, orElse305, orElse307}
-use Rattle.rules.specs.Value.{yesNo, text, number, Kind, BaseValue, Value, base}
+use Rattle.rules.specs.Value.{yesNo, text, number, BaseValue, Value, base}
 use Rattle.rules.specs.Form.{readForm}
-use Rattle.rules.specs.Tree.{Named, Tree, Flag, Argument, Positional, Optional, Many, Some, Count, Last, Choice, Fallback, Guard, zeros, kindOf}
+use Rattle.rules.specs.Tree.{Named, Tree, Flag, Argument, Positional, Optional, Many, Some, Count, Last, Choice, Fallback, Guard, zeros}
 use Rattle.rules.specs.Split.{Item}
 use Rattle.rules.specs.State.{State, Found, Picked, get, find, remove, withCurrent}
 use Rattle.rules.specs.Take.{took, matchesArg, takeFlag, valueText, takeValue, takeArg}
 use Rattle.rules.specs.Calls.{fromRaw}
-use Rattle.rules.specs.Eval.{Ran as Run, ended, after, ofKind, checked, visit, tried, answer, flagValue, evalFlag, parsedText, parseText, argumentValue, evalArgument, errorOf, valueOf, picksFirst, won, chosen, evalChoice, evalFallback, eval}
+use Rattle.rules.specs.Eval.{Ran as Run, ended, after, visit, leaf, flagValue, evalFlag, parseText, argumentValue, evalArgument, picksFirst, valueOf, picked, chosen, evalChoice, evalFallback, eval}
 use Rattle.rules.proofs.Places.{left, right}
 use Rattle.rules.proofs.Went.{if-holds}
 use Rattle.layout.specs.Layout.{nodeOf}
@@ -48,59 +48,50 @@ kept-same s (ok v) = tt
 kept-same s (refused e) = refl
 kept-same s (fault x) = tt
 
-kept-checked : (s u : State) (k : Option Kind) (o : Outcome Value) → Kept s u o → Kept s u (checked k o)
-unfolding checked
-kept-checked s u k (ok v) p = if-holds (Kept s u) (ofKind k v) _ _ (λ _. tt) (λ _. tt)
-kept-checked s u k (refused e) p = p
-kept-checked s u k (fault x) p = tt
-
 -- ---- a flag, and an argument of text
 module _ (k : ℕ) (is : List Item) (s : State) where
   flag-undone : (n : ℕ) (names : Named) (switch : Bool) → Undone s (evalFlag k is n names switch s)
-  unfolding evalFlag takeFlag tried answer flagValue took _>>=_ if_then_else_
+  unfolding evalFlag takeFlag leaf flagValue took _>>=_ if_then_else_
   flag-undone n names switch = go (find is (matchesArg names false) s)
     where
-      gone : (o : Outcome State) → Undone s (tried s ((o >>= λ t. took true t) >>= λ t. answer (t .state) (flagValue n names switch t)))
+      gone : (o : Outcome State) → Undone s (leaf s (o >>= λ t. took true t) (flagValue n names switch))
       gone (ok u) = tt
       gone (refused e) = refl
       gone (fault x) = tt
 
       go :
           (o : Outcome (Option Found))
-          → Undone s (tried s ((o >>= λ x. elim x [ none ↦ took false s | some j ↦ remove k s (j .place) >>= λ t. took true t ])
-          >>= λ t. answer (t .state) (flagValue n names switch t)))
-      go (ok none) = kept-same s (flagValue n names switch (record { answer = false; state = s }))
+          → Undone s (leaf s (o >>= λ x. elim x [ none ↦ took false s | some j ↦ remove k s (j .place) >>= λ t. took true t ]) (flagValue n names switch))
+      go (ok none) = kept-same s (flagValue n names switch false s)
       go (ok (some x)) = gone (remove k s (x .place))
       go (refused e) = refl
       go (fault x) = tt
 
   argument-undone : (n : ℕ) (names : Named) (adjacent : Bool) → Undone s (evalArgument k is n names text adjacent s)
-  unfolding evalArgument takeArg takeValue tried answer argumentValue parseText parsedText took _>>=_
+  unfolding evalArgument takeArg takeValue leaf argumentValue parseText took _>>=_
   argument-undone n names adjacent = go (find is (matchesArg names adjacent) s)
     where
       second : (i : ℕ) (t : List ℕ) (o : Outcome State)
-          → Undone s (tried s ((o >>= λ v. took (some (record { place = i; text = t })) v) >>= λ t. answer (t .state) (argumentValue n names text t)))
+          → Undone s (leaf s (o >>= λ v. took (some (record { place = i; text = t })) v) (argumentValue n names text))
       second i t (ok u) = tt
       second i t (refused e) = refl
       second i t (fault x) = tt
 
       first : (i : ℕ) (t : List ℕ) (o : Outcome State)
-          → Undone s (tried s ((o >>= λ u. remove k u i >>= λ v. took (some (record { place = i; text = t })) v)
-          >>= λ t. answer (t .state) (argumentValue n names text t)))
+          → Undone s (leaf s (o >>= λ u. remove k u i >>= λ v. took (some (record { place = i; text = t })) v) (argumentValue n names text))
       first i t (ok u) = second i t (remove k u i)
       first i t (refused e) = refl
       first i t (fault x) = tt
 
-      value : (i : ℕ) (o : Option (List ℕ))
-          → Undone s (tried s (takeValue k s i o >>= λ t. answer (t .state) (argumentValue n names text t)))
+      value : (i : ℕ) (o : Option (List ℕ)) → Undone s (leaf s (takeValue k s i o) (argumentValue n names text))
       value i none = refl
       value i (some t) = first (suc i) t (remove k (withCurrent (some (suc i)) s) i)
 
       go :
           (o : Outcome (Option Found))
-          → Undone s (tried s ((o >>= λ x. elim x [ none ↦ took none s | some j ↦ takeValue k s (j .place) (valueText (get is s (suc (j .place)))) ])
-          >>= λ t. answer (t .state) (argumentValue n names text t)))
-      go (ok none) = kept-same s (argumentValue n names text (record { answer = none; state = s }))
+          → Undone s (leaf s (o >>= λ x. elim x [ none ↦ took none s | some j ↦ takeValue k s (j .place) (valueText (get is s (suc (j .place)))) ])
+          (argumentValue n names text))
+      go (ok none) = kept-same s (argumentValue n names text none s)
       go (ok (some x)) = value (x .place) (valueText (get is s (suc (x .place))))
       go (refused e) = refl
       go (fault x) = tt
@@ -111,44 +102,21 @@ unfolding at
 won-kept s none spot u = tt
 won-kept s (some v) spot u = tt
 
-chosen-undone : (s : State) (a b : Run Value) → Undone s (chosen s a b)
-unfolding chosen ended
-chosen-undone s a b = go (picksFirst (errorOf (a .outcome)) (errorOf (b .outcome)) s (a .state) (b .state))
-  where
-    go :
-        (o : Outcome Picked)
-        → Undone s (elim o [
-          | ok p ↦ if p .first
-              then ended (at orElse305 (valueOf (a .outcome))) (won (a .state) (b .state) (p .place))
-              else ended (at orElse307 (valueOf (b .outcome))) (won (b .state) (a .state) (p .place))
-          | refused e ↦ ended (refused e) s
-          | fault x ↦ ended (fault x) s
-        ])
-    go (ok p) =
-        if-holds (Undone s) (p .first) _ _
-        (λ _. won-kept s (valueOf (a .outcome)) orElse305 _)
-        (λ _. won-kept s (valueOf (b .outcome)) orElse307 _)
-    go (refused e) = refl
-    go (fault x) = tt
+picked-undone : (s : State) (a b : Run Value) (p : Picked) → Undone s (picked a b p)
+unfolding picked ended
+picked-undone s a b p =
+    if-holds (Undone s) (p .first) _ _
+    (λ _. won-kept s (valueOf (a .outcome)) orElse305 _)
+    (λ _. won-kept s (valueOf (b .outcome)) orElse307 _)
 
 choice-undone : (s : State) (a b : Run Value) → Undone s (evalChoice s a b)
-unfolding evalChoice after ended
-choice-undone s a b = go (a .outcome) (b .outcome)
+unfolding evalChoice chosen after ended
+choice-undone s a b = go (picksFirst s (a .state) (b .state) (a .outcome) (b .outcome))
   where
-    go :
-        (x y : Outcome Value)
-        → Undone s (after a (after b (elim x [
-          | fault x ↦ ended (fault x) s
-          | ok v ↦ elim y [ fault x ↦ ended (fault x) s | ok w ↦ chosen s a b | refused e ↦ chosen s a b ]
-          | refused e ↦ elim y [ fault x ↦ ended (fault x) s | ok w ↦ chosen s a b | refused e′ ↦ chosen s a b ]
-        ])))
-    go (ok v) (ok w) = chosen-undone s a b
-    go (ok v) (refused e) = chosen-undone s a b
-    go (ok v) (fault y) = tt
-    go (refused e) (ok w) = chosen-undone s a b
-    go (refused e) (refused f) = chosen-undone s a b
-    go (refused e) (fault y) = tt
-    go (fault x) y = tt
+    go : (o : Outcome Picked) → Undone s (elim o [ ok p ↦ picked a b p | refused e ↦ ended (refused e) s | fault x ↦ ended (fault x) s ])
+    go (ok p) = picked-undone s a b p
+    go (refused e) = refl
+    go (fault x) = tt
 
 fallback-undone : (v : BaseValue) (s : State) (r : Run Value) → Undone s (evalFallback v s r)
 unfolding evalFallback after ended
@@ -168,10 +136,9 @@ fallback-undone v s r = go (r .outcome)
 -- ---- every node that undoes its refusals
 eval-undone : (k : ℕ) (is : List Item) (t : Tree) (s : State) → undoes t ≡ true → Undone s (eval k is t s)
 unfolding eval visit undoes takesText
-eval-undone k is (Flag n names switch) s e = kept-checked s _ (kindOf (Flag n names switch)) _ (flag-undone k is s n names switch)
+eval-undone k is (Flag n names switch) s e = flag-undone k is s n names switch
 eval-undone k is (Argument n names yesNo adjacent) s e = absurd (false≢true e)
-eval-undone k is (Argument n names text adjacent) s e =
-    kept-checked s _ (kindOf (Argument n names text adjacent)) _ (argument-undone k is s n names adjacent)
+eval-undone k is (Argument n names text adjacent) s e = argument-undone k is s n names adjacent
 eval-undone k is (Argument n names number adjacent) s e = absurd (false≢true e)
 eval-undone k is (Positional n q b) s e = absurd (false≢true e)
 eval-undone k is (Optional c t) s e = absurd (false≢true e)
@@ -179,8 +146,8 @@ eval-undone k is (Many c t) s e = absurd (false≢true e)
 eval-undone k is (Some c t) s e = absurd (false≢true e)
 eval-undone k is (Count t) s e = absurd (false≢true e)
 eval-undone k is (Last t) s e = absurd (false≢true e)
-eval-undone k is (Choice t u) s e = kept-checked s _ (kindOf (Choice t u)) _ (choice-undone s (eval k is t s) (eval k is u s))
-eval-undone k is (Fallback v t) s e = kept-checked s _ (kindOf (Fallback v t)) _ (fallback-undone v s (eval k is t s))
+eval-undone k is (Choice t u) s e = choice-undone s (eval k is t s) (eval k is u s)
+eval-undone k is (Fallback v t) s e = fallback-undone v s (eval k is t s)
 eval-undone k is (Guard l h t) s e = absurd (false≢true e)
 
 undone-state : (s : State) (r : Run Value) (x : Told) → told r ≡ some x → (x .number ≡ 0 → ⊥) → Undone s r → r .state ≡ s

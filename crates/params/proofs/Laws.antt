@@ -9,16 +9,15 @@ use native.Mathlib.Omega.{arith}
 use lib.Dec.{eqb}
 use borrow.Author.Tests.{ne-eqb, not-true, not-false, eqb-true, eqb-false}
 use Rattle.utf8.specs.Utf8.{if_then_else_}
-use Rattle.rules.specs.Base.{_>>?_}
-use Rattle.rules.specs.Outcome.{Outcome, ok, refused, fault, panic, parseFlag559, takeArgument679, _>>=_, Refusal, refuseAt}
+use Rattle.rules.specs.Outcome.{Spot, Outcome, ok, refused, parseFlag559, takeArgument679, _>>=_, Refusal, refuseAt}
 use Rattle.rules.specs.Codes.{placeCode}
-use Rattle.rules.specs.Value.{Base, yesNo, text, number, one, isNumber, Value, base, baseNumber, sameBase, baseOf, isBase, hasKind, word, words}
-use Rattle.rules.specs.Tree.{Named, Position, Tree, Flag, Argument, Positional, kindOf}
+use Rattle.rules.specs.Value.{Base, text, number, isNumber, Value, base, word, words}
+use Rattle.rules.specs.Tree.{Named, Position, Tree, Flag, Argument, Positional}
 use Rattle.rules.specs.Split.{Item}
 use Rattle.rules.specs.State.{State}
 use Rattle.rules.specs.Take.{Took, took, Taken, Operand, takeFlag, takeArg, takePositionalWord}
 use Rattle.rules.specs.Calls.{fromRaw}
-use Rattle.rules.specs.Eval.{ofKind, checked, visit, tried, missed, missing, answer, flagValue, evalFlag, numberOf, parsedText, failedAt, parseText, argumentValue, evalArgument, wrongPosition, placedValue, positionalValue, evalPositional, eval}
+use Rattle.rules.specs.Eval.{visit, leaf, refuseMissing, notFound, flagValue, evalFlag, numberOf, failedAt, parseText, argumentValue, evalArgument, wrongPosition, placedValue, positionalValue, evalPositional, eval}
 use Rattle.rules.specs.Demands.{isNamed}
 use Rattle.rules.proofs.Nodes.{named-shown}
 use Rattle.arg.specs.declared.Part.{Part}
@@ -50,30 +49,20 @@ current-code c = go (eqb c 0) refl
 
 module _ (place : ℕ) (bytes : List ℕ) (s : State) where
   abbrev numeral : Option ℕ → Outcome Value
-  numeral o = elim (o >>? λ n. some (isNumber n)) [ none ↦ refused (failedAt 25 (s .current)) | some v ↦ ok (base v) ]
+  numeral o = elim o [ none ↦ refused (failedAt 25 (s .current)) | some n ↦ ok (base (isNumber n)) ]
 
   is-number : (n : ℕ) → numberOf bytes ≡ some n → parseText number place bytes s ≡ ok (base (isNumber n))
-  unfolding parseText parsedText _>>?_
+  unfolding parseText
   is-number n e = ap numeral e
 
   no-number : numberOf bytes ≡ none → parseText number place bytes s ≡ refused (failedAt 25 (s .current))
-  unfolding parseText parsedText _>>?_
+  unfolding parseText
   no-number e = ap numeral e
-
-  pub parsed-kind : (b : Base) → checked (some (one b)) (parseText b place bytes s) ≡ parseText b place bytes s
-  unfolding checked ofKind hasKind isBase sameBase baseOf baseNumber parseText parsedText _>>?_ if_then_else_
-  parsed-kind yesNo = refl
-  parsed-kind text = refl
-  parsed-kind number = go (numberOf bytes)
-    where
-      go : (o : Option ℕ) → checked (some (one number)) (numeral o) ≡ numeral o
-      go none = refl
-      go (some n) = refl
 
 module _ (place : ℕ) (bytes : List ℕ) (p : Numbers) (numeric : Bool) where
   pub text-tells : not numeric ≡ true → (r : Ran) → r ≡ valueRan place p
       → Tells (parseText (if numeric then number else text) place bytes) p r
-  unfolding told leafRun parseText parsedText words word scalarWords if_then_else_
+  unfolding told leafRun parseText words word scalarWords if_then_else_
   text-tells e r er = rw (er, not-true numeric e) (record { same = λ m. refl; kept = refl })
 
   module _ (e : not numeric ≡ false) (found : Number) (read : optionOf found ≡ numberOf bytes) where
@@ -124,34 +113,23 @@ module _ (p : Numbers) (at : Position) (b : Base) (x : Operand) (wrong : ℕ) (e
         kept = d .kept;
       }
 
-placed-kind : (at : Position) (b : Base) (x : Operand) (s : State) → checked (some (one b)) (placedValue at b x s) ≡ placedValue at b x s
-unfolding placedValue checked
-placed-kind at b x s = go (wrongPosition at (x .strict))
-  where
-    go : (o : Option ℕ)
-        → checked (some (one b)) (elim o [ none ↦ parseText b (x .place) (x .text) s | some n ↦ refused (refuseAt n (x .place)) ])
-        ≡ elim o [ none ↦ parseText b (x .place) (x .text) s | some n ↦ refused (refuseAt n (x .place)) ]
-    go none = parsed-kind (x .place) (x .text) s b
-    go (some n) = refl
-
 -- ---- one try of a leaf
 
-leaf-told : {A : Type 0} (t : Tree) (s : State) (o : Outcome (Took A)) (f : Took A → Outcome Value) (a : A) (u : State) → o ≡ took a u
-    → told (visit t s (tried s (o >>= λ x. answer (x .state) (f x))))
-    ≡ told (leafRun (checked (kindOf t) (f (record { answer = a; state = u }))) u)
-unfolding told visit tried answer took leafRun _>>=_
-leaf-told {A} t s o f a u e = ap (λ (x : Outcome (Took A)). told (visit t s (tried s (x >>= λ x. answer (x .state) (f x))))) e
+leaf-told : {A : Type 0} (t : Tree) (s : State) (o : Outcome (Took A)) (f : A → State → Outcome Value) (a : A) (u : State) → o ≡ took a u
+    → told (visit t s (leaf s o f)) ≡ told (leafRun (f a u) u)
+unfolding told visit leaf took leafRun
+leaf-told {A} t s o f a u e = ap (λ (x : Outcome (Took A)). told (visit t s (leaf s x f))) e
 
 -- the take's own refusal
-leaf-refused : {A : Type 0} (t : Tree) (s : State) (o : Outcome (Took A)) (f : Took A → Outcome Value) (e : Refusal) → o ≡ refused e
-    → told (visit t s (tried s (o >>= λ x. answer (x .state) (f x)))) ≡ told (leafRun (refused e) s)
-unfolding told visit tried leafRun checked _>>=_
-leaf-refused {A} t s o f e h = ap (λ (x : Outcome (Took A)). told (visit t s (tried s (x >>= λ x. answer (x .state) (f x))))) h
+leaf-refused : {A : Type 0} (t : Tree) (s : State) (o : Outcome (Took A)) (f : A → State → Outcome Value) (e : Refusal) → o ≡ refused e
+    → told (visit t s (leaf s o f)) ≡ told (leafRun (refused e) s)
+unfolding told visit leaf leafRun
+leaf-refused {A} t s o f e h = ap (λ (x : Outcome (Took A)). told (visit t s (leaf s x f))) h
 
 -- a leaf that has a name is refused with 20
-named-missing : (unnamed : Outcome Value) (n : ℕ) (names : Named) (s : State) → isNamed names ≡ true
-    → missing unnamed n names s ≡ refused (missed n s)
-unfolding missing _>>=_ if_then_else_
+named-missing : (unnamed : Spot) (n : ℕ) (names : Named) (s : State) → isNamed names ≡ true
+    → notFound unnamed n names s ≡ refused (refuseMissing n s)
+unfolding notFound _>>=_ if_then_else_
 named-missing unnamed n names s h = rw (named-shown names h)
 
 module _ (mark : ℕ) (area words m : List ℕ) (p : Numbers) (m′ : List ℕ) where
@@ -160,31 +138,30 @@ module _ (mark : ℕ) (area words m : List ℕ) (p : Numbers) (m′ : List ℕ) 
     module _ (switch : Bool) (r : TookFlag) (d : TakesFlag mark area words names m p m′ r) (q : Ran) where
       flag-told : (b : Bool) → r .found ≡ b → (n : ℕ) (is : List Item) → Items area words p is
           → told (eval mark is (Flag n names switch) (stateOf m p))
-          ≡ told (leafRun (checked (some (one yesNo)) (flagValue n names switch (record { answer = b; state = stateOf m′ (r .numbers) }))) (stateOf m′ (r .numbers)))
-      unfolding eval evalFlag kindOf
+          ≡ told (leafRun (flagValue n names switch b (stateOf m′ (r .numbers))) (stateOf m′ (r .numbers)))
+      unfolding eval evalFlag
       flag-told b h n is t =
           leaf-told (Flag n names switch) (stateOf m p) (takeFlag mark is names (stateOf m p)) (flagValue n names switch) b (stateOf m′ (r .numbers))
           (d .same is t ∙ ap (λ (x : Bool). took x (stateOf m′ (r .numbers))) h)
 
       pub flag-yes : r .found ≡ true → q ≡ valueRan 1 (r .numbers) → (n : ℕ) → Evaluates mark area words (Flag n names switch) m p m′ q
-      unfolding told leafRun checked ofKind hasKind isBase sameBase baseOf baseNumber flagValue words word scalarWords if_then_else_
+      unfolding told leafRun flagValue words word scalarWords if_then_else_
       flag-yes h eq n = rw eq (record { same = λ is t. flag-told true h n is t; left = d .left })
 
       pub flag-no : r .found ≡ false → switch ≡ true → q ≡ valueRan 0 (r .numbers)
           → (n : ℕ) → Evaluates mark area words (Flag n names switch) m p m′ q
-      unfolding told leafRun checked ofKind hasKind isBase sameBase baseOf baseNumber flagValue words word scalarWords if_then_else_
+      unfolding told leafRun flagValue words word scalarWords if_then_else_
       flag-no h w eq n = rw eq (record { same = λ is t. flag-told false h n is t ∙ rw w; left = d .left })
 
       pub flag-refused : r .found ≡ false → switch ≡ false → q ≡ refusedRan 20 0 (r .numbers)
           → (n : ℕ) → Evaluates mark area words (Flag n names switch) m p m′ q
-      unfolding told leafRun checked flagValue missed scalarWords if_then_else_
+      unfolding told leafRun flagValue refuseMissing scalarWords if_then_else_
       flag-refused h w eq n =
           let u : State = stateOf m′ (r .numbers) in
           rw eq (record {
             same = λ is t.
                 flag-told false h n is t
-                ∙ rw w (ap (λ (o : Outcome Value). told (leafRun (checked (some (one yesNo)) o) u))
-                (named-missing (fault (panic parseFlag559)) n names u shown));
+                ∙ rw w (ap (λ (o : Outcome Value). told (leafRun o u)) (named-missing parseFlag559 n names u shown));
             left = d .left;
           })
 
@@ -193,22 +170,21 @@ module _ (mark : ℕ) (area words m : List ℕ) (p : Numbers) (m′ : List ℕ) 
       argument-told : (x : Option Taken) → valueOf area m′ (r .numbers) (r .value) ≡ took x (stateOf m′ (r .numbers))
           → (n : ℕ) (is : List Item) → Items area words p is
           → told (eval mark is (Argument n names b adjacent) (stateOf m p))
-          ≡ told (leafRun (checked (some (one b)) (argumentValue n names b (record { answer = x; state = stateOf m′ (r .numbers) }))) (stateOf m′ (r .numbers)))
-      unfolding eval evalArgument kindOf
+          ≡ told (leafRun (argumentValue n names b x (stateOf m′ (r .numbers))) (stateOf m′ (r .numbers)))
+      unfolding eval evalArgument
       argument-told x h n is t =
           leaf-told (Argument n names b adjacent) (stateOf m p) (takeArg mark is names adjacent (stateOf m p)) (argumentValue n names b) x (stateOf m′ (r .numbers))
           (d .same is t ∙ h)
 
       pub argument-missing : r .value ≡ Missing → q ≡ refusedRan 20 0 (r .numbers)
           → (n : ℕ) → Evaluates mark area words (Argument n names b adjacent) m p m′ q
-      unfolding told leafRun checked argumentValue missed scalarWords if_then_else_
+      unfolding told leafRun argumentValue refuseMissing scalarWords if_then_else_
       argument-missing h eq n =
           let u : State = stateOf m′ (r .numbers) in
           rw eq (record {
             same = λ is t.
                 argument-told none (ap (valueOf area m′ (r .numbers)) h) n is t
-                ∙ ap (λ (o : Outcome Value). told (leafRun (checked (some (one b)) o) u))
-                (named-missing (fault (panic takeArgument679)) n names u shown);
+                ∙ ap (λ (o : Outcome Value). told (leafRun o u)) (named-missing takeArgument679 n names u shown);
             left = d .left;
           })
 
@@ -216,11 +192,9 @@ module _ (mark : ℕ) (area words m : List ℕ) (p : Numbers) (m′ : List ℕ) 
           → (n : ℕ) → Evaluates mark area words (Argument n names b adjacent) m p m′ q
       unfolding argumentValue
       argument-taken i x h w n =
-          let u : State = stateOf m′ (r .numbers) in
           record {
             same = λ is t.
                 argument-told (some (record { place = i; text = partBytes area x })) (ap (valueOf area m′ (r .numbers)) h) n is t
-                ∙ ap (λ (o : Outcome Value). told (leafRun o u)) (parsed-kind i (partBytes area x) u b)
                 ∙ w .same m′;
             left = rw (w .kept) (d .left);
           }
@@ -244,15 +218,15 @@ module _ (mark : ℕ) (area words m : List ℕ) (p : Numbers) (m′ : List ℕ) 
     positional-told : (x : Option Operand) → operandOf area m′ (r .numbers) (r .operand) ≡ took x (stateOf m′ (r .numbers))
         → (n : ℕ) (is : List Item) → Items area words p is
         → told (eval mark is (Positional n at b) (stateOf m p))
-        ≡ told (leafRun (checked (some (one b)) (positionalValue n at b (record { answer = x; state = stateOf m′ (r .numbers) }))) (stateOf m′ (r .numbers)))
-    unfolding eval evalPositional kindOf
+        ≡ told (leafRun (positionalValue n at b x (stateOf m′ (r .numbers))) (stateOf m′ (r .numbers)))
+    unfolding eval evalPositional
     positional-told x h n is t =
         leaf-told (Positional n at b) (stateOf m p) (takePositionalWord mark is (stateOf m p)) (positionalValue n at b) x (stateOf m′ (r .numbers))
         (d .same is t ∙ h)
 
     pub positional-missing : r .operand ≡ Operand·Missing → q ≡ refusedRan 20 0 (r .numbers)
         → (n : ℕ) → Evaluates mark area words (Positional n at b) m p m′ q
-    unfolding told leafRun checked positionalValue missed scalarWords if_then_else_
+    unfolding told leafRun positionalValue refuseMissing scalarWords if_then_else_
     positional-missing h eq n = rw eq (record {
       same = λ is t. positional-told none (ap (operandOf area m′ (r .numbers)) h) n is t;
       left = d .left;
@@ -263,12 +237,10 @@ module _ (mark : ℕ) (area words m : List ℕ) (p : Numbers) (m′ : List ℕ) 
         → (n : ℕ) → Evaluates mark area words (Positional n at b) m p m′ q
     unfolding positionalValue
     positional-taken i s x h w n =
-        let u : State = stateOf m′ (r .numbers) in
         let y : Operand = record { place = i; strict = s; text = partBytes area x } in
         record {
           same = λ is t.
               positional-told (some y) (ap (operandOf area m′ (r .numbers)) h) n is t
-              ∙ ap (λ (o : Outcome Value). told (leafRun o u)) (placed-kind at b y u)
               ∙ w .same m′;
           left = rw (w .kept) (d .left);
         }

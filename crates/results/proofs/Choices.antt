@@ -12,9 +12,9 @@ use borrow.Author.Tests.{eq-eqb, ne-eqb, eqb-true, eqb-false}
 use Rattle.utf8.specs.Utf8.{if_then_else_}
 use Rattle.rules.specs.Outcome.{Outcome, ok, refused, fault, at, orElse305, orElse307, Refusal, isMissing, canCatch, wrongInput, combineWith}
 use Rattle.rules.specs.Calls.{fromRaw}
-use Rattle.rules.specs.Value.{Value, words}
+use Rattle.rules.specs.Value.{Value, absent, words}
 use Rattle.rules.specs.State.{State, Picked, presentAt, pickFrom, pickWinner, conflicts}
-use Rattle.rules.specs.Eval.{Ran as Run, Visit, ended, after, errorOf, valueOf, side, picksFirst, won, chosen, evalChoice}
+use Rattle.rules.specs.Eval.{Ran as Run, Visit, ended, after, valueOf, side, picksFirst, picked, won, chosen, evalChoice}
 use Rattle.rules.specs.declared.Refused.{Refused}
 use Rattle.rules.proofs.Places.{if-elim, Differs, pick-case}
 use Rattle.state.specs.declared.Numbers.{Numbers}
@@ -150,29 +150,27 @@ forgot-refused (refused x) c e =
 forgot-refused (fault x) c e = absurd (let z : _≡_ {A = ℕ} 0 1 = cc in omega arith)
 
 -- a refused side does not win
-refused-first : (e : Refusal) (f : Option Refusal) (s a b : State) (k : Picked) → picksFirst (some e) f s a b ≡ ok k → k .first ≡ true → ⊥
+refused-first : (e : Refusal) (u : Outcome Value) (s a b : State) (k : Picked) → picksFirst s a b (refused e) u ≡ ok k → k .first ≡ true → ⊥
 unfolding picksFirst side if_then_else_
-refused-first e none s a b k h t = go (eqb (s .remaining) (b .remaining) && wrongInput e) h
+refused-first e (ok w) s a b k h t = go (eqb (s .remaining) (b .remaining) && wrongInput e) h
   where
     go : (x : Bool) → (if x then refused e else ok (record { first = false; place = none })) ≡ ok k → ⊥
     go true h = let z : _≡_ {A = ℕ} 0 1 = cc in omega arith
     go false h = let z : record { first = false; place = none } ≡ k = cc in false≢true (ap (λ (x : Picked). x .first) z ∙ t)
-refused-first e (some f) s a b k h t = let z : _≡_ {A = ℕ} 0 1 = cc in omega arith
+refused-first e (refused f) s a b k h t = let z : _≡_ {A = ℕ} 0 1 = cc in omega arith
+refused-first e (fault f) s a b k h t = let z : _≡_ {A = ℕ} 0 1 = cc in omega arith
 
-refused-second : (e : Option Refusal) (f : Refusal) (s a b : State) (k : Picked) → picksFirst e (some f) s a b ≡ ok k → k .first ≡ false → ⊥
+refused-second : (o : Outcome Value) (f : Refusal) (s a b : State) (k : Picked) → picksFirst s a b o (refused f) ≡ ok k → k .first ≡ false → ⊥
 unfolding picksFirst side if_then_else_
-refused-second none f s a b k h t = go (eqb (s .remaining) (a .remaining) && wrongInput f) h
+refused-second (ok v) f s a b k h t = go (eqb (s .remaining) (a .remaining) && wrongInput f) h
   where
     go : (x : Bool) → (if x then refused f else ok (record { first = true; place = none })) ≡ ok k → ⊥
     go true h = let z : _≡_ {A = ℕ} 0 1 = cc in omega arith
     go false h = let z : record { first = true; place = none } ≡ k = cc in false≢true (sym (ap (λ (x : Picked). x .first) z ∙ t))
-refused-second (some e) f s a b k h t = let z : _≡_ {A = ℕ} 0 1 = cc in omega arith
+refused-second (refused e) f s a b k h t = let z : _≡_ {A = ℕ} 0 1 = cc in omega arith
+refused-second (fault e) f s a b k h t = let z : _≡_ {A = ℕ} 0 1 = cc in omega arith
 
 -- a refusal of the choice has a number
-abbrev HasNumber : Option Refusal → Type 0
-HasNumber none = Unit {0}
-HasNumber (some e) = e .number ≡ 0 → ⊥
-
 combine-numbered : (e f : Refusal) → (e .number ≡ 0 → ⊥) → (f .number ≡ 0 → ⊥) → combineWith e f .number ≡ 0 → ⊥
 unfolding combineWith
 combine-numbered e f i j =
@@ -180,43 +178,46 @@ combine-numbered e f i j =
     (λ _. if-elim (λ (x : Refusal). x .number ≡ 0 → ⊥) (isMissing f) _ _ (λ _ z. omega arith) (λ _. j))
     (λ _. if-elim (λ (x : Refusal). x .number ≡ 0 → ⊥) (canCatch e) _ _ (λ _. j) (λ _. i))
 
-picks-numbered : (e f : Option Refusal) (s a b : State) → HasNumber e → HasNumber f → Numbered (picksFirst e f s a b)
+picks-numbered : (o u : Outcome Value) (s a b : State) → Numbered o → Numbered u → Numbered (picksFirst s a b o u)
 unfolding picksFirst side
-picks-numbered none none s a b i j = if-elim (λ (o : Outcome Picked). Numbered o) _ _ _ (λ _. tt) (λ _. tt)
-picks-numbered none (some f) s a b i j = if-elim (λ (o : Outcome Picked). Numbered o) _ _ _ (λ _. j) (λ _. tt)
-picks-numbered (some e) none s a b i j = if-elim (λ (o : Outcome Picked). Numbered o) _ _ _ (λ _. i) (λ _. tt)
-picks-numbered (some e) (some f) s a b i j = combine-numbered e f i j
+picks-numbered (ok v) (ok w) s a b i j = if-elim (λ (o : Outcome Picked). Numbered o) _ _ _ (λ _. tt) (λ _. tt)
+picks-numbered (ok v) (refused f) s a b i j = if-elim (λ (o : Outcome Picked). Numbered o) _ _ _ (λ _. j) (λ _. tt)
+picks-numbered (refused e) (ok w) s a b i j = if-elim (λ (o : Outcome Picked). Numbered o) _ _ _ (λ _. i) (λ _. tt)
+picks-numbered (refused e) (refused f) s a b i j = combine-numbered e f i j
+picks-numbered (fault x) u s a b i j = tt
+picks-numbered (ok v) (fault x) s a b i j = tt
+picks-numbered (refused e) (fault x) s a b i j = tt
 
--- how a side ended, by its number
-endedBy : Refused → Option Refusal
-endedBy x = if eqb (x .number) 0 then none else some (refusalOf x)
+-- how a side ended, by its number; which value it had does not matter here
+endedBy : Refused → Outcome Value
+endedBy x = if eqb (x .number) 0 then ok absent else refused (refusalOf x)
 
-ended-by : (x : Refused) → EndedBy (endedBy x) x × HasNumber (endedBy x)
+ended-by : (x : Refused) → EndedBy (endedBy x) x × Numbered (endedBy x)
 unfolding endedBy refusalOf if_then_else_
 ended-by x = go (eqb (x .number) 0) refl
   where
     go : (b : Bool) → eqb (x .number) 0 ≡ b
-        → EndedBy (if b then none else some (refusalOf x)) x × HasNumber (if b then none else some (refusalOf x))
+        → EndedBy (if b then ok absent else refused (refusalOf x)) x × Numbered {A = Value} (if b then ok absent else refused (refusalOf x))
     go true t = (eqb-true (x .number) 0 t, tt)
     go false t = ((refused-refusal x, eqb-false (x .number) 0 t), eqb-false (x .number) 0 t)
 
 -- what the code's decision says
 abbrev Picks : Refused → Refused → ℕ → ℕ → ℕ → Pick → Type 0
 Picks x y given left-a left-b k =
-    (e f : Option Refusal) (s a b : State)
-    → EndedBy e x
-    → EndedBy f y
+    (o u : Outcome Value) (s a b : State)
+    → EndedBy o x
+    → EndedBy u y
     → s .remaining ≡ given
     → a .remaining ≡ left-a
     → b .remaining ≡ left-b
-    → forgotten (picksFirst e f s a b) ≡ pickBy k a b
+    → forgotten (picksFirst s a b o u) ≡ pickBy k a b
 
 neither-numbered : (x y : Refused) (g l h : ℕ) (c : Refused) → Picks x y g l h (Neither c) → c .number ≡ 0 → ⊥
 unfolding pickBy withRemaining refusedOf
 neither-numbered x y g l h c d z =
     let a = ended-by x in
     let b = ended-by y in
-    let o = picksFirst (endedBy x) (endedBy y) (withRemaining g) (withRemaining l) (withRemaining h) in
+    let o = picksFirst (withRemaining g) (withRemaining l) (withRemaining h) (endedBy x) (endedBy y) in
     let r = forgot-refused o c (d _ _ (withRemaining g) (withRemaining l) (withRemaining h) (a .0) (b .0) refl refl refl) in
     let i : Numbered {A = Picked} (refused (r .0)) = rw (r .1) at (picks-numbered (endedBy x) (endedBy y) (withRemaining g) (withRemaining l) (withRemaining h) (a .1) (b .1)) in
     i (ap (λ (u : Refused). u .number) (r .2) ∙ z)
@@ -233,10 +234,10 @@ module _ (s : State) (A B : Run Value) where
   ]
 
   abbrev picks : Outcome Picked
-  picks = picksFirst (errorOf (A .outcome)) (errorOf (B .outcome)) s (A .state) (B .state)
+  picks = picksFirst s (A .state) (B .state) (A .outcome) (B .outcome)
 
   by-picked : {o : Outcome Picked} → picks ≡ o → told (after A (after B (chosen s A B))) ≡ told (after A (after B (by o)))
-  unfolding chosen by
+  unfolding chosen picked by
   by-picked h = ap (λ (o : Outcome Picked). told (after A (after B (by o)))) h
 
   module _ (k : Picked) (h : picks ≡ ok k) where
@@ -256,8 +257,8 @@ module _ (s : State) (A B : Run Value) where
 
 -- how a side ended
 side-ended : (r : Ran) (m w : List ℕ) (o : Outcome Value) (t : State) (n : ℕ) (l : List Visit) → Numbered o → told (runOf o t n l) ≡ some (toldWith r m w)
-    → EndedBy (errorOf o) (endedOf r)
-unfolding told errorOf refusedOf
+    → EndedBy o (endedOf r)
+unfolding told refusedOf
 side-ended r m w (ok v) t n l i h = sym (value-told r m w t n l v h .number)
 side-ended r m w (refused e) t n l i h =
     let c = refusal-told r m w t n l e h in
@@ -274,46 +275,35 @@ module _ (s : State) (x y : Ran) (m₁ m₂ a b : List ℕ) where
         → told (evalChoice s (runOf o ta na la) (runOf u tb nb lb)) ≡ some T
 
     abbrev decides : Outcome Value → Outcome Value → Outcome Picked
-    decides o u = picksFirst (errorOf o) (errorOf u) s ta tb
+    decides o u = picksFirst s ta tb o u
 
     abbrev one : List ℕ → State → Told
     one w t = record { number = 0; place = 0; tries = x .tries + y .tries; words = w; state = t }
 
-    -- no fault, and the tries of both
+    -- the tries of both
     both-told : (o u : Outcome Value) (T : Told)
         → (na ≡ x .tries → nb ≡ y .tries
         → told (after (runOf o ta na la) (after (runOf u tb nb lb) (chosen s (runOf o ta na la) (runOf u tb nb lb)))) ≡ some T)
         → Tells o u T
     unfolding told evalChoice
-    both-told o u T f p q = go o u (f (left-told x m₁ a ta na la o p .tries) (left-told y m₂ b tb nb lb u q .tries)) p q
-      where
-        go : (o u : Outcome Value)
-            → told (after (runOf o ta na la) (after (runOf u tb nb lb) (chosen s (runOf o ta na la) (runOf u tb nb lb)))) ≡ some T
-            → Tells o u T
-        go (ok v) (ok w) e p q = e
-        go (ok v) (refused r) e p q = e
-        go (ok v) (fault z) e p q = absurd (Option·none-ne-some _ q)
-        go (refused r) (ok w) e p q = e
-        go (refused r) (refused r′) e p q = e
-        go (refused r) (fault z) e p q = absurd (Option·none-ne-some _ q)
-        go (fault z) u e p q = absurd (Option·none-ne-some _ p)
+    both-told o u T f p q = f (left-told x m₁ a ta na la o p .tries) (left-told y m₂ b tb nb lb u q .tries)
 
     first-told : (k : Picked) (o u : Outcome Value) → decides o u ≡ ok k → k .first ≡ true → Tells o u (one a (won ta tb (k .place)))
-    unfolding told errorOf valueOf at after ended
+    unfolding told valueOf at after ended
     first-told k (ok v) u h t p =
         both-told (ok v) u (one a (won ta tb (k .place))) (λ c d.
         by-first s (runOf (ok v) ta na la) (runOf u tb nb lb) k h t
         ∙ told-same refl refl (omega arith) (value-told x m₁ a ta na la v p .words) refl) p
-    first-told k (refused e) u h t p = absurd (refused-first e (errorOf u) s ta tb k h t)
+    first-told k (refused e) u h t p = absurd (refused-first e u s ta tb k h t)
     first-told k (fault z) u h t p = absurd (Option·none-ne-some _ p)
 
     second-told : (k : Picked) (o u : Outcome Value) → decides o u ≡ ok k → k .first ≡ false → Tells o u (one b (won tb ta (k .place)))
-    unfolding told errorOf valueOf at after ended
+    unfolding told valueOf at after ended
     second-told k o (ok w) h t p q =
         both-told o (ok w) (one b (won tb ta (k .place))) (λ c d.
         by-second s (runOf o ta na la) (runOf (ok w) tb nb lb) k h t
         ∙ told-same refl refl (omega arith) (value-told y m₂ b tb nb lb w q .words) refl) p q
-    second-told k o (refused e) h t p q = absurd (refused-second (errorOf o) e s ta tb k h t)
+    second-told k o (refused e) h t p q = absurd (refused-second o e s ta tb k h t)
     second-told k o (fault z) h t p q = absurd (Option·none-ne-some _ q)
 
     abbrev none-of : Refused → Told
@@ -349,7 +339,7 @@ module _ (before : List ℕ) (p : Numbers) (first : List ℕ) (x : Ran) (m : Lis
     decision =
         let e = side-ended x first a (A .outcome) (A .state) (A .tries) (A .trace) i ha in
         let f = side-ended y m b (B .outcome) (B .state) (B .tries) (B .trace) j hb in
-        d (errorOf (A .outcome)) (errorOf (B .outcome)) s (A .state) (B .state) (rw eu e) (rw ev f) refl
+        d (A .outcome) (B .outcome) s (A .state) (B .state) (rw eu e) (rw ev f) refl
         (ap (λ (t : State). t .remaining) left-first) (ap (λ (t : State). t .remaining) left-second)
 
     decided : (q : Picked) → pickBy k (A .state) (B .state) ≡ ok q → picks s A B ≡ ok q

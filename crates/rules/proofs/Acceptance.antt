@@ -17,7 +17,7 @@ use Rattle.rules.specs.Value.{text, number, Kind, BaseValue}
 use Rattle.rules.specs.Form.{Node, Name, Form, readForm, nameBytes, oneCharacter, typeGood, nameGood}
 use Rattle.rules.specs.Tree.{Named, Tree, Flag, Argument, Positional, Optional, Many, Some, Count, Last, Choice, Fallback, Guard, kindOf, hasRepeat, zeros, namesOf, shortOf, longOf, namedBy, namedOf, flagOf, argumentOf, positionOf, positionalOf, fitting, repeatOf, fallbackValue, fallbackOf, guardOf, childOf, caughtOf, choiceOf, treeOf}
 use Rattle.rules.specs.Accept.{Checked, accepted, refusedAt, Accepted, lengthGood, treesFrom, usedOnce, treesAt, checkUse, checkRecords, checkForm}
-use Rattle.rules.specs.Demands.{All, Sound, isNamed, wellBuilt}
+use Rattle.rules.specs.Demands.{All, Sound, isNamed, isRead, wellBuilt}
 use Rattle.rules.specs.WellMade.{Unused}
 
 -- ---- accepted and refused
@@ -138,6 +138,10 @@ All-drop P (suc n) (a ∷ l) h = All-drop P n l (h .1)
 pub All-append : {A : Type 0} (P : A → Type 0) (l m : List A) → All P l → All P m → All P (l ++ m)
 All-append P [] m h g = g
 All-append P (a ∷ l) m h g = (h .0, All-append P l m (h .1) g)
+
+pub All-split : {A : Type 0} (P : A → Type 0) (l m : List A) → All P (l ++ m) → All P l × All P m
+All-split P [] m p = (tt, p)
+All-split P (a ∷ l) m p = let (x, y) = All-split P l m (p .1) in ((p .0, x), y)
 
 pub All-at : {A : Type 0} (P : A → Type 0) (l : List A) (i : ℕ) (a : A) → All P l → getElem? l i ≡ some a → P a
 All-at P [] i a h e = absurd (Option·none-ne-some a e)
@@ -465,12 +469,17 @@ names-named f x l g e =
     let n = names-some f x l e in
     is-named (f .area) l (n .more) (names-good f x l g n) (n .types)
 
+read-if : (b : Bool) → isRead (if b then number else text) ≡ true
+unfolding isRead if_then_else_
+read-if true = refl
+read-if false = refl
+
 module _ (f : Form) (ts : List Tree) (k : ℕ) (x : Node) (good : All (NameGood (f .area)) (f .names)) where
   made-sound : (t : Tree) → ((i : ℕ) (c : Tree) → getElem? ts i ≡ some c → Sound c) → Made f ts k x t → Sound t
   unfolding kindOf isSome wellBuilt
   made-sound t s (flagMade l k r u n) = record { kind = refl; built = names-named f x l good n }
-  made-sound t s (argumentMade l k r u n) = record { kind = refl; built = names-named f x l good n }
-  made-sound t s (positionalMade k p r u) = record { kind = refl; built = refl }
+  made-sound t s (argumentMade l k r u n) = record { kind = refl; built = both (names-named f x l good n) (read-if (leb 2 (x .r))) }
+  made-sound t s (positionalMade k p r u) = record { kind = refl; built = read-if (eqb (x .r) 2) }
   made-sound t s (optionalMade b c k r u h e) = record { kind = e; built = s (x .p) c (h .1) .built }
   made-sound t s (manyMade b c k r u h a e) = record { kind = e; built = rw a (s (x .p) c (h .1) .built) }
   made-sound t s (someMade b c k r u h a e) = record { kind = e; built = rw a (s (x .p) c (h .1) .built) }
@@ -554,19 +563,31 @@ trees-made f below (x ∷ xs) ts e =
       subst (λ (k : ℕ). TreesAt f ts k xs) long (trees-made f (below ++ (t ∷ [])) xs ts g),
     )
 
-pub trees-sound :
-    (f : Form) (below : List Tree) (xs : List Node) (ts : List Tree)
-    → All (NameGood (f .area)) (f .names)
-    → All Sound below
+-- what holds of each node's tree, if it holds of those below it
+pub trees-all :
+    (f : Form) (N : Node → Type 0) (P : Tree → Type 0)
+    → ((below : List Tree) (x : Node) (t : Tree) → N x → All P below → Made f below (length below) x t → P t)
+    → (below : List Tree) (xs : List Node) (ts : List Tree)
+    → All N xs
+    → All P below
     → treesFrom f below xs ≡ accepted ts
-    → All Sound ts
+    → All P ts
 unfolding treesFrom
-trees-sound f below [] ts good s e = subst (All Sound) (accepted-same below ts e) s
-trees-sound f below (x ∷ xs) ts good s e =
+trees-all f N P step below [] ts n s e = subst (All P) (accepted-same below ts e) s
+trees-all f N P step below (x ∷ xs) ts n s e =
     let (t, h, g) = trees-step f below x xs ts e in
     let m = tree-made f below below (inside-same below) x t h in
-    let sound = made-sound f below (length below) x good t (λ i c. All-at Sound below i c s) m in
-    trees-sound f (below ++ (t ∷ [])) xs ts good (All-append Sound below (t ∷ []) s (sound, tt)) g
+    trees-all f N P step (below ++ (t ∷ [])) xs ts (n .1) (All-append P below (t ∷ []) s (step below x t (n .0) s m, tt)) g
+
+all-unit : {A : Type 0} (l : List A) → All (λ (a : A). Unit {0}) l
+all-unit [] = tt
+all-unit (a ∷ l) = (tt, all-unit l)
+
+pub trees-sound : (f : Form) (ts : List Tree) → All (NameGood (f .area)) (f .names) → treesFrom f [] (f .nodes) ≡ accepted ts → All Sound ts
+trees-sound f ts good e =
+    trees-all f (λ x. Unit {0}) Sound
+    (λ below x t n s m. made-sound f below (length below) x good t (λ i c. All-at Sound below i c s) m)
+    [] (f .nodes) ts (all-unit (f .nodes)) tt e
 
 -- ---- the trees of the fields
 pub fields-step :
@@ -579,12 +600,12 @@ fields-step ts k ks us e =
     let (vs, r, s) = bind-some (treesAt ts ks) (λ vs. some (t ∷ vs)) g in
     (t, vs, h, r, Option·some-injective (t ∷ vs) us s)
 
-pub fields-sound : (ts : List Tree) (ks : List ℕ) (us : List Tree) → All Sound ts → treesAt ts ks ≡ some us → All Sound us
+pub fields-all : (P : Tree → Type 0) (ts : List Tree) (ks : List ℕ) (us : List Tree) → All P ts → treesAt ts ks ≡ some us → All P us
 unfolding treesAt
-fields-sound ts [] us s e = subst (All Sound) (Option·some-injective [] us e) tt
-fields-sound ts (k ∷ ks) us s e =
+fields-all P ts [] us s e = subst (All P) (Option·some-injective [] us e) tt
+fields-all P ts (k ∷ ks) us s e =
     let (t, vs, h, r, same) = fields-step ts k ks us e in
-    subst (All Sound) same (All-at Sound ts k t s h, fields-sound ts ks vs s r)
+    subst (All P) same (All-at P ts k t s h, fields-all P ts ks vs s r)
 
 pub fields-length : (ts : List Tree) (ks : List ℕ) (us : List Tree) → treesAt ts ks ≡ some us → length us ≡ length ks
 unfolding treesAt
@@ -657,11 +678,11 @@ module _ (b : List ℕ) (a : Accepted) (e : checkForm b ≡ accepted a) where
   accepted-form = accepted-passed .form
 
   pub accepted-trees-sound : All Sound (a .trees)
-  accepted-trees-sound = let p = accepted-passed in trees-sound (readForm b) [] (readForm b .nodes) (a .trees) (p .names) tt (p .trees)
+  accepted-trees-sound = let p = accepted-passed in trees-sound (readForm b) (a .trees) (p .names) (p .trees)
 
   -- every field's tree is sound
   pub accepted-sound : All Sound (a .fields)
-  accepted-sound = fields-sound (a .trees) (readForm b .fields) (a .fields) accepted-trees-sound (accepted-passed .fields)
+  accepted-sound = fields-all Sound (a .trees) (readForm b .fields) (a .fields) accepted-trees-sound (accepted-passed .fields)
 
   pub accepted-fields : length (a .fields) ≡ length (a .form .fields)
   accepted-fields =

@@ -24,6 +24,7 @@ use Rattle.rules.specs.Answered.{Ready, InputNumber, Demand1}
 use Rattle.rules.proofs.Acceptance.{accepted-form, accepted-fields}
 use Rattle.rules.proofs.WellMadeLaws.{well-made, refused-not-made, check-numbers}
 use Rattle.rules.proofs.SplitLaws.{some≢none, ok-injective, LineGood, split-line, line-law, line-refusal}
+use Rattle.rules.proofs.EvalSound.{Any}
 use Rattle.rules.proofs.Fields.{RunsAll}
 use Rattle.rules.proofs.Demand3Holds.{line-good, line-runs}
 
@@ -154,8 +155,8 @@ module _ (b s : List ℕ) (ni na : ℕ) (a : Accepted) (form : checkForm b ≡ a
         unrefused = u;
       }
 
-      runs : RunsAll (length (l .items)) (a .fields) (l .state) (runLine (a .fields) l)
-      runs = line-runs b s a l form splits u
+      runs : RunsAll Any (length (l .items)) (a .fields) (l .state) (runLine (a .fields) l)
+      runs = line-runs b s a form l splits u
 
       few-items : length (l .items) ≤ 256
       few-items = line-good a s l splits u .few

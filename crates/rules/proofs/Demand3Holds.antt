@@ -4,51 +4,89 @@ use mathlib.Core.List.{List, [], _∷_}
 use mathlib.Core.Logic.{⊎-elim}
 use mathlib.Core.Option.{none}
 use mathlib.Core.Path.{_≡_, refl, sym, ap, _∙_}
-use Prim.Native.Nat.{ℕ}
+use Prim.Native.Nat.{ℕ, _≤_}
+use borrow.Author.Tests.{le-ltb}
 use lib.ListN.{length}
 use Rattle.utf8.specs.Utf8.{if_then_else_}
 use Rattle.rules.specs.Outcome.{ok, _>>=_}
 use Rattle.rules.specs.Sheet.{sheetFault, arguments}
 use Rattle.rules.specs.Accept.{Accepted, accepted, checkForm}
-use Rattle.rules.specs.State.{State, parsed}
-use Rattle.rules.specs.Eval.{statesOf}
+use Rattle.rules.specs.Value.{BaseValue}
+use Rattle.rules.specs.State.{parsed}
+use Rattle.rules.specs.Eval.{Visit, statesOf}
 use Rattle.rules.specs.Run.{Line, split, runLine, tooMany, parsedMark, shortSlices, report, runChecked, run}
-use Rattle.rules.specs.Demands.{All, Counted, Good, Demand3}
+use Rattle.rules.specs.Demands.{All, Counted, Bytes, Means, Faultless, WholeRun, Demand3}
 use Rattle.rules.proofs.Acceptance.{accepted-sound}
 use Rattle.rules.proofs.Uses.{leaves-law}
-use Rattle.rules.proofs.SplitLaws.{some≢none, LineGood, line-law}
-use Rattle.rules.proofs.Fields.{RunsAll, all-sound}
+use Rattle.rules.proofs.SplitLaws.{some≢none, LineGood, line-law, split-line}
+use Rattle.rules.proofs.Steps.{Visited}
+use Rattle.rules.proofs.Went.{all-weaker}
+use Rattle.rules.proofs.EvalSound.{Any}
+use Rattle.rules.proofs.Fields.{RunsAll, all-sound, all-means}
+use Rattle.rules.proofs.Meanings.{line-meaning, accepted-mean}
+use Rattle.rules.proofs.WordsFix.{words-fix}
 
-all-counted : (n : ℕ) (l : List State) → All (Good n) l → All Counted l
-all-counted n [] h = tt
-all-counted n (s ∷ l) h = (h .0 .counted, all-counted n l (h .1))
+-- what the visits of a trace say of its states, and of each evaluation
+visits-counted : (M : BaseValue → Type 0) (n : ℕ) (l : List Visit) → All (Visited M n) l → All Counted (statesOf l)
+unfolding statesOf
+visits-counted M n [] h = tt
+visits-counted M n (v ∷ l) h = (h .0 .given .counted, (h .0 .left .counted, visits-counted M n l (h .1)))
+
+visits-faultless : (M : BaseValue → Type 0) (n : ℕ) (l : List Visit) → All (Visited M n) l → All (λ (v : Visit). Faultless M (v .kind) (v .outcome)) l
+visits-faultless M n l h = all-weaker (Visited M n) _ l (λ v x. x .faultless) h
 
 -- a line that splitting does not refuse is good
 pub line-good : (a : Accepted) (s : List ℕ) (l : Line) → split (a .form) s ≡ ok l → l .refusal ≡ none → LineGood (arguments s) l
 unfolding tooMany
 line-good a s l e u = ⊎-elim (λ (t : l ≡ tooMany). absurd (some≢none (sym (ap (λ (x : Line). x .refusal) t) ∙ u))) (λ g. g) (line-law (a .form) s l e)
 
-module _ (b s : List ℕ) (a : Accepted) (l : Line) (form : checkForm b ≡ accepted a) (splits : split (a .form) s ≡ ok l) (unrefused : l .refusal ≡ none) where
-  -- the run of all fields on the items of the line
-  pub line-runs : RunsAll (length (l .items)) (a .fields) (l .state) (runLine (a .fields) l)
-  unfolding runLine parsedMark parsed
-  line-runs = rw unrefused (all-sound 1 refl (l .items) (a .fields) (accepted-sound b a form) (l .state) (line-good a s l splits unrefused .good))
+module _ (b s : List ℕ) (a : Accepted) (form : checkForm b ≡ accepted a) where
+  module _ (l : Line) (splits : split (a .form) s ≡ ok l) (unrefused : l .refusal ≡ none) where
+    -- the run of all fields on the items of the line, whatever base values mean and under what they mean
+    pub line-runs : RunsAll Any (length (l .items)) (a .fields) (l .state) (runLine (a .fields) l)
+    unfolding runLine parsedMark parsed
+    line-runs = rw unrefused (all-sound 1 refl (l .items) (a .fields) (accepted-sound b a form) (l .state) (line-good a s l splits unrefused .good))
 
-  pub demand3 : Demand3 a s l
-  demand3 =
-      let g = line-good a s l splits unrefused in
-      record {
-        ends = line-runs .ends;
-        counted = all-counted (length (l .items)) (statesOf (runLine (a .fields) l .trace)) (line-runs .passed);
-        remaining = g .remaining unrefused;
-        tries = rw (← g .remaining unrefused, ← leaves-law b a form) (line-runs .cost);
-      }
+    abbrev M : BaseValue → Type 0
+    M = Means (l .items) (a .form .names)
 
-  -- what is reported is this run's
-  checked-run : (ni na : ℕ) → sheetFault s ≡ 0 → shortSlices ni na ≡ false → runChecked ni na s a ≡ report ni na l (runLine (a .fields) l)
-  unfolding runChecked if_then_else_ _>>=_
-  checked-run ni na sheet slices = rw (sheet, slices, splits)
+    few : length (l .items) ≤ 256
+    few = line-good a s l splits unrefused .few
 
-  pub reported : (ni na : ℕ) → sheetFault s ≡ 0 → shortSlices ni na ≡ false → run b s ni na ≡ report ni na l (runLine (a .fields) l)
-  unfolding run
-  reported ni na sheet slices = rw (form, run) (checked-run ni na sheet slices)
+    line-means : Bytes b → RunsAll M (length (l .items)) (a .fields) (l .state) (runLine (a .fields) l)
+    unfolding runLine parsedMark parsed
+    line-means bytes =
+        let means = line-meaning (l .items) (a .form .names) few in
+        let sound = accepted-sound b a form in
+        let fallbacks = accepted-mean (l .items) b a bytes form in
+        rw unrefused (all-means 1 refl (l .items) M means (a .fields) sound fallbacks (l .state) (line-good a s l splits unrefused .good))
+
+    -- what is reported is this run's
+    checked-run : (ni na : ℕ) → sheetFault s ≡ 0 → shortSlices ni na ≡ false → runChecked ni na s a ≡ report ni na l (runLine (a .fields) l)
+    unfolding runChecked if_then_else_ _>>=_
+    checked-run ni na sheet slices = rw (sheet, slices, splits)
+
+    run-reported : (ni na : ℕ) → sheetFault s ≡ 0 → 1792 ≤ ni → 8240 ≤ na → run b s ni na ≡ report ni na l (runLine (a .fields) l)
+    unfolding run shortSlices
+    run-reported ni na sheet i o = rw (form, run) (checked-run ni na sheet (rw (le-ltb ni 1792 i, le-ltb na 8240 o)))
+
+    pub whole-run : Bytes b → sheetFault s ≡ 0 → WholeRun M b s a l
+    whole-run bytes sheet =
+        let r = line-means bytes in
+        let trace : List Visit = runLine (a .fields) l .trace in
+        let left = line-good a s l splits unrefused .remaining unrefused in
+        record {
+          faultless = visits-faultless M (length (l .items)) trace (r .passed);
+          ends = r .ends;
+          counted = visits-counted M (length (l .items)) trace (r .passed);
+          remaining = left;
+          tries = rw (← left, ← leaves-law b a form) (r .cost);
+          reported = λ ni na i o. run-reported ni na sheet i o;
+          values = words-fix (l .items) (a .form .names) few (a .fields);
+        }
+
+  -- F is any form of bytes that the form check accepts, S any sheet
+  pub demand3 : Bytes b → sheetFault s ≡ 0 → Demand3 b s a
+  demand3 bytes sheet =
+      let (l, splits) = split-line (a .form) s in
+      record { line = l; splits = splits; whole = λ unrefused. whole-run l splits unrefused bytes sheet }

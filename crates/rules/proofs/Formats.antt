@@ -20,7 +20,7 @@ use Rattle.rules.specs.Form.{Node, Name, Form, readNode, readName, readF
 use Rattle.rules.specs.Form.{nodeCount, fieldCount, nameCount, areaLength, countsGood, nodesAt, namesAt, areaAt, formLength}
 use Rattle.rules.specs.Accept.{lengthGood}
 use Rattle.rules.specs.Encode.{bytesOf, wordsOf, offsetsFrom, encodeSheet, encodeNode, encodeName, encodeForm}
-use Rattle.rules.specs.Demands.{All}
+use Rattle.rules.specs.Demands.{All, Bytes}
 use Rattle.rules.proofs.Places.{left, right}
 
 -- ---- numbers
@@ -37,10 +37,6 @@ le-bytes zero n h = let z : n < 1 = h in omega arith
 le-bytes (suc w) n h =
     let small : n / 256 < 256 ^ w = omega (arith, pow-succ' 256 w) in
     omega (arith, le-bytes w (n / 256) small)
-
--- every byte is below 256
-abbrev pub Bytes : List ℕ → Type 0
-Bytes b = (k : ℕ) → getD b k 0 < 256
 
 -- bytes are those of the number that is read from them
 pub bytes-le : (w : ℕ) (b : List ℕ) → Bytes b → w ≤ length b → bytesOf w (le (take w b)) ≡ take w b

@@ -9,10 +9,10 @@ use lib.ListN.{length}
 use borrow.Author.Tests.{eqb-true, eq-eqb}
 use Rattle.utf8.specs.Utf8.{if_then_else_}
 use Rattle.rules.specs.Base.{isSome, _>>?_}
-use Rattle.rules.specs.Value.{Base, yesNo, text, number, Kind, one, optional, list, listOfOptional, optionalList, BaseValue, isNumber, Value, base, absent, present, listOf, baseNumber, sameBase, baseOf, isBase, isOptional, isList, hasKind, size}
+use Rattle.rules.specs.Value.{Base, yesNo, text, number, Kind, one, optional, list, listOfOptional, optionalList, BaseValue, isNumber, Value, base, absent, present, listOf, baseNumber, sameBase, baseOf, isBase, isOptional, isList, hasKind, size, ofKind, basesOf}
 use Rattle.rules.specs.Tree.{optionalKind, listKind, countKind, lastKind, shapeOf, innerBase, sameKind, choiceKind, baseKind}
-use Rattle.rules.specs.Eval.{ofKind}
 use Rattle.rules.specs.Demands.{All}
+use Rattle.rules.proofs.Acceptance.{All-append}
 use Rattle.rules.proofs.Steps.{inner}
 
 pub bound-some : {A B : Type 0} (x : Option A) (f : A → Option B) → isSome (x >>? f) ≡ true → isSome x ≡ true
@@ -151,6 +151,12 @@ base-kind b (some k) e = go (sameKind (one b) k) refl e
         → (_≡_ {A = Option Kind} (if t then some k else none) (some k)) × (_≡_ {A = Option Kind} (some k) (some (one b)))
     go true h e = (refl, ap some (sym (same-kind (one b) k h)))
     go false h e = absurd (false≢true e)
+
+-- ---- what the elements of a list mean
+pub list-bases : (M : BaseValue → Type 0) (vs : List Value) → All (λ v. All M (basesOf v)) vs → All M (basesOf (listOf vs))
+unfolding basesOf listOf
+list-bases M [] h = tt
+list-bases M (v ∷ vs) h = All-append M (basesOf v) (basesOf (listOf vs)) (h .0) (list-bases M vs (h .1))
 
 -- ---- sizes of lists
 pub size-list : (vs : List Value) → size (listOf vs) ≡ length vs

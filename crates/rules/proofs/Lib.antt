@@ -16,6 +16,7 @@ pub mod EvalSound
 pub mod ThenLaws
 pub mod ValueWords
 pub mod Fields
+pub mod WordsFix
 -- Splitting and formats
 pub mod SplitLaws
 pub mod Formats
@@ -23,6 +24,7 @@ pub mod Formats
 pub mod Acceptance
 pub mod Uses
 pub mod WellMadeLaws
+pub mod Meanings
 -- Single calls
 pub mod CallsAnswer
 -- The demands

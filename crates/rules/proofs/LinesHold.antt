@@ -10,7 +10,7 @@ use Rattle.rules.specs.Base.{null, all, contains, same, occurrences, num
 use Rattle.rules.specs.Base.{sliceFrom, slice}
 use Rattle.rules.specs.Outcome.{_>>=_, at, refuse, refuseAt, isMissing, canCatch, wrongInput, combineWith}
 use Rattle.rules.specs.Value.{listOf, baseNumber, sameBase, baseOf, isBase, isOptional, isList, hasKind, word, size, answerWords, words}
-use Rattle.rules.specs.Value.{elements}
+use Rattle.rules.specs.Value.{elements, ofKind, basesOf}
 use Rattle.rules.specs.Sheet.{argumentCount, sheetArea, sheetGood, sheetFault, arguments}
 use Rattle.rules.specs.Form.{nodeCount, fieldCount, nameCount, areaLength, countsGood, nodesAt, namesAt, areaAt, formLength, formEnd}
 use Rattle.rules.specs.Form.{readNode, readName, readForm, nameBytes, oneCharacter, typeGood, nameGood, isLetter, portableName, portable}
@@ -29,15 +29,15 @@ use Rattle.rules.specs.State.{countPresent, setScope, untilPresent, prop
 use Rattle.rules.specs.State.{matchLong, position, sameName, before, onlyOnce, markGood, currentGood, stateGood}
 use Rattle.rules.specs.Take.{took, containsName, matchesArg, takeFlag, valueText, takeValue, takeArg, isOperand, isPosWord, textOf}
 use Rattle.rules.specs.Take.{operand, takePositionalWord, commandText, isCommand, takeCommand, takeCmd}
-use Rattle.rules.specs.Eval.{ended, after, _then_, ofKind, checked, visit, statesOf, tried, missed, shownName, missing, answer, flagValue}
-use Rattle.rules.specs.Eval.{evalFlag, isDigit, digits, unsigned, numberOf, parsedText, failedAt, parseText, argumentValue, evalArgument}
+use Rattle.rules.specs.Eval.{ended, after, _then_, visit, statesOf, leaf, refuseMissing, shownName, notFound, flagValue}
+use Rattle.rules.specs.Eval.{evalFlag, isDigit, digits, unsigned, numberOf, failedAt, parseText, argumentValue, evalArgument}
 use Rattle.rules.specs.Eval.{wrongPosition, placedValue, positionalValue, evalPositional, fewer, swallowed, parseOption, evalOptional}
-use Rattle.rules.specs.Eval.{idle, repeat, repeated, evalMany, evalSome, evalCount, lastOf, evalLast, errorOf, valueOf, side, picksFirst}
+use Rattle.rules.specs.Eval.{idle, repeat, repeated, evalMany, evalSome, evalCount, lastOf, evalLast, valueOf, side, picksFirst, picked}
 use Rattle.rules.specs.Eval.{won, chosen, evalChoice, evalFallback, guarded, evalGuard, eval}
 use Rattle.rules.specs.Run.{parsedMark, tooMany, ambiguity, lineOf, split, runFields, leftOver, runAll, runLine, padded, refusedInput}
 use Rattle.rules.specs.Run.{reportWith, report, shortSlices, runChecked, run}
 use Rattle.rules.specs.Lines.{letters, countSwitch, countFlag, manyOptional, vOrQ, guardedFallback, allKinds, reported, entries}
 
 pub lines : map (λ e. run (e .form) (e .sheet) 1792 8240) entries ≡ map (λ e. ok (reported e)) entries
-unfolding xor flatten if_then_else_ table holds fits leadBits continued scalar decodeBy decode decodeAt wellFormedAfter wellFormed le numberAt offset areaStart area neverFall tableGood entryOf null all contains same occurrences numbers concatMap firstFault isSome _>>?_ minus write sliceFrom slice _>>=_ at refuse refuseAt isMissing canCatch wrongInput combineWith listOf baseNumber sameBase baseOf isBase isOptional isList hasKind word size answerWords words elements argumentCount sheetArea sheetGood sheetFault arguments nodeCount fieldCount nameCount areaLength countsGood nodesAt namesAt areaAt formLength formEnd readNode readName readForm nameBytes oneCharacter typeGood nameGood isLetter portableName portable optionalKind listKind countKind lastKind shapeOf innerBase sameKind choiceKind baseKind kindOf hasRepeat zeros namesOf shortOf longOf namedBy namedOf flagOf argumentOf positionOf positionalOf fitting repeatOf fallbackValue fallbackOf guardOf childOf caughtOf choiceOf treeOf lengthGood treesFrom childrenOf uses usedOnce treesAt checkUse checkRecords checkForm namedAt lettersFrom lettersOf leafCount dash equals beforeEquals behindEquals parts splitLong splitShort behindDash splitOsArgument clusterFrom pickLetter lookUp disambiguateShort flagItems argumentItems clusterItems ambiguousAt plain clusterGroup shortGroup longGroup partsGroup wordGroup splitArgument positionals joined splitFrom itemsOf bit partWords textWords itemRecord recordsFrom parsed present winner construct emptyState inScope presentAt presentFrom unused get findIn find first used remove withCurrent pickFrom pickWinner conflicts saveConflicts conflictAt conflict countPresent setScope untilPresent proposed adjacentScope span adjacentlyAvailableFrom matchShort matchLong position sameName before onlyOnce markGood currentGood stateGood took containsName matchesArg takeFlag valueText takeValue takeArg isOperand isPosWord textOf operand takePositionalWord commandText isCommand takeCommand takeCmd ended after _then_ ofKind checked visit statesOf tried missed shownName missing answer flagValue evalFlag isDigit digits unsigned numberOf parsedText failedAt parseText argumentValue evalArgument wrongPosition placedValue positionalValue evalPositional fewer swallowed parseOption evalOptional idle repeat repeated evalMany evalSome evalCount lastOf evalLast errorOf valueOf side picksFirst won chosen evalChoice evalFallback guarded evalGuard eval parsedMark tooMany ambiguity lineOf split runFields leftOver runAll runLine padded refusedInput reportWith report shortSlices runChecked run letters countSwitch countFlag manyOptional vOrQ guardedFallback allKinds reported entries
+unfolding xor flatten if_then_else_ table holds fits leadBits continued scalar decodeBy decode decodeAt wellFormedAfter wellFormed le numberAt offset areaStart area neverFall tableGood entryOf null all contains same occurrences numbers concatMap firstFault isSome _>>?_ minus write sliceFrom slice _>>=_ at refuse refuseAt isMissing canCatch wrongInput combineWith listOf baseNumber sameBase baseOf isBase isOptional isList hasKind ofKind basesOf word size answerWords words elements argumentCount sheetArea sheetGood sheetFault arguments nodeCount fieldCount nameCount areaLength countsGood nodesAt namesAt areaAt formLength formEnd readNode readName readForm nameBytes oneCharacter typeGood nameGood isLetter portableName portable optionalKind listKind countKind lastKind shapeOf innerBase sameKind choiceKind baseKind kindOf hasRepeat zeros namesOf shortOf longOf namedBy namedOf flagOf argumentOf positionOf positionalOf fitting repeatOf fallbackValue fallbackOf guardOf childOf caughtOf choiceOf treeOf lengthGood treesFrom childrenOf uses usedOnce treesAt checkUse checkRecords checkForm namedAt lettersFrom lettersOf leafCount dash equals beforeEquals behindEquals parts splitLong splitShort behindDash splitOsArgument clusterFrom pickLetter lookUp disambiguateShort flagItems argumentItems clusterItems ambiguousAt plain clusterGroup shortGroup longGroup partsGroup wordGroup splitArgument positionals joined splitFrom itemsOf bit partWords textWords itemRecord recordsFrom parsed present winner construct emptyState inScope presentAt presentFrom unused get findIn find first used remove withCurrent pickFrom pickWinner conflicts saveConflicts conflictAt conflict countPresent setScope untilPresent proposed adjacentScope span adjacentlyAvailableFrom matchShort matchLong position sameName before onlyOnce markGood currentGood stateGood took containsName matchesArg takeFlag valueText takeValue takeArg isOperand isPosWord textOf operand takePositionalWord commandText isCommand takeCommand takeCmd ended after _then_ visit statesOf leaf refuseMissing shownName notFound flagValue evalFlag isDigit digits unsigned numberOf failedAt parseText argumentValue evalArgument wrongPosition placedValue positionalValue evalPositional fewer swallowed parseOption evalOptional idle repeat repeated evalMany evalSome evalCount lastOf evalLast valueOf side picksFirst picked won chosen evalChoice evalFallback guarded evalGuard eval parsedMark tooMany ambiguity lineOf split runFields leftOver runAll runLine padded refusedInput reportWith report shortSlices runChecked run letters countSwitch countFlag manyOptional vOrQ guardedFallback allKinds reported entries
 lines = refl

@@ -1,79 +1,86 @@
 -- Every kind of node but repeats and choices: from what holds of its child's run to what holds of its own.
-use mathlib.Core.Bool.{Bool, true, false, _&&_, false≢true}
+use mathlib.Core.Bool.{Bool, true, false, not, _&&_, false≢true}
 use mathlib.Core.List.{List, [], _∷_}
 use mathlib.Core.Logic.{⊎-elim}
-use mathlib.Core.Option.{Option, some, none}
-use mathlib.Core.Path.{_≡_, refl}
+use mathlib.Core.Option.{Option, some, none, Option·some-injective, Option·none-ne-some}
+use mathlib.Core.Path.{_≡_, refl, subst}
 use Prim.Native.Nat.{ℕ, _+_, _≤_}
 use native.Mathlib.Nat.{le-trans}
 use native.Mathlib.Omega.{arith}
-use lib.Dec.{leb}
+use lib.Dec.{leb, eqb}
+use borrow.Author.Tests.{leb-true}
 use lib.ListN.{length}
 use Rattle.utf8.specs.Utf8.{if_then_else_}
-use Rattle.rules.specs.Base.{isSome, null, _>>?_}
-use Rattle.rules.specs.Outcome.{Outcome, ok, refused, fault, panic, parseFlag559, takeArgument679, _>>=_, at, refuseAt, canCatch}
-use Rattle.rules.specs.Value.{Base, yesNo, text, number, Kind, one, BaseValue, isYes, isText, isNumber, Value, base, absent, present, nil, cons, baseNumber, sameBase, baseOf, isBase, hasKind, size}
+use Rattle.rules.specs.Base.{isSome, null, all, _>>?_}
+use Rattle.rules.specs.Outcome.{Spot, Outcome, ok, refused, fault, parseFlag559, takeArgument679, _>>=_, at, refuseAt, canCatch}
+use Rattle.rules.specs.Value.{Base, yesNo, text, number, Kind, one, item, BaseValue, isYes, isText, isNumber, Value, base, absent, present, nil, cons, baseNumber, sameBase, baseOf, isBase, hasKind, size, ofKind, basesOf}
 use Rattle.rules.specs.Tree.{Named, Position, unrestricted, strict, nonStrict, Tree, Flag, Argument, Positional, Optional, Fallback, Guard, kindOf, hasRepeat, optionalKind, baseKind}
 use Rattle.rules.specs.Split.{Item}
 use Rattle.rules.specs.State.{State, parsed}
 use Rattle.rules.specs.Take.{Took, Taken, Operand}
-use Rattle.rules.specs.Eval.{Ran, ended, after, _then_, ofKind, checked, visit, statesOf, tried, missed, shownName, missing, answer, flagValue, evalFlag, numberOf, parsedText, failedAt, parseText, argumentValue, evalArgument, wrongPosition, placedValue, positionalValue, evalPositional, fewer, swallowed, parseOption, evalOptional, evalFallback, guarded, evalGuard}
-use Rattle.rules.specs.Demands.{Good, leaves, isNamed}
-use Rattle.rules.proofs.Steps.{Step, inner, EndsOne, most, Runs}
-use Rattle.rules.proofs.StepLaws.{step-refl, flag-takes, arg-takes, positional-takes}
-use Rattle.rules.proofs.Went.{if-holds, states-append, Fine, Went, after-ended, then-ended}
+use Rattle.rules.specs.Eval.{Ran, ended, after, _then_, visit, leaf, refuseMissing, shownName, notFound, flagValue, evalFlag, unsigned, numberOf, digits, isDigit, failedAt, parseText, argumentValue, evalArgument, wrongPosition, placedValue, positionalValue, evalPositional, fewer, swallowed, parseOption, evalOptional, evalFallback, guarded, evalGuard}
+use Rattle.rules.specs.Demands.{All, Good, leaves, isNamed, isRead, Faultless}
+use Rattle.rules.proofs.Acceptance.{All-append, if-some, and-true}
+use Rattle.rules.proofs.Steps.{Step, inner, EndsOne, most, Visited, Runs}
+use Rattle.rules.proofs.StepLaws.{step-refl, TextAt, TakenAt, OperandAt, flag-takes, arg-takes, positional-takes}
+use Rattle.rules.proofs.Went.{if-holds, Fine, Went, after-ended, then-ended}
 use Rattle.rules.proofs.KindLaws.{absent-kind, present-kind, base-kind, base-own}
 
--- ---- a value of a kind, with lists of at most m elements
-abbrev pub Fits : ℕ → Option Kind → Value → Type 0
-Fits m k v = (ofKind k v ≡ true) × (size v ≤ m) × (size (inner v) ≤ m)
+-- ---- a value of a kind, with lists of at most m elements, where M is what base values mean
+abbrev pub Fits : (BaseValue → Type 0) → ℕ → Option Kind → Value → Type 0
+Fits M m k v = (ofKind k v ≡ true) × (size v ≤ m) × (size (inner v) ≤ m) × All M (basesOf v)
 
-pub fits-more : (m l : ℕ) (k : Option Kind) → m ≤ l → (v : Value) → Fits m k v → Fits l k v
-fits-more m l k e v f = (f .0, le-trans (f .1) e, le-trans (f .2) e)
+pub fits-more : (M : BaseValue → Type 0) (m l : ℕ) (k : Option Kind) → m ≤ l → (v : Value) → Fits M m k v → Fits M l k v
+fits-more M m l k e v f = (f .0, le-trans (f .1) e, le-trans (f .2) e, f .3)
 
-pub ends-fine : (m : ℕ) (k : Option Kind) (o : Outcome Value) → EndsOne m k o → Fine 26 (Fits m k) o
-ends-fine m k (ok v) e = e
-ends-fine m k (refused x) e = e
-ends-fine m k (fault x) e = e
+-- an evaluation of a node
+pub record Evaluated (M : BaseValue → Type 0) (n : ℕ) (t : Tree) (s : State) (r : Ran Value) : Type 0 where
+  pub went : Went M n 26 (Fits M (s .remaining + 1) (kindOf t)) s (most t (s .remaining)) r
 
-pub fine-ends : (m : ℕ) (k : Option Kind) (o : Outcome Value) → Fine 26 (Fits m k) o → EndsOne m k o
-fine-ends m k (ok v) e = e
-fine-ends m k (refused x) e = e
-fine-ends m k (fault x) e = e
+-- what base values mean holds of yes and no, of what is read from items, and of the lengths of lists
+pub record Meaning (is : List Item) (M : BaseValue → Type 0) : Type 0 where
+  pub yes : (b : Bool) → M (isYes b)
+  pub read : (n : ℕ) → n ≤ 4294967295 → M (isNumber n)
+  pub count : (n : ℕ) → n ≤ length is + 1 → M (isNumber n)
+  pub text : (i : ℕ) → TextAt is i → M (isText (item i))
 
-module _ {n : ℕ} {t : Tree} {s : State} {r : Ran Value} where
-  pub runs-went : Runs n t s r → Went n 26 (Fits (s .remaining + 1) (kindOf t)) s (most t (s .remaining)) r
-  runs-went w = record { step = w .step; ends = ends-fine _ _ (r .outcome) (w .ends); passed = w .passed; cost = w .cost }
+-- ---- the records that do not speak of what values mean
+pub fine-ends : (M : BaseValue → Type 0) (m : ℕ) (k : Option Kind) (o : Outcome Value) → Fine 26 (Fits M m k) o → EndsOne m k o
+fine-ends M m k (ok v) e = (e .0, e .1, e .2)
+fine-ends M m k (refused x) e = e
+fine-ends M m k (fault x) e = e
 
-  pub went-runs : Went n 26 (Fits (s .remaining + 1) (kindOf t)) s (most t (s .remaining)) r → Runs n t s r
-  went-runs w = record { step = w .step; ends = fine-ends _ _ (r .outcome) (w .ends); passed = w .passed; cost = w .cost }
+pub went-runs : {M : BaseValue → Type 0} {n : ℕ} {t : Tree} {s : State} {r : Ran Value} → Evaluated M n t s r → Runs n t s r
+went-runs {M} {r} w = let x = w .went in record { step = x .step; ends = fine-ends M _ _ (r .outcome) (x .ends); cost = x .cost }
 
--- ---- every evaluation: the value is of the kind already
-pub checked-same : (m : ℕ) (k : Option Kind) (o : Outcome Value) → Fine 26 (Fits m k) o → checked k o ≡ o
-unfolding checked if_then_else_
-checked-same m k (ok v) f = rw (f .0)
-checked-same m k (refused e) f = refl
-checked-same m k (fault x) f = refl
+-- ---- every evaluation is kept in the trace
+fine-faultless : (M : BaseValue → Type 0) (m : ℕ) (k : Option Kind) (o : Outcome Value) → Fine 26 (Fits M m k) o → Faultless M k o
+fine-faultless M m k (ok v) e = (e .0, e .3)
+fine-faultless M m k (refused x) e = tt
+fine-faultless M m k (fault x) e = e
 
-pub visit-sound : {n : ℕ} (t : Tree) {s : State} {r : Ran Value} → Good n s → Runs n t s r → Runs n t s (visit t s r)
-unfolding visit statesOf
-visit-sound {n} t {s} {r} g w =
-    record {
+pub visit-sound : {M : BaseValue → Type 0} {n : ℕ} (t : Tree) {s : State} {r : Ran Value} → Good n s → Evaluated M n t s r → Evaluated M n t s (visit t s r)
+unfolding visit
+visit-sound {M} {n} t {s} {r} g e =
+    let w = e .went in
+    let end = fine-faultless M (s .remaining + 1) (kindOf t) (r .outcome) (w .ends) in
+    record { went = record {
       step = w .step;
-      ends = rw (checked-same (s .remaining + 1) (kindOf t) (r .outcome) (ends-fine _ _ (r .outcome) (w .ends))) (w .ends);
-      passed = states-append (Good n) (r .trace) (record { given = s; left = r .state } ∷ []) (w .passed) (g, (w .step .good, tt));
+      ends = w .ends;
+      passed = All-append (Visited M n) (r .trace) _ (w .passed) (record { given = g; left = w .step .good; faultless = end }, tt);
       cost = w .cost;
-    }
+    } }
 
 -- ---- kinds 1 to 3
-pub tried-went :
-    {A : Type 0} {n : ℕ} {P : Value → Type 0} {s : State} {o : Outcome (Took A)} {t : Took A} (f : Took A → Outcome Value)
+pub leaf-went :
+    {A : Type 0} {M : BaseValue → Type 0} {n : ℕ} {P : Value → Type 0} {s : State} {o : Outcome (Took A)} {t : Took A}
+    (follows : A → State → Outcome Value)
     → o ≡ ok t
     → Step n s (t .state)
-    → Fine 26 P (f t)
-    → Went n 26 P s 1 (tried s (o >>= λ t. answer (t .state) (f t)))
-unfolding tried _>>=_ answer statesOf
-tried-went f e u p = rw e (record { step = u; ends = p; passed = tt; cost = omega arith })
+    → Fine 26 P (follows (t .answer) (t .state))
+    → Went M n 26 P s 1 (leaf s o follows)
+unfolding leaf
+leaf-went follows e u p = rw e (record { step = u; ends = p; passed = tt; cost = omega arith })
 
 pub named-shown : (m : Named) → isNamed m ≡ true → shownName m ≡ ok true
 unfolding isNamed shownName null at _>>=_ if_then_else_
@@ -88,114 +95,143 @@ named-shown m h = go (m .shorts) (m .longs) h
     go (x ∷ a) [] h = refl
     go (x ∷ a) (y ∷ b) h = refl
 
-module _ (m : ℕ) where
-  missing-fine :
-      (k : Option Kind) (unnamed : Outcome Value) (n : ℕ) (names : Named) (s : State)
+-- a number that is read is below 2^32
+unsigned-small : (s : List ℕ) (n : ℕ) → unsigned s ≡ some n → n ≤ 4294967295
+unfolding unsigned
+unsigned-small s n e =
+    let p = if-some (not (null s) && all isDigit s && leb (digits 0 s) 4294967295) (some (digits 0 s)) e in
+    let q = and-true (not (null s) && all isDigit s) (leb (digits 0 s) 4294967295) (p .0) in
+    subst (λ (k : ℕ). k ≤ 4294967295) (Option·some-injective (digits 0 s) n (p .1)) (leb-true (digits 0 s) 4294967295 (q .1))
+
+number-small : (s : List ℕ) (n : ℕ) → numberOf s ≡ some n → n ≤ 4294967295
+unfolding numberOf if_then_else_
+number-small [] n e = absurd (Option·none-ne-some n e)
+number-small (b ∷ s) n e = go (eqb b 43) e
+  where
+    go : (p : Bool) → (if p then unsigned s else unsigned (b ∷ s)) ≡ some n → n ≤ 4294967295
+    go true e = unsigned-small s n e
+    go false e = unsigned-small (b ∷ s) n e
+
+-- 23 and 24
+position-number : (p : Position) (w : Bool) (n : ℕ) → wrongPosition p w ≡ some n → (20 ≤ n) × (n ≤ 26)
+unfolding wrongPosition if_then_else_
+position-number unrestricted w n h = absurd (Option·none-ne-some n h)
+position-number strict true n h = absurd (Option·none-ne-some n h)
+position-number strict false n h = let q = Option·some-injective 23 n h in omega arith
+position-number nonStrict true n h = let q = Option·some-injective 24 n h in omega arith
+position-number nonStrict false n h = absurd (Option·none-ne-some n h)
+
+module _ (is : List Item) (M : BaseValue → Type 0) (means : Meaning is M) (m : ℕ) where
+  base-fits : (v : BaseValue) → M v → Fits M m (some (one (baseOf v))) (base v)
+  unfolding ofKind hasKind size basesOf
+  base-fits v h = (base-own v, omega arith, omega arith, (h, tt))
+
+  not-found-fine :
+      (k : Option Kind) (spot : Spot) (n : ℕ) (names : Named) (s : State)
       → isNamed names ≡ true
-      → Fine 26 (Fits m k) (missing unnamed n names s)
-  unfolding missing missed _>>=_ if_then_else_
-  missing-fine k unnamed n names s h = rw (named-shown names h) (omega arith)
+      → Fine 26 (Fits M m k) (notFound spot n names s)
+  unfolding notFound refuseMissing _>>=_ if_then_else_
+  not-found-fine k spot n names s h = rw (named-shown names h) (omega arith)
 
   flag-fine :
-      (n : ℕ) (names : Named) (switch : Bool) (t : Took Bool)
+      (n : ℕ) (names : Named) (switch there : Bool) (s : State)
       → isNamed names ≡ true
-      → Fine 26 (Fits m (some (one yesNo))) (flagValue n names switch t)
-  unfolding flagValue ofKind hasKind isBase sameBase baseOf baseNumber size
-  flag-fine n names switch t h =
-      if-holds (Fine 26 (Fits m (some (one yesNo)))) (t .answer) _ _
-      (λ _. (refl, omega arith, omega arith))
-      (λ _. if-holds (Fine 26 (Fits m (some (one yesNo)))) switch _ _
-      (λ _. (refl, omega arith, omega arith))
-      (λ _. missing-fine (some (one yesNo)) (fault (panic parseFlag559)) n names (t .state) h))
+      → Fine 26 (Fits M m (some (one yesNo))) (flagValue n names switch there s)
+  unfolding flagValue baseOf
+  flag-fine n names switch there s h =
+      if-holds (Fine 26 (Fits M m (some (one yesNo)))) there _ _
+      (λ _. base-fits (isYes true) (means .yes true))
+      (λ _. if-holds (Fine 26 (Fits M m (some (one yesNo)))) switch _ _
+      (λ _. base-fits (isYes false) (means .yes false))
+      (λ _. not-found-fine (some (one yesNo)) parseFlag559 n names s h))
 
-  text-fine : (b : Base) (i : ℕ) (t : List ℕ) (s : State) → Fine 26 (Fits m (some (one b))) (parseText b i t s)
-  unfolding parseText parsedText _>>?_ failedAt ofKind hasKind isBase sameBase baseOf baseNumber size
-  text-fine yesNo i t s = omega arith
-  text-fine text i t s = (refl, omega arith, omega arith)
-  text-fine number i t s = go (numberOf t)
+  text-fine :
+      (b : Base) (i : ℕ) (t : List ℕ) (s : State)
+      → isRead b ≡ true
+      → TextAt is i
+      → Fine 26 (Fits M m (some (one b))) (parseText b i t s)
+  unfolding parseText failedAt isRead baseOf
+  text-fine yesNo i t s e h = absurd (false≢true e)
+  text-fine text i t s e h = base-fits (isText (item i)) (means .text i h)
+  text-fine number i t s e h = go (numberOf t) refl
     where
       go :
           (x : Option ℕ)
-          → Fine 26 (Fits m (some (one number)))
-          (elim (x >>? λ n. some (isNumber n)) [ none ↦ refused (failedAt 25 (s .current)) | some v ↦ ok (base v) ])
-      go none = omega arith
-      go (some x) = (refl, omega arith, omega arith)
+          → numberOf t ≡ x
+          → Fine 26 (Fits M m (some (one number))) (elim x [ none ↦ refused (failedAt 25 (s .current)) | some n ↦ ok (base (isNumber n)) ])
+      go none z = omega arith
+      go (some x) z = base-fits (isNumber x) (means .read x (number-small t x z))
 
   argument-fine :
-      (n : ℕ) (names : Named) (b : Base) (t : Took (Option Taken))
+      (n : ℕ) (names : Named) (b : Base) (x : Option Taken) (s : State)
       → isNamed names ≡ true
-      → Fine 26 (Fits m (some (one b))) (argumentValue n names b t)
+      → isRead b ≡ true
+      → TakenAt is x
+      → Fine 26 (Fits M m (some (one b))) (argumentValue n names b x s)
   unfolding argumentValue
-  argument-fine n names b t h = go (t .answer)
-    where
-      go :
-          (x : Option Taken)
-          → Fine 26 (Fits m (some (one b)))
-          (elim x [
-            | none ↦ missing (fault (panic takeArgument679)) n names (t .state)
-            | some x ↦ parseText b (x .place) (x .text) (t .state)
-          ])
-      go none = missing-fine (some (one b)) (fault (panic takeArgument679)) n names (t .state) h
-      go (some x) = text-fine b (x .place) (x .text) (t .state)
+  argument-fine n names b none s h e z = not-found-fine (some (one b)) takeArgument679 n names s h
+  argument-fine n names b (some x) s h e z = text-fine b (x .place) (x .text) s e z
 
-  placed-fine : (p : Position) (b : Base) (x : Operand) (s : State) → Fine 26 (Fits m (some (one b))) (placedValue p b x s)
-  unfolding placedValue wrongPosition refuseAt if_then_else_
-  placed-fine unrestricted b x s = text-fine b (x .place) (x .text) s
-  placed-fine strict b x s = go (x .strict)
+  placed-fine :
+      (p : Position) (b : Base) (x : Operand) (s : State)
+      → isRead b ≡ true
+      → TextAt is (x .place)
+      → Fine 26 (Fits M m (some (one b))) (placedValue p b x s)
+  unfolding placedValue refuseAt
+  placed-fine p b x s e z = go (wrongPosition p (x .strict)) refl
     where
       go :
-          (w : Bool)
-          → Fine 26 (Fits m (some (one b)))
-          (elim (wrongPosition strict w) [ none ↦ parseText b (x .place) (x .text) s | some n ↦ refused (refuseAt n (x .place)) ])
-      go true = text-fine b (x .place) (x .text) s
-      go false = omega arith
-  placed-fine nonStrict b x s = go (x .strict)
-    where
-      go :
-          (w : Bool)
-          → Fine 26 (Fits m (some (one b)))
-          (elim (wrongPosition nonStrict w) [ none ↦ parseText b (x .place) (x .text) s | some n ↦ refused (refuseAt n (x .place)) ])
-      go true = omega arith
-      go false = text-fine b (x .place) (x .text) s
+          (o : Option ℕ)
+          → wrongPosition p (x .strict) ≡ o
+          → Fine 26 (Fits M m (some (one b))) (elim o [ none ↦ parseText b (x .place) (x .text) s | some n ↦ refused (refuseAt n (x .place)) ])
+      go none h = text-fine b (x .place) (x .text) s e z
+      go (some n) h = position-number p (x .strict) n h
 
   positional-fine :
-      (n : ℕ) (p : Position) (b : Base) (t : Took (Option Operand))
-      → Fine 26 (Fits m (some (one b))) (positionalValue n p b t)
-  unfolding positionalValue missed
-  positional-fine n p b t = go (t .answer)
-    where
-      go :
-          (x : Option Operand)
-          → Fine 26 (Fits m (some (one b))) (elim x [ none ↦ refused (missed n (t .state)) | some x ↦ placedValue p b x (t .state) ])
-      go none = omega arith
-      go (some x) = placed-fine p b x (t .state)
+      (n : ℕ) (p : Position) (b : Base) (x : Option Operand) (s : State)
+      → isRead b ≡ true
+      → OperandAt is x
+      → Fine 26 (Fits M m (some (one b))) (positionalValue n p b x s)
+  unfolding positionalValue refuseMissing
+  positional-fine n p b none s e z = omega arith
+  positional-fine n p b (some x) s e z = placed-fine p b x s e z
 
-module _ (k : ℕ) (p : parsed k ≡ true) (is : List Item) (s : State) (g : Good (length is) s) where
-  pub flag-sound :
-      (n : ℕ) (m : Named) (switch : Bool)
-      → isNamed m ≡ true
-      → Runs (length is) (Flag n m switch) s (evalFlag k is n m switch s)
-  unfolding evalFlag kindOf most hasRepeat leaves if_then_else_
-  flag-sound n m switch h =
-      let x = flag-takes k p is m s g in
-      went-runs (tried-went (flagValue n m switch) (x .1) (x .2) (flag-fine _ n m switch (x .0) h))
+module _
+    (k : ℕ) (p : parsed k ≡ true) (is : List Item) (M : BaseValue → Type 0) (means : Meaning is M) (s : State)
+    (g : Good (length is) s)
+  where
+    pub flag-sound :
+        (n : ℕ) (m : Named) (switch : Bool)
+        → isNamed m ≡ true
+        → Evaluated M (length is) (Flag n m switch) s (evalFlag k is n m switch s)
+    unfolding evalFlag kindOf most hasRepeat leaves if_then_else_
+    flag-sound n m switch h =
+        let x = flag-takes k p is m s g in
+        let f = flag-fine is M means _ n m switch (x .0 .answer) (x .0 .state) h in
+        record { went = leaf-went (flagValue n m switch) (x .1) (x .2) f }
 
-  pub argument-sound :
-      (n : ℕ) (m : Named) (b : Base) (adjacent : Bool)
-      → isNamed m ≡ true
-      → Runs (length is) (Argument n m b adjacent) s (evalArgument k is n m b adjacent s)
-  unfolding evalArgument kindOf most hasRepeat leaves tried _>>=_ refuseAt statesOf if_then_else_
-  argument-sound n m b adjacent h =
-      ⊎-elim
-      (λ x. went-runs (tried-went (argumentValue n m b) (x .1) (x .2) (argument-fine _ n m b (x .0) h)))
-      (λ x. rw (x .1) (record { step = step-refl g; ends = omega arith; passed = tt; cost = omega arith }))
-      (arg-takes k p is m adjacent s g)
+    pub argument-sound :
+        (n : ℕ) (m : Named) (b : Base) (adjacent : Bool)
+        → isNamed m ≡ true
+        → isRead b ≡ true
+        → Evaluated M (length is) (Argument n m b adjacent) s (evalArgument k is n m b adjacent s)
+    unfolding evalArgument kindOf most hasRepeat leaves leaf refuseAt if_then_else_
+    argument-sound n m b adjacent h e =
+        ⊎-elim
+        (λ x. let f = argument-fine is M means _ n m b (x .0 .answer) (x .0 .state) h e (x .3) in
+        record { went = leaf-went (argumentValue n m b) (x .1) (x .2) f })
+        (λ x. rw (x .1) (record { went = record { step = step-refl g; ends = omega arith; passed = tt; cost = omega arith } }))
+        (arg-takes k p is m adjacent s g)
 
-  pub positional-sound : (n : ℕ) (q : Position) (b : Base) → Runs (length is) (Positional n q b) s (evalPositional k is n q b s)
-  unfolding evalPositional kindOf most hasRepeat leaves if_then_else_
-  positional-sound n q b =
-      let x = positional-takes k p is s g in
-      went-runs (tried-went (positionalValue n q b) (x .1) (x .2) (positional-fine _ n q b (x .0)))
+    pub positional-sound :
+        (n : ℕ) (q : Position) (b : Base)
+        → isRead b ≡ true
+        → Evaluated M (length is) (Positional n q b) s (evalPositional k is n q b s)
+    unfolding evalPositional kindOf most hasRepeat leaves if_then_else_
+    positional-sound n q b e =
+        let x = positional-takes k p is s g in
+        let f = positional-fine is M means _ n q b (x .0 .answer) (x .0 .state) e (x .3) in
+        record { went = leaf-went (positionalValue n q b) (x .1) (x .2) f }
 
 -- ---- `parse_option`: a value only where fewer places remain
 abbrev pub Optioned : (Value → Type 0) → Option ℕ → State → Option Value → Type 0
@@ -203,9 +239,9 @@ Optioned P len u none = Unit {0}
 Optioned P len u (some v) = P v × (fewer (u .remaining) len ≡ true)
 
 module _
-    {n : ℕ} {P : Value → Type 0} {s : State} {c : ℕ} (catch : Bool) (len : Option ℕ) (r : Ran Value)
+    {M : BaseValue → Type 0} {n : ℕ} {P : Value → Type 0} {s : State} {c : ℕ} (catch : Bool) (len : Option ℕ) (r : Ran Value)
     (g : Good n s)
-    (w : Went n 26 P s c r)
+    (w : Went M n 26 P s c r)
   where
     optioned : Outcome Value → Ran (Option Value)
     optioned o = elim o [
@@ -215,7 +251,7 @@ module _
     ]
 
     Q : Ran (Option Value) → Type 0
-    Q q = Went n 26 (Optioned P len (q .state)) s c (after r q)
+    Q q = Went M n 26 (Optioned P len (q .state)) s c (after r q)
 
     counted : (v : Value) (b : Bool) → P v → fewer (r .state .remaining) len ≡ b → Q (ended (ok (if b then some v else none)) (r .state))
     unfolding Q ended if_then_else_
@@ -231,34 +267,37 @@ module _
         (λ _. after-ended (r .state) (refused e) w (w .step) f)
     option-ends (fault x) f = absurd f
 
-    pub option-went : Went n 26 (Optioned P len (parseOption catch len s r .state)) s c (parseOption catch len s r)
+    pub option-went : Went M n 26 (Optioned P len (parseOption catch len s r .state)) s c (parseOption catch len s r)
     unfolding Q optioned parseOption after
     option-went = option-ends (r .outcome) (w .ends)
 
-module _ {n : ℕ} {t : Tree} {s : State} {r : Ran Value} (g : Good n s) (w : Runs n t s r) where
-  pub optional-sound : (catch : Bool) → isSome (kindOf (Optional catch t)) ≡ true → Runs n (Optional catch t) s (evalOptional catch s r)
-  unfolding evalOptional kindOf most hasRepeat leaves size
-  optional-sound catch e = went-runs (then-ended _ (option-went catch none r g (runs-went w)) fits)
+module _ {M : BaseValue → Type 0} {n : ℕ} {t : Tree} {s : State} {r : Ran Value} (g : Good n s) (child : Evaluated M n t s r) where
+  pub optional-sound : (catch : Bool) → isSome (kindOf (Optional catch t)) ≡ true → Evaluated M n (Optional catch t) s (evalOptional catch s r)
+  unfolding evalOptional kindOf most hasRepeat leaves size basesOf
+  optional-sound catch e = record { went = then-ended _ (option-went catch none r g (child .went)) fits }
     where
       m : ℕ
       m = s .remaining + 1
 
       fits :
           (v : Option Value)
-          → Optioned (Fits m (kindOf t)) none (parseOption catch none s r .state) v
-          → Fits m (kindOf t >>? optionalKind) (elim v [ none ↦ absent | some x ↦ present x ])
-      fits none p = (absent-kind (kindOf t) e, omega arith, omega arith)
-      fits (some v) p = (present-kind (kindOf t) v e (p .0 .0), omega arith, p .0 .1)
+          → Optioned (Fits M m (kindOf t)) none (parseOption catch none s r .state) v
+          → Fits M m (kindOf t >>? optionalKind) (elim v [ none ↦ absent | some x ↦ present x ])
+      fits none p = (absent-kind (kindOf t) e, omega arith, omega arith, tt)
+      fits (some v) p = (present-kind (kindOf t) v e (p .0 .0), omega arith, p .0 .1, p .0 .3)
 
-  pub fallback-sound : (v : BaseValue) → isSome (kindOf (Fallback v t)) ≡ true → Runs n (Fallback v t) s (evalFallback v s r)
-  unfolding evalFallback kindOf most hasRepeat leaves ofKind hasKind size
-  fallback-sound v e = went-runs (go (r .outcome) (runs-went w .ends))
+  pub fallback-sound : (v : BaseValue) → M v → isSome (kindOf (Fallback v t)) ≡ true → Evaluated M n (Fallback v t) s (evalFallback v s r)
+  unfolding evalFallback kindOf most hasRepeat leaves ofKind hasKind size basesOf
+  fallback-sound v h e = record { went = go (r .outcome) (child .went .ends) }
     where
+      w : Went M n 26 (Fits M (s .remaining + 1) (kindOf t)) s (most t (s .remaining)) r
+      w = child .went
+
       K : Option Kind
       K = kindOf t >>? baseKind (baseOf v)
 
       P : Value → Type 0
-      P = Fits (s .remaining + 1) K
+      P = Fits M (s .remaining + 1) K
 
       caught : ofKind K (base v) ≡ true
       caught = let k = base-kind (baseOf v) (kindOf t) e in rw (k .0, k .1) (base-own v)
@@ -270,38 +309,39 @@ module _ {n : ℕ} {t : Tree} {s : State} {r : Ran Value} (g : Good n s) (w : Ru
         | fault x ↦ ended (fault x) s
       ]
 
-      go : (o : Outcome Value) → Fine 26 (Fits (s .remaining + 1) (kindOf t)) o → Went n 26 P s (most t (s .remaining)) (after r (rest o))
-      go (ok x) f = after-ended (r .state) (ok x) (runs-went w) (w .step) (rw (base-kind (baseOf v) (kindOf t) e .0) f)
+      go : (o : Outcome Value) → Fine 26 (Fits M (s .remaining + 1) (kindOf t)) o → Went M n 26 P s (most t (s .remaining)) (after r (rest o))
+      go (ok x) f = after-ended (r .state) (ok x) w (w .step) (rw (base-kind (baseOf v) (kindOf t) e .0) f)
       go (refused x) f =
-          after-ended s _ (runs-went w) (step-refl g)
-          (if-holds (Fine 26 P) (canCatch x) (ok (base v)) (refused x) (λ _. (caught, omega arith, omega arith)) (λ _. f))
+          after-ended s _ w (step-refl g)
+          (if-holds (Fine 26 P) (canCatch x) (ok (base v)) (refused x) (λ _. (caught, omega arith, omega arith, (h, tt))) (λ _. f))
       go (fault x) f = absurd f
 
 -- only a number passes, and stays as it is
 guarded-fine :
-    (m lo hi : ℕ) (v : Value) (s : State)
-    → Fits m (some (one number)) v
-    → Fine 26 (Fits m (some (one number))) (guarded lo hi v s)
+    (M : BaseValue → Type 0) (m lo hi : ℕ) (v : Value) (s : State)
+    → Fits M m (some (one number)) v
+    → Fine 26 (Fits M m (some (one number))) (guarded lo hi v s)
 unfolding guarded ofKind hasKind isBase sameBase baseOf baseNumber failedAt
-guarded-fine m lo hi (base (isYes b)) s f = absurd (false≢true (f .0))
-guarded-fine m lo hi (base (isText t)) s f = absurd (false≢true (f .0))
-guarded-fine m lo hi (base (isNumber n)) s f =
-    if-holds (Fine 26 (Fits m (some (one number)))) (leb lo n && leb n hi) (ok (base (isNumber n))) (refused (failedAt 26 (s .current)))
+guarded-fine M m lo hi (base (isYes b)) s f = absurd (false≢true (f .0))
+guarded-fine M m lo hi (base (isText t)) s f = absurd (false≢true (f .0))
+guarded-fine M m lo hi (base (isNumber n)) s f =
+    if-holds (Fine 26 (Fits M m (some (one number)))) (leb lo n && leb n hi) (ok (base (isNumber n))) (refused (failedAt 26 (s .current)))
     (λ _. f)
     (λ _. omega arith)
-guarded-fine m lo hi absent s f = absurd (false≢true (f .0))
-guarded-fine m lo hi (present v) s f = absurd (false≢true (f .0))
-guarded-fine m lo hi nil s f = absurd (false≢true (f .0))
-guarded-fine m lo hi (cons v w) s f = absurd (false≢true (f .0))
+guarded-fine M m lo hi absent s f = absurd (false≢true (f .0))
+guarded-fine M m lo hi (present v) s f = absurd (false≢true (f .0))
+guarded-fine M m lo hi nil s f = absurd (false≢true (f .0))
+guarded-fine M m lo hi (cons v w) s f = absurd (false≢true (f .0))
 
 pub guard-sound :
-    {n : ℕ} {t : Tree} {s : State} {r : Ran Value} (lo hi : ℕ)
-    → Runs n t s r
+    {M : BaseValue → Type 0} {n : ℕ} {t : Tree} {s : State} {r : Ran Value} (lo hi : ℕ)
+    → Evaluated M n t s r
     → isSome (kindOf (Guard lo hi t)) ≡ true
-    → Runs n (Guard lo hi t) s (evalGuard lo hi r)
+    → Evaluated M n (Guard lo hi t) s (evalGuard lo hi r)
 unfolding evalGuard kindOf most hasRepeat leaves
-guard-sound {t} {s} {r} lo hi w e =
+guard-sound {M} {t} {s} {r} lo hi w e =
     let k = base-kind number (kindOf t) e in
-    went-runs
-    (then-ended (guarded lo hi) (runs-went w)
-    (λ v f. rw (k .0, k .1) (guarded-fine (s .remaining + 1) lo hi v (r .state) (rw (k .1) at f))))
+    record {
+      went = then-ended (guarded lo hi) (w .went)
+          (λ v f. rw (k .0, k .1) (guarded-fine M (s .remaining + 1) lo hi v (r .state) (rw (k .1) at f)));
+    }

@@ -11,16 +11,16 @@ use borrow.Author.Tests.{ltb-true}
 use Rattle.utf8.specs.Utf8.{if_then_else_}
 use Rattle.rules.specs.Base.{isSome, null, _>>?_}
 use Rattle.rules.specs.Outcome.{Outcome, ok, refused, fault, refuse}
-use Rattle.rules.specs.Value.{isNumber, Value, base, listOf, size}
+use Rattle.rules.specs.Value.{BaseValue, isNumber, Value, base, listOf, size, ofKind, basesOf}
 use Rattle.rules.specs.Tree.{Tree, Many, Some, Count, Last, kindOf, hasRepeat, listKind}
 use Rattle.rules.specs.State.{State}
-use Rattle.rules.specs.Eval.{Ran, ended, after, _then_, ofKind, fewer, swallowed, parseOption, idle, repeat, repeated, evalMany, evalSome, evalCount, lastOf, evalLast}
+use Rattle.rules.specs.Eval.{Ran, ended, after, _then_, fewer, swallowed, parseOption, idle, repeat, repeated, evalMany, evalSome, evalCount, lastOf, evalLast}
 use Rattle.rules.specs.Demands.{All, Good, leaves}
-use Rattle.rules.proofs.Steps.{most, Runs}
+use Rattle.rules.proofs.Steps.{most}
 use Rattle.rules.proofs.StepLaws.{step-refl}
 use Rattle.rules.proofs.Went.{if-holds, all-weaker, Fine, Went, went-weaker, went-cost, ended-went, after-went, after-ended, rest-went, then-went, then-ended}
-use Rattle.rules.proofs.KindLaws.{list-kind, count-kind, last-kind, size-list, inner-list}
-use Rattle.rules.proofs.Nodes.{Fits, fits-more, runs-went, went-runs, Optioned, option-went}
+use Rattle.rules.proofs.KindLaws.{list-kind, count-kind, last-kind, list-bases, size-list, inner-list}
+use Rattle.rules.proofs.Nodes.{Fits, fits-more, Evaluated, Optioned, option-went}
 
 -- at most b elements, all as told
 abbrev pub Listed : (Value → Type 0) → ℕ → List Value → Type 0
@@ -39,8 +39,8 @@ ahead-next s l h e = ltb-true l (s .remaining) e
 
 -- ---- the loop, over any child that costs at most c from states with at most m places
 module _
-    (n : ℕ) (P : Value → Type 0) (c m : ℕ) (catch stops : Bool) (run : State → Ran Value)
-    (child : (s : State) → Good n s → s .remaining ≤ m → Went n 26 P s c (run s))
+    (M : BaseValue → Type 0) (n : ℕ) (P : Value → Type 0) (c m : ℕ) (catch stops : Bool) (run : State → Ran Value)
+    (child : (s : State) → Good n s → s .remaining ≤ m → Went M n 26 P s c (run s))
   where
     Loops : ℕ → Type 0
     Loops fuel =
@@ -49,7 +49,7 @@ module _
         → s .remaining ≤ m
         → Ahead s len b
         → b < fuel
-        → Went n 26 (Listed P b) s ((b + 1) * c) (repeat catch stops fuel len run s)
+        → Went M n 26 (Listed P b) s ((b + 1) * c) (repeat catch stops fuel len run s)
 
     -- one turn, where the turns behind it are sound
     turn-went : (fuel : ℕ) → Loops fuel → Loops (suc fuel)
@@ -60,13 +60,13 @@ module _
         p : Ran (Option Value)
         p = parseOption catch len s (run s)
 
-        w : Went n 26 (Optioned P len (p .state)) s c p
+        w : Went M n 26 (Optioned P len (p .state)) s c p
         w = option-went catch len (run s) g (child s g h)
 
         enough-left : (x : Value) → Optioned P len (p .state) (some x) → p .state .remaining < b
         enough-left x q = ahead (p .state .remaining) (w .step .fewer) (q .1)
 
-        stop : (vs : List Value) → Listed P b vs → Went n 26 (Listed P b) (p .state) (b * c) (ended (ok vs) (p .state))
+        stop : (vs : List Value) → Listed P b vs → Went M n 26 (Listed P b) (p .state) (b * c) (ended (ok vs) (p .state))
         stop vs q = went-cost (omega arith) (ended-went (p .state) (ok vs) (step-refl (w .step .good)) q)
 
         -- the turns behind it
@@ -76,7 +76,7 @@ module _
         next :
             (x : Value)
             → Optioned P len (p .state) (some x)
-            → Went n 26 (Listed P b) (p .state) (b * c) (later then λ xs u. ended (ok (x ∷ xs)) u)
+            → Went M n 26 (Listed P b) (p .state) (b * c) (later then λ xs u. ended (ok (x ∷ xs)) u)
         next x q =
             let l = enough-left x q in
             let f = w .step .fewer in
@@ -89,7 +89,7 @@ module _
         turn :
             (v : Option Value)
             → Optioned P len (p .state) v
-            → Went n 26 (Listed P b) (p .state) (b * c) (elim v [
+            → Went M n 26 (Listed P b) (p .state) (b * c) (elim v [
               | none ↦ ended (ok []) (p .state)
               | some x ↦ if idle stops s (p .state)
                   then ended (ok (x ∷ [])) (p .state)
@@ -97,7 +97,7 @@ module _
             ])
         turn none q = stop [] (tt, omega arith)
         turn (some x) q =
-            if-holds (Went n 26 (Listed P b) (p .state) (b * c)) (idle stops s (p .state)) _ _
+            if-holds (Went M n 26 (Listed P b) (p .state) (b * c)) (idle stops s (p .state)) _ _
             (λ _. stop (x ∷ []) ((q .0, tt), omega (arith, enough-left x q)))
             (λ _. next x q)
 
@@ -110,7 +110,7 @@ module _
         (s : State)
         → Good n s
         → s .remaining ≤ m
-        → Went n 26 (Listed P (s .remaining + 1)) s ((s .remaining + 2) * c) (repeated catch stops run s)
+        → Went M n 26 (Listed P (s .remaining + 1)) s ((s .remaining + 2) * c) (repeated catch stops run s)
     unfolding Loops repeated
     repeated-went s g h =
         went-cost (mul-le-mul-right c (omega arith))
@@ -209,12 +209,12 @@ last-of P x (y ∷ ys) p =
     (z .0, rw (z .1), z .2)
 
 pub last-went :
-    (n : ℕ) (P : Value → Type 0) (c : ℕ) (run : State → Ran Value) (s : State)
+    (M : BaseValue → Type 0) (n : ℕ) (P : Value → Type 0) (c : ℕ) (run : State → Ran Value) (s : State)
     → Good n s
-    → ((u : State) → Good n u → u .remaining ≤ s .remaining → Went n 26 P u c (run u))
-    → Went n 26 P s ((s .remaining + 2) * c) (evalLast run s)
+    → ((u : State) → Good n u → u .remaining ≤ s .remaining → Went M n 26 P u c (run u))
+    → Went M n 26 P s ((s .remaining + 2) * c) (evalLast run s)
 unfolding evalLast _then_ lastOf repeated
-last-went n P c run s g child = go (q .outcome) (w .ends) once
+last-went M n P c run s g child = go (q .outcome) (w .ends) once
   where
     most-tries : ℕ
     most-tries = (s .remaining + 2) * c
@@ -222,8 +222,8 @@ last-went n P c run s g child = go (q .outcome) (w .ends) once
     q : Ran (List Value)
     q = repeated false true run s
 
-    w : Went n 26 (Listed P (s .remaining + 1)) s most-tries q
-    w = repeated-went n P c (s .remaining) false true run child s g (le-refl _)
+    w : Went M n 26 (Listed P (s .remaining + 1)) s most-tries q
+    w = repeated-went M n P c (s .remaining) false true run child s g (le-refl _)
 
     once : Empty (q .outcome) → q .tries ≤ c
     once e = le-trans (loop-empty false true (s .remaining + 2) none run s e) (child s g (le-refl _) .cost)
@@ -232,7 +232,7 @@ last-went n P c run s g child = go (q .outcome) (w .ends) once
         (o : Outcome (List Value))
         → Fine 26 (Listed P (s .remaining + 1)) o
         → (Empty o → q .tries ≤ c)
-        → Went n 26 P s most-tries (after q (elim o [
+        → Went M n 26 P s most-tries (after q (elim o [
           | ok vs ↦ elim (lastOf vs) [ none ↦ run (q .state) | some v ↦ ended (ok v) (q .state) ]
           | refused e ↦ ended (refused e) (q .state)
           | fault x ↦ ended (fault x) (q .state)
@@ -248,51 +248,57 @@ last-went n P c run s g child = go (q .outcome) (w .ends) once
 
 -- ---- kinds 5 to 8
 module _
-    {n : ℕ} {t : Tree} {s : State} {run : State → Ran Value}
+    {M : BaseValue → Type 0} {n : ℕ} {t : Tree} {s : State} {run : State → Ran Value}
     (g : Good n s)
     (flat : hasRepeat t ≡ false)
-    (child : (u : State) → Good n u → Runs n t u (run u))
+    (child : (u : State) → Good n u → Evaluated M n t u (run u))
   where
     m : ℕ
     m = s .remaining + 1
 
-    child-went : (u : State) → Good n u → u .remaining ≤ s .remaining → Went n 26 (Fits m (kindOf t)) u (leaves t) (run u)
+    child-went : (u : State) → Good n u → u .remaining ≤ s .remaining → Went M n 26 (Fits M m (kindOf t)) u (leaves t) (run u)
     unfolding m most if_then_else_
     child-went u h l =
         went-cost (rw flat (le-refl (leaves t)))
-        (went-weaker (omega arith) (fits-more (u .remaining + 1) m (kindOf t) (omega arith)) (runs-went (child u h)))
+        (went-weaker (omega arith) (fits-more M (u .remaining + 1) m (kindOf t) (omega arith)) (child u h .went))
 
-    loop : (catch stops : Bool) → Went n 26 (Listed (Fits m (kindOf t)) m) s ((s .remaining + 2) * leaves t) (repeated catch stops run s)
+    loop : (catch stops : Bool) → Went M n 26 (Listed (Fits M m (kindOf t)) m) s ((s .remaining + 2) * leaves t) (repeated catch stops run s)
     unfolding m
-    loop catch stops = repeated-went n (Fits m (kindOf t)) (leaves t) (s .remaining) catch stops run child-went s g (le-refl _)
+    loop catch stops = repeated-went M n (Fits M m (kindOf t)) (leaves t) (s .remaining) catch stops run child-went s g (le-refl _)
 
     list-fits :
         (vs : List Value)
         → isSome (kindOf t >>? listKind) ≡ true
-        → Listed (Fits m (kindOf t)) m vs
-        → Fits m (kindOf t >>? listKind) (listOf vs)
+        → Listed (Fits M m (kindOf t)) m vs
+        → Fits M m (kindOf t >>? listKind) (listOf vs)
     list-fits vs e p =
-        let kinds = all-weaker (Fits m (kindOf t)) (λ v. ofKind (kindOf t) v ≡ true) vs (λ v f. f .0) (p .0) in
-        (list-kind (kindOf t) vs e kinds, rw (size-list vs) (p .1), rw (inner-list vs) (omega arith))
+        let kinds = all-weaker (Fits M m (kindOf t)) (λ v. ofKind (kindOf t) v ≡ true) vs (λ v f. f .0) (p .0) in
+        let means = all-weaker (Fits M m (kindOf t)) (λ v. All M (basesOf v)) vs (λ v f. f .3) (p .0) in
+        (list-kind (kindOf t) vs e kinds, rw (size-list vs) (p .1), rw (inner-list vs) (omega arith), list-bases M vs means)
 
-    pub many-sound : (catch : Bool) → isSome (kindOf (Many catch t)) ≡ true → Runs n (Many catch t) s (evalMany catch run s)
+    pub many-sound : (catch : Bool) → isSome (kindOf (Many catch t)) ≡ true → Evaluated M n (Many catch t) s (evalMany catch run s)
     unfolding m evalMany kindOf most hasRepeat leaves if_then_else_
-    many-sound catch e = went-runs (then-ended (λ vs u. ok (listOf vs)) (loop catch false) (λ vs p. list-fits vs e p))
+    many-sound catch e = record { went = then-ended (λ vs u. ok (listOf vs)) (loop catch false) (λ vs p. list-fits vs e p) }
 
-    pub some-sound : (catch : Bool) → isSome (kindOf (Some catch t)) ≡ true → Runs n (Some catch t) s (evalSome catch run s)
+    pub some-sound : (catch : Bool) → isSome (kindOf (Some catch t)) ≡ true → Evaluated M n (Some catch t) s (evalSome catch run s)
     unfolding m evalSome kindOf most hasRepeat leaves refuse if_then_else_
-    some-sound catch e =
-        went-runs
-        (then-ended (λ vs u. if null vs then refused (refuse 21) else ok (listOf vs)) (loop catch false)
-        (λ vs p. if-holds (Fine 26 _) (null vs) (refused (refuse 21)) (ok (listOf vs)) (λ _. omega arith) (λ _. list-fits vs e p)))
+    some-sound catch e = record {
+      went =
+          then-ended (λ vs u. if null vs then refused (refuse 21) else ok (listOf vs)) (loop catch false)
+          (λ vs p. if-holds (Fine 26 _) (null vs) (refused (refuse 21)) (ok (listOf vs)) (λ _. omega arith) (λ _. list-fits vs e p));
+    }
 
-    pub count-sound : isSome (kindOf (Count t)) ≡ true → Runs n (Count t) s (evalCount run s)
-    unfolding m evalCount kindOf most hasRepeat leaves size if_then_else_
-    count-sound e =
-        went-runs
-        (then-ended (λ vs u. ok (base (isNumber (length vs)))) (loop false true)
-        (λ vs p. (count-kind (kindOf t) (length vs) e, omega arith, omega arith)))
+    pub count-sound :
+        ((k : ℕ) → k ≤ s .remaining + 1 → M (isNumber k))
+        → isSome (kindOf (Count t)) ≡ true
+        → Evaluated M n (Count t) s (evalCount run s)
+    unfolding m evalCount kindOf most hasRepeat leaves size basesOf if_then_else_
+    count-sound counts e = record {
+      went =
+          then-ended (λ vs u. ok (base (isNumber (length vs)))) (loop false true)
+          (λ vs p. (count-kind (kindOf t) (length vs) e, omega arith, omega arith, (counts (length vs) (p .1), tt)));
+    }
 
-    pub last-sound : isSome (kindOf (Last t)) ≡ true → Runs n (Last t) s (evalLast run s)
+    pub last-sound : isSome (kindOf (Last t)) ≡ true → Evaluated M n (Last t) s (evalLast run s)
     unfolding m kindOf most hasRepeat leaves if_then_else_
-    last-sound e = went-runs (rw (last-kind (kindOf t) e) (last-went n (Fits m (kindOf t)) (leaves t) run s g child-went))
+    last-sound e = record { went = rw (last-kind (kindOf t) e) (last-went M n (Fits M m (kindOf t)) (leaves t) run s g child-went) }

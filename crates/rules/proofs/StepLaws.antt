@@ -4,7 +4,7 @@ use mathlib.Core.Bool.{Bool, true, false, not, _&&_, false≢true}
 use mathlib.Core.List.{List, [], _∷_}
 use mathlib.Core.Option.{Option, some, none}
 use mathlib.Core.Logic.{_⊎_, inl, inr, ⊎-elim}
-use Prim.Native.Nat.{ℕ, suc, _+_, _-_, _≤_, _<_}
+use Prim.Native.Nat.{ℕ, zero, suc, _+_, _-_, _≤_, _<_}
 use native.Mathlib.Nat.{le-refl, le-trans}
 use native.Mathlib.Omega.{arith}
 use lib.Dec.{leb, eqb, ltb}
@@ -14,11 +14,11 @@ use Rattle.utf8.specs.Utf8.{if_then_else_}
 use Rattle.rules.specs.Base.{isSome, all}
 use Rattle.rules.specs.Outcome.{Outcome, ok, refused, _>>=_, at, refuseAt}
 use Rattle.rules.specs.Tree.{Named}
-use Rattle.rules.specs.Split.{Item}
+use Rattle.rules.specs.Split.{Item, Short, Long, ArgWord, Word, PosWord}
 use Rattle.rules.specs.State.{State, Found, Picked, parsed, present, construct, inScope, presentAt, presentFrom, unused, get, findIn, find, first, used, remove, withCurrent, pickWinner, saveConflicts, countPresent, setScope, markGood, currentGood, stateGood}
 use Rattle.rules.specs.Take.{Took, took, matchesArg, takeFlag, Taken, valueText, takeValue, takeArg, Operand, isOperand, operand, takePositionalWord}
 use Rattle.rules.specs.Eval.{won}
-use Rattle.rules.specs.Demands.{All, Good}
+use Rattle.rules.specs.Demands.{All, Good, hasText}
 use Rattle.rules.proofs.Steps.{Step}
 use Rattle.rules.proofs.Places.{if-elim, left, right, at-below, present-below, mark-present, minus-below, write-below, set-same, set-other, set-kept, all-set, parsed-not, parsed-good, from-same, from-used, from-each, from-all, slice-below, count-from, replicate-present, all-replicate, conflicts-length, conflicts-present, conflicts-good, Differs, pick-case}
 
@@ -207,6 +207,26 @@ get-free is s i x e = go (inScope s i && presentAt (s .marks) i) refl
     go true p = free-at s i (left (inScope s i) (presentAt (s .marks) i) p) (right (inScope s i) (presentAt (s .marks) i) p)
     go false p = absurd (false≢true (ap isSome (rw p at e)))
 
+pub get-item : (is : List Item) (s : State) (i : ℕ) (x : Item) → get is s i ≡ some x → getElem? is i ≡ some x
+unfolding get if_then_else_ isSome
+get-item is s i x e = go (inScope s i && presentAt (s .marks) i) refl
+  where
+    go : (b : Bool) → inScope s i && presentAt (s .marks) i ≡ b → getElem? is i ≡ some x
+    go true p = rw p at e
+    go false p = absurd (false≢true (ap isSome (rw p at e)))
+
+-- a place whose item is a Word, an ArgWord or a PosWord
+abbrev pub TextAt : List Item → ℕ → Type 0
+TextAt is i = (x : Item) × (getElem? is i ≡ some x) × (hasText x ≡ true)
+
+abbrev pub TakenAt : List Item → Option Taken → Type 0
+TakenAt is none = Unit {0}
+TakenAt is (some x) = TextAt is (x .place)
+
+abbrev pub OperandAt : List Item → Option Operand → Type 0
+OperandAt is none = Unit {0}
+OperandAt is (some x) = TextAt is (x .place)
+
 pub current-good : (n : ℕ) (s : State) (i : ℕ) → Good n s → i < n → Good n (withCurrent (some i) s)
 unfolding withCurrent currentGood unused
 current-good n s i g h = record {
@@ -222,10 +242,22 @@ current-free : (s : State) (c : Option ℕ) (i : ℕ) → Free s i → Free (wit
 unfolding withCurrent
 current-free s c i f = record { from = f .from; to = f .to; here = f .here }
 
-value-got : (o : Option Item) (t : List ℕ) → valueText o ≡ some t → (x : Item) × (o ≡ some x)
-unfolding valueText isSome
+value-got : (o : Option Item) (t : List ℕ) → valueText o ≡ some t → (x : Item) × (o ≡ some x) × (hasText x ≡ true)
+unfolding valueText isSome hasText
 value-got none t e = absurd (false≢true (ap isSome e))
-value-got (some x) t e = (x, refl)
+value-got (some (Short c a x)) t e = absurd (false≢true (ap isSome e))
+value-got (some (Long n a x)) t e = absurd (false≢true (ap isSome e))
+value-got (some (ArgWord x)) t e = (ArgWord x, refl, refl)
+value-got (some (Word x)) t e = (Word x, refl, refl)
+value-got (some (PosWord x)) t e = absurd (false≢true (ap isSome e))
+
+operand-text : (x : Item) → isOperand x ≡ true → hasText x ≡ true
+unfolding isOperand hasText
+operand-text (Short c a t) e = e
+operand-text (Long n a t) e = e
+operand-text (ArgWord t) e = refl
+operand-text (Word t) e = refl
+operand-text (PosWord t) e = refl
 
 -- `current` is set, and then a free place is removed
 current-removed : (k : ℕ) → parsed k ≡ true → (n : ℕ) (s : State) (c i : ℕ) → Good n s → c < n → Free s i
@@ -247,23 +279,23 @@ module _ (k : ℕ) (told : parsed k ≡ true) (is : List Item) where
           let r = remove-free k told (length is) s (x .place) g (h .free) in
           (record { answer = true; state = removed k s (x .place) }, rw (e, r), removed-step k told (length is) s (x .place) g (h .free))
 
-  value-taken : (s : State) (key : ℕ) (t : List ℕ) → Good (length is) s → Free s key → Free s (suc key)
-      → (v : Took (Option Taken)) × (takeValue k s key (some t) ≡ ok v) × Step (length is) s (v .state)
+  value-taken : (s : State) (key : ℕ) (t : List ℕ) → Good (length is) s → Free s key → Free s (suc key) → TextAt is (suc key)
+      → (v : Took (Option Taken)) × (takeValue k s key (some t) ≡ ok v) × Step (length is) s (v .state) × TakenAt is (v .answer)
   unfolding takeValue took _>>=_
-  value-taken s key t g f next =
+  value-taken s key t g f next here =
       let a = current-removed k told (length is) s (suc key) key g (free-below (length is) s (suc key) g next) f in
       let b = remove-step k told (length is) (removed k s key) (suc key) (a .1 .good) in
-      (record { answer = some (record { place = suc key; text = t }); state = b .0 }, rw (a .0, b .1), step-trans (a .1) (b .2))
+      (record { answer = some (record { place = suc key; text = t }); state = b .0 }, rw (a .0, b .1), step-trans (a .1) (b .2), here)
 
   pub arg-takes : (m : Named) (adjacent : Bool) (s : State) → Good (length is) s
-      → ((t : Took (Option Taken)) × (takeArg k is m adjacent s ≡ ok t) × Step (length is) s (t .state))
+      → ((t : Took (Option Taken)) × (takeArg k is m adjacent s ≡ ok t) × Step (length is) s (t .state) × TakenAt is (t .answer))
       ⊎ ((i : ℕ) × (takeArg k is m adjacent s ≡ refused (refuseAt 22 i)))
   unfolding takeArg takeValue took _>>=_
   arg-takes m adjacent s g = let f = find-good is (matchesArg m adjacent) s g in go (f .0) (f .1) (f .2)
     where
       ends : Type 0
       ends =
-          ((t : Took (Option Taken)) × (takeArg k is m adjacent s ≡ ok t) × Step (length is) s (t .state))
+          ((t : Took (Option Taken)) × (takeArg k is m adjacent s ≡ ok t) × Step (length is) s (t .state) × TakenAt is (t .answer))
           ⊎ ((i : ℕ) × (takeArg k is m adjacent s ≡ refused (refuseAt 22 i)))
 
       key : (x : Found) → find is (matchesArg m adjacent) s ≡ ok (some x) → Free s (x .place) → (o : Option (List ℕ))
@@ -271,25 +303,26 @@ module _ (k : ℕ) (told : parsed k ≡ true) (is : List Item) where
       key x e f none v = inr (x .place, rw (e, v))
       key x e f (some t) v =
           let got = value-got (get is s (suc (x .place))) t v in
-          let r = value-taken s (x .place) t g f (get-free is s (suc (x .place)) (got .0) (got .1)) in
-          inl (r .0, rw (e, v, r .1), r .2)
+          let here : TextAt is (suc (x .place)) = (got .0, get-item is s (suc (x .place)) (got .0) (got .1), got .2) in
+          let r = value-taken s (x .place) t g f (get-free is s (suc (x .place)) (got .0) (got .1)) here in
+          inl (r .0, rw (e, v, r .1), r .2, r .3)
 
       go : (x : Option Found) → find is (matchesArg m adjacent) s ≡ ok x → Finds is (matchesArg m adjacent) s x → ends
-      go none e h = inl (record { answer = none; state = s }, rw e, step-refl g)
+      go none e h = inl (record { answer = none; state = s }, rw e, step-refl g, tt)
       go (some x) e h = key x e (h .free) (valueText (get is s (suc (x .place)))) refl
 
   pub positional-takes : (s : State) → Good (length is) s
-      → (t : Took (Option Operand)) × (takePositionalWord k is s ≡ ok t) × Step (length is) s (t .state)
-  unfolding takePositionalWord took _>>=_
+      → (t : Took (Option Operand)) × (takePositionalWord k is s ≡ ok t) × Step (length is) s (t .state) × OperandAt is (t .answer)
+  unfolding takePositionalWord took operand _>>=_
   positional-takes s g = let f = find-good is isOperand s g in go (f .0) (f .1) (f .2)
     where
       go : (x : Option Found) → find is isOperand s ≡ ok x → Finds is isOperand s x
-          → (t : Took (Option Operand)) × (takePositionalWord k is s ≡ ok t) × Step (length is) s (t .state)
-      go none e h = (record { answer = none; state = s }, rw e, step-refl g)
+          → (t : Took (Option Operand)) × (takePositionalWord k is s ≡ ok t) × Step (length is) s (t .state) × OperandAt is (t .answer)
+      go none e h = (record { answer = none; state = s }, rw e, step-refl g, tt)
       go (some x) e h =
           let i : ℕ = x .place in
           let r = current-removed k told (length is) s i i g (free-below (length is) s i g (h .free)) (h .free) in
-          (record { answer = some (operand x); state = removed k s i }, rw (e, r .0), r .1)
+          (record { answer = some (operand x); state = removed k s i }, rw (e, r .0), r .1, (x .item, h .item, operand-text (x .item) (h .passes)))
 
 -- ---- the winner of two
 
@@ -373,6 +406,18 @@ test-good n s h =
       current = t .3;
       counted = eqb-true _ _ (t .4);
     }
+
+-- ---- places that remain
+present-few : (marks : List ℕ) (n i : ℕ) → length (presentFrom marks n i) ≤ n
+unfolding presentFrom
+present-few marks zero i = omega arith
+present-few marks (suc n) i =
+    let rest = present-few marks n (suc i) in
+    if-elim (λ (l : List ℕ). length l ≤ suc n) (presentAt marks i) _ _ (λ _. omega arith) (λ _. omega arith)
+
+pub remaining-within : (n : ℕ) (s : State) → Good n s → s .remaining ≤ n
+unfolding unused
+remaining-within n s g = omega (arith, g .counted, g .order, g .inside, present-few (s .marks) (s .end - s .start) (s .start))
 
 -- ---- scopes
 

@@ -5,11 +5,11 @@ use mathlib.Core.Path.{_≡_}
 use Prim.Native.Nat.{ℕ, _+_, _*_, _≤_, _<_}
 use Rattle.utf8.specs.Utf8.{if_then_else_}
 use Rattle.rules.specs.Outcome.{Outcome, ok, refused, fault}
-use Rattle.rules.specs.Value.{Kind, Value, base, absent, present, nil, cons, size}
+use Rattle.rules.specs.Value.{Kind, BaseValue, Value, base, absent, present, nil, cons, size, ofKind}
 use Rattle.rules.specs.Tree.{Tree, kindOf, hasRepeat}
 use Rattle.rules.specs.State.{State, presentAt}
-use Rattle.rules.specs.Eval.{Ran, statesOf, ofKind}
-use Rattle.rules.specs.Demands.{All, Good, leaves}
+use Rattle.rules.specs.Eval.{Ran, Visit}
+use Rattle.rules.specs.Demands.{Good, leaves, Faultless}
 
 -- From a good state to another over the same items and in the same scope
 pub record Step (n : ℕ) (s u : State) : Type 0 where
@@ -42,9 +42,14 @@ EndsOne m k (fault x) = ⊥
 unfoldable pub most : Tree → ℕ → ℕ
 most t r = if hasRepeat t then (r + 2) * leaves t else leaves t
 
+-- an evaluation that was passed through, over n items, where M is what base values mean
+pub record Visited (M : BaseValue → Type 0) (n : ℕ) (v : Visit) : Type 0 where
+  pub given : Good n (v .given)
+  pub left : Good n (v .left)
+  pub faultless : Faultless M (v .kind) (v .outcome)
+
 -- an evaluation of a node in a state over n items
 pub record Runs (n : ℕ) (t : Tree) (s : State) (r : Ran Value) : Type 0 where
   pub step : Step n s (r .state)
   pub ends : EndsOne (s .remaining + 1) (kindOf t) (r .outcome)
-  pub passed : All (Good n) (statesOf (r .trace))
   pub cost : r .tries ≤ most t (s .remaining)

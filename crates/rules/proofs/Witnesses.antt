@@ -4,10 +4,10 @@ use mathlib.Core.List.{List, [], _∷_}
 use mathlib.Core.Option.{some, none}
 use mathlib.Core.Path.{_≡_, refl}
 use Prim.Native.Nat.{ℕ}
-use Rattle.rules.specs.Outcome.{refused, fault, panic, wrongKind, endless, disambiguateShort207, construct361, construct390, remove431, remove433}
+use Rattle.rules.specs.Outcome.{Outcome, ok, refused, fault, panic, wrongKind, endless, disambiguateShort207, construct361, construct390, remove431, remove433}
 use Rattle.rules.specs.Outcome.{adjacentScope506, adjacentScope508, setScope561, argsIter635, onlyOnce282, onlyOnce288}
 use Rattle.rules.specs.Outcome.{parseFlag559, takeArgument679}
-use Rattle.rules.specs.Value.{text, number, isNumber}
+use Rattle.rules.specs.Value.{Base, yesNo, text, number, one, optional, isYes, isNumber, Value, base, absent, present as there}
 use Rattle.rules.specs.Tree.{Named, unrestricted, Flag, Argument, Positional, Optional, Last, Choice, Fallback, Guard}
 use Rattle.rules.specs.Accept.{Letters}
 use Rattle.rules.specs.Split.{Item, Short, Word}
@@ -19,7 +19,7 @@ use Rattle.rules.specs.Base.{null, all, contains, same, occurrences, num
 use Rattle.rules.specs.Base.{sliceFrom, slice}
 use Rattle.rules.specs.Outcome.{_>>=_, at, refuse, refuseAt, isMissing, canCatch, wrongInput, combineWith}
 use Rattle.rules.specs.Value.{listOf, baseNumber, sameBase, baseOf, isBase, isOptional, isList, hasKind, word, size, answerWords, words}
-use Rattle.rules.specs.Value.{elements}
+use Rattle.rules.specs.Value.{elements, ofKind, basesOf}
 use Rattle.rules.specs.Tree.{optionalKind, listKind, countKind, lastKind, shapeOf, innerBase, sameKind, choiceKind, baseKind, kindOf}
 use Rattle.rules.specs.Tree.{hasRepeat, zeros, namesOf, shortOf, longOf, namedBy, namedOf, flagOf, argumentOf, positionOf, positionalOf}
 use Rattle.rules.specs.Tree.{fitting, repeatOf, fallbackValue, fallbackOf, guardOf, childOf, caughtOf, choiceOf, treeOf}
@@ -33,10 +33,10 @@ use Rattle.rules.specs.State.{countPresent, setScope, untilPresent, prop
 use Rattle.rules.specs.State.{matchLong, position, sameName, before, onlyOnce, markGood, currentGood, stateGood}
 use Rattle.rules.specs.Take.{took, containsName, matchesArg, takeFlag, valueText, takeValue, takeArg, isOperand, isPosWord, textOf}
 use Rattle.rules.specs.Take.{operand, takePositionalWord, commandText, isCommand, takeCommand, takeCmd}
-use Rattle.rules.specs.Eval.{ended, after, _then_, ofKind, checked, visit, statesOf, tried, missed, shownName, missing, answer, flagValue}
-use Rattle.rules.specs.Eval.{evalFlag, isDigit, digits, unsigned, numberOf, parsedText, failedAt, parseText, argumentValue, evalArgument}
+use Rattle.rules.specs.Eval.{ended, after, _then_, visit, statesOf, leaf, refuseMissing, shownName, notFound, flagValue}
+use Rattle.rules.specs.Eval.{evalFlag, isDigit, digits, unsigned, numberOf, failedAt, parseText, argumentValue, evalArgument}
 use Rattle.rules.specs.Eval.{wrongPosition, placedValue, positionalValue, evalPositional, fewer, swallowed, parseOption, evalOptional}
-use Rattle.rules.specs.Eval.{idle, repeat, repeated, evalMany, evalSome, evalCount, lastOf, evalLast, errorOf, valueOf, side, picksFirst}
+use Rattle.rules.specs.Eval.{idle, repeat, repeated, evalMany, evalSome, evalCount, lastOf, evalLast, valueOf, side, picksFirst, picked}
 use Rattle.rules.specs.Eval.{won, chosen, evalChoice, evalFallback, guarded, evalGuard, eval}
 
 -- ---- what the lines below run on
@@ -52,6 +52,10 @@ flagItem = Short 118 false (45 ∷ 118 ∷ []) ∷ []
 
 unfoldable twoItems : List Item
 twoItems = Short 113 false (45 ∷ 113 ∷ []) ∷ Short 118 false (45 ∷ 118 ∷ []) ∷ []
+
+-- `-v` `a`
+unfoldable valueItems : List Item
+valueItems = Short 118 false (45 ∷ 118 ∷ []) ∷ Word (97 ∷ []) ∷ []
 
 unfoldable wordItem : List Item
 wordItem = Word (97 ∷ []) ∷ []
@@ -88,8 +92,15 @@ noNames = record { shorts = []; longs = [] }
 unfoldable noLetters : Letters
 noLetters = record { flags = []; arguments = [] }
 
-unfoldable visited : State → State → Visit
-visited s t = record { given = s; left = t }
+unfoldable visited : Base → State → Outcome Value → State → Visit
+visited b s o t = record { kind = some (one b); given = s; outcome = o; left = t }
+
+unfoldable gaveYes : Outcome Value
+gaveYes = ok (base (isYes true))
+
+-- node 0 looked in vain in an empty scope
+unfoldable missingV : Outcome Value
+missingV = refused (record { number = 20; place = none; missing = record { node = 0; start = 0; end = 0 } ∷ [] })
 
 -- ---- spots where the Rust would panic: an ill-made tree or a forged state on which the definition gives that outcome.
 -- 391 and 434 come right after a write at the same place has succeeded, so there is an item and the place is there; 125 to 127 look up
@@ -120,29 +131,40 @@ spots :
     × (eval 1 [] (Argument 0 noNames text false) (forged [] 0 0 0) .outcome ≡ fault (panic takeArgument679))
     -- a guard on a flag
     × (eval 1 flagItem (Guard 1 5 (Flag 0 named-v false)) (forged (0 ∷ []) 1 0 1) .outcome ≡ fault wrongKind)
+    -- an argument that is to be read as a yes/no
+    × (eval 1 valueItems (Argument 0 named-v yesNo false) fresh .outcome ≡ fault wrongKind)
     -- an optional of an optional: its value is of no kind
-    × (eval 1 [] (Optional false (Optional false (Flag 0 named-v false))) nothing .outcome ≡ fault wrongKind)
+    × (eval 1 [] (Optional false (Optional false (Flag 0 named-v false))) nothing .outcome ≡ ok (there absent))
+    × (kindOf (Optional false (Optional false (Flag 0 named-v false))) ≡ none)
+    × (ofKind none (there absent) ≡ false)
     -- a repeat with one turn's fuel
     × (repeat false false 1 none (eval 1 flagItem (Flag 0 named-v true)) (forged (0 ∷ []) 1 0 1) .outcome ≡ fault endless)
-unfolding xor if_then_else_ table holds fits leadBits continued scalar decodeBy decode decodeAt wellFormedAfter wellFormed null all contains same occurrences numbers concatMap firstFault isSome _>>?_ minus write sliceFrom slice _>>=_ at refuse refuseAt isMissing canCatch wrongInput combineWith listOf baseNumber sameBase baseOf isBase isOptional isList hasKind word size answerWords words elements optionalKind listKind countKind lastKind shapeOf innerBase sameKind choiceKind baseKind kindOf hasRepeat zeros namesOf shortOf longOf namedBy namedOf flagOf argumentOf positionOf positionalOf fitting repeatOf fallbackValue fallbackOf guardOf childOf caughtOf choiceOf treeOf dash equals beforeEquals behindEquals parts splitLong splitShort behindDash splitOsArgument clusterFrom pickLetter lookUp disambiguateShort flagItems argumentItems clusterItems ambiguousAt plain clusterGroup shortGroup longGroup partsGroup wordGroup splitArgument positionals joined splitFrom itemsOf bit partWords textWords itemRecord recordsFrom parsed present winner construct emptyState inScope presentAt presentFrom unused get findIn find first used remove withCurrent pickFrom pickWinner conflicts saveConflicts conflictAt conflict countPresent setScope untilPresent proposed adjacentScope span adjacentlyAvailableFrom matchShort matchLong position sameName before onlyOnce markGood currentGood stateGood took containsName matchesArg takeFlag valueText takeValue takeArg isOperand isPosWord textOf operand takePositionalWord commandText isCommand takeCommand takeCmd ended after _then_ ofKind checked visit statesOf tried missed shownName missing answer flagValue evalFlag isDigit digits unsigned numberOf parsedText failedAt parseText argumentValue evalArgument wrongPosition placedValue positionalValue evalPositional fewer swallowed parseOption evalOptional idle repeat repeated evalMany evalSome evalCount lastOf evalLast errorOf valueOf side picksFirst won chosen evalChoice evalFallback guarded evalGuard eval named-v named-q flagItem twoItems wordItem fresh after-one after-zero after-choice one-word word-used nothing forged noNames noLetters visited
-spots = (refl, refl, refl, refl, refl, refl, refl, refl, refl, refl, refl, refl, refl, refl, refl, refl)
+unfolding xor if_then_else_ table holds fits leadBits continued scalar decodeBy decode decodeAt wellFormedAfter wellFormed null all contains same occurrences numbers concatMap firstFault isSome _>>?_ minus write sliceFrom slice _>>=_ at refuse refuseAt isMissing canCatch wrongInput combineWith listOf baseNumber sameBase baseOf isBase isOptional isList hasKind ofKind basesOf word size answerWords words elements optionalKind listKind countKind lastKind shapeOf innerBase sameKind choiceKind baseKind kindOf hasRepeat zeros namesOf shortOf longOf namedBy namedOf flagOf argumentOf positionOf positionalOf fitting repeatOf fallbackValue fallbackOf guardOf childOf caughtOf choiceOf treeOf dash equals beforeEquals behindEquals parts splitLong splitShort behindDash splitOsArgument clusterFrom pickLetter lookUp disambiguateShort flagItems argumentItems clusterItems ambiguousAt plain clusterGroup shortGroup longGroup partsGroup wordGroup splitArgument positionals joined splitFrom itemsOf bit partWords textWords itemRecord recordsFrom parsed present winner construct emptyState inScope presentAt presentFrom unused get findIn find first used remove withCurrent pickFrom pickWinner conflicts saveConflicts conflictAt conflict countPresent setScope untilPresent proposed adjacentScope span adjacentlyAvailableFrom matchShort matchLong position sameName before onlyOnce markGood currentGood stateGood took containsName matchesArg takeFlag valueText takeValue takeArg isOperand isPosWord textOf operand takePositionalWord commandText isCommand takeCommand takeCmd ended after _then_ visit statesOf leaf refuseMissing shownName notFound flagValue evalFlag isDigit digits unsigned numberOf failedAt parseText argumentValue evalArgument wrongPosition placedValue positionalValue evalPositional fewer swallowed parseOption evalOptional idle repeat repeated evalMany evalSome evalCount lastOf evalLast valueOf side picksFirst picked won chosen evalChoice evalFallback guarded evalGuard eval named-v named-q flagItem twoItems valueItems wordItem fresh after-one after-zero after-choice one-word word-used nothing forged noNames noLetters visited gaveYes missingV
+spots = (refl, refl, refl, refl, refl, refl, refl, refl, refl, refl, refl, refl, refl, refl, refl, refl, refl, refl, refl)
 
 -- ---- states passed through
 passed-through :
     -- the loser of a choice: v, q on `-q` `-v`; the first evaluation is v's, which loses
     (eval 1 twoItems (Choice (Flag 0 named-v false) (Flag 1 named-q false)) fresh .trace
-    ≡ (visited fresh after-one ∷ visited fresh after-zero ∷ visited fresh after-choice ∷ []))
+    ≡ (visited yesNo fresh gaveYes after-one ∷ visited yesNo fresh gaveYes after-zero ∷ visited yesNo fresh gaveYes after-choice ∷ []))
     -- an optional that is put back: its child has used the word
     × (eval 1 wordItem (Optional true (Positional 0 unrestricted number)) one-word .trace
-    ≡ (visited one-word word-used ∷ visited one-word one-word ∷ []))
+    ≡ (visited number one-word (refused (refuseAt 25 0)) word-used
+    ∷ record { kind = some (optional number); given = one-word; outcome = ok absent; left = one-word }
+    ∷ []))
     -- a fallback that refuses: its child has used the word, on the copy
     × (eval 1 wordItem (Fallback (isNumber 9) (Positional 0 unrestricted number)) one-word .trace
-    ≡ (visited one-word word-used ∷ visited one-word one-word ∷ []))
+    ≡ (visited number one-word (refused (refuseAt 25 0)) word-used ∷ visited number one-word (refused (refuseAt 25 0)) one-word ∷ []))
     -- `last` with no value tries its child once more: two evaluations of the child, one of its own
     × (eval 1 [] (Last (Flag 0 named-v false)) nothing .trace
-    ≡ (visited nothing nothing ∷ visited nothing nothing ∷ visited nothing nothing ∷ []))
-unfolding xor if_then_else_ table holds fits leadBits continued scalar decodeBy decode decodeAt wellFormedAfter wellFormed null all contains same occurrences numbers concatMap firstFault isSome _>>?_ minus write sliceFrom slice _>>=_ at refuse refuseAt isMissing canCatch wrongInput combineWith listOf baseNumber sameBase baseOf isBase isOptional isList hasKind word size answerWords words elements optionalKind listKind countKind lastKind shapeOf innerBase sameKind choiceKind baseKind kindOf hasRepeat zeros namesOf shortOf longOf namedBy namedOf flagOf argumentOf positionOf positionalOf fitting repeatOf fallbackValue fallbackOf guardOf childOf caughtOf choiceOf treeOf dash equals beforeEquals behindEquals parts splitLong splitShort behindDash splitOsArgument clusterFrom pickLetter lookUp disambiguateShort flagItems argumentItems clusterItems ambiguousAt plain clusterGroup shortGroup longGroup partsGroup wordGroup splitArgument positionals joined splitFrom itemsOf bit partWords textWords itemRecord recordsFrom parsed present winner construct emptyState inScope presentAt presentFrom unused get findIn find first used remove withCurrent pickFrom pickWinner conflicts saveConflicts conflictAt conflict countPresent setScope untilPresent proposed adjacentScope span adjacentlyAvailableFrom matchShort matchLong position sameName before onlyOnce markGood currentGood stateGood took containsName matchesArg takeFlag valueText takeValue takeArg isOperand isPosWord textOf operand takePositionalWord commandText isCommand takeCommand takeCmd ended after _then_ ofKind checked visit statesOf tried missed shownName missing answer flagValue evalFlag isDigit digits unsigned numberOf parsedText failedAt parseText argumentValue evalArgument wrongPosition placedValue positionalValue evalPositional fewer swallowed parseOption evalOptional idle repeat repeated evalMany evalSome evalCount lastOf evalLast errorOf valueOf side picksFirst won chosen evalChoice evalFallback guarded evalGuard eval named-v named-q flagItem twoItems wordItem fresh after-one after-zero after-choice one-word word-used nothing forged noNames noLetters visited
-passed-through = (refl, refl, refl, refl)
+    ≡ (visited yesNo nothing missingV nothing ∷ visited yesNo nothing missingV nothing ∷ visited yesNo nothing missingV nothing ∷ []))
+    -- a fault is in the trace: a guard on a flag
+    × (eval 1 flagItem (Guard 1 5 (Flag 0 named-v false)) one-word .trace
+    ≡ (visited yesNo one-word gaveYes word-used
+    ∷ record { kind = none; given = one-word; outcome = fault wrongKind; left = word-used }
+    ∷ []))
+unfolding xor if_then_else_ table holds fits leadBits continued scalar decodeBy decode decodeAt wellFormedAfter wellFormed null all contains same occurrences numbers concatMap firstFault isSome _>>?_ minus write sliceFrom slice _>>=_ at refuse refuseAt isMissing canCatch wrongInput combineWith listOf baseNumber sameBase baseOf isBase isOptional isList hasKind ofKind basesOf word size answerWords words elements optionalKind listKind countKind lastKind shapeOf innerBase sameKind choiceKind baseKind kindOf hasRepeat zeros namesOf shortOf longOf namedBy namedOf flagOf argumentOf positionOf positionalOf fitting repeatOf fallbackValue fallbackOf guardOf childOf caughtOf choiceOf treeOf dash equals beforeEquals behindEquals parts splitLong splitShort behindDash splitOsArgument clusterFrom pickLetter lookUp disambiguateShort flagItems argumentItems clusterItems ambiguousAt plain clusterGroup shortGroup longGroup partsGroup wordGroup splitArgument positionals joined splitFrom itemsOf bit partWords textWords itemRecord recordsFrom parsed present winner construct emptyState inScope presentAt presentFrom unused get findIn find first used remove withCurrent pickFrom pickWinner conflicts saveConflicts conflictAt conflict countPresent setScope untilPresent proposed adjacentScope span adjacentlyAvailableFrom matchShort matchLong position sameName before onlyOnce markGood currentGood stateGood took containsName matchesArg takeFlag valueText takeValue takeArg isOperand isPosWord textOf operand takePositionalWord commandText isCommand takeCommand takeCmd ended after _then_ visit statesOf leaf refuseMissing shownName notFound flagValue evalFlag isDigit digits unsigned numberOf failedAt parseText argumentValue evalArgument wrongPosition placedValue positionalValue evalPositional fewer swallowed parseOption evalOptional idle repeat repeated evalMany evalSome evalCount lastOf evalLast valueOf side picksFirst picked won chosen evalChoice evalFallback guarded evalGuard eval named-v named-q flagItem twoItems valueItems wordItem fresh after-one after-zero after-choice one-word word-used nothing forged noNames noLetters visited gaveYes missingV
+passed-through = (refl, refl, refl, refl, refl)
 
 -- ---- decisions that are easily made otherwise
 decided :
@@ -154,5 +176,5 @@ decided :
     -- and so does one on the other side
     × (eval 1 flagItem (Choice (Fallback (isNumber 9) (Argument 1 named-q number false)) (Argument 0 named-v number false)) one-word .outcome
     ≡ refused (refuseAt 22 0))
-unfolding xor if_then_else_ table holds fits leadBits continued scalar decodeBy decode decodeAt wellFormedAfter wellFormed null all contains same occurrences numbers concatMap firstFault isSome _>>?_ minus write sliceFrom slice _>>=_ at refuse refuseAt isMissing canCatch wrongInput combineWith listOf baseNumber sameBase baseOf isBase isOptional isList hasKind word size answerWords words elements optionalKind listKind countKind lastKind shapeOf innerBase sameKind choiceKind baseKind kindOf hasRepeat zeros namesOf shortOf longOf namedBy namedOf flagOf argumentOf positionOf positionalOf fitting repeatOf fallbackValue fallbackOf guardOf childOf caughtOf choiceOf treeOf dash equals beforeEquals behindEquals parts splitLong splitShort behindDash splitOsArgument clusterFrom pickLetter lookUp disambiguateShort flagItems argumentItems clusterItems ambiguousAt plain clusterGroup shortGroup longGroup partsGroup wordGroup splitArgument positionals joined splitFrom itemsOf bit partWords textWords itemRecord recordsFrom parsed present winner construct emptyState inScope presentAt presentFrom unused get findIn find first used remove withCurrent pickFrom pickWinner conflicts saveConflicts conflictAt conflict countPresent setScope untilPresent proposed adjacentScope span adjacentlyAvailableFrom matchShort matchLong position sameName before onlyOnce markGood currentGood stateGood took containsName matchesArg takeFlag valueText takeValue takeArg isOperand isPosWord textOf operand takePositionalWord commandText isCommand takeCommand takeCmd ended after _then_ ofKind checked visit statesOf tried missed shownName missing answer flagValue evalFlag isDigit digits unsigned numberOf parsedText failedAt parseText argumentValue evalArgument wrongPosition placedValue positionalValue evalPositional fewer swallowed parseOption evalOptional idle repeat repeated evalMany evalSome evalCount lastOf evalLast errorOf valueOf side picksFirst won chosen evalChoice evalFallback guarded evalGuard eval named-v named-q flagItem twoItems wordItem fresh after-one after-zero after-choice one-word word-used nothing forged noNames noLetters visited
+unfolding xor if_then_else_ table holds fits leadBits continued scalar decodeBy decode decodeAt wellFormedAfter wellFormed null all contains same occurrences numbers concatMap firstFault isSome _>>?_ minus write sliceFrom slice _>>=_ at refuse refuseAt isMissing canCatch wrongInput combineWith listOf baseNumber sameBase baseOf isBase isOptional isList hasKind ofKind basesOf word size answerWords words elements optionalKind listKind countKind lastKind shapeOf innerBase sameKind choiceKind baseKind kindOf hasRepeat zeros namesOf shortOf longOf namedBy namedOf flagOf argumentOf positionOf positionalOf fitting repeatOf fallbackValue fallbackOf guardOf childOf caughtOf choiceOf treeOf dash equals beforeEquals behindEquals parts splitLong splitShort behindDash splitOsArgument clusterFrom pickLetter lookUp disambiguateShort flagItems argumentItems clusterItems ambiguousAt plain clusterGroup shortGroup longGroup partsGroup wordGroup splitArgument positionals joined splitFrom itemsOf bit partWords textWords itemRecord recordsFrom parsed present winner construct emptyState inScope presentAt presentFrom unused get findIn find first used remove withCurrent pickFrom pickWinner conflicts saveConflicts conflictAt conflict countPresent setScope untilPresent proposed adjacentScope span adjacentlyAvailableFrom matchShort matchLong position sameName before onlyOnce markGood currentGood stateGood took containsName matchesArg takeFlag valueText takeValue takeArg isOperand isPosWord textOf operand takePositionalWord commandText isCommand takeCommand takeCmd ended after _then_ visit statesOf leaf refuseMissing shownName notFound flagValue evalFlag isDigit digits unsigned numberOf failedAt parseText argumentValue evalArgument wrongPosition placedValue positionalValue evalPositional fewer swallowed parseOption evalOptional idle repeat repeated evalMany evalSome evalCount lastOf evalLast valueOf side picksFirst picked won chosen evalChoice evalFallback guarded evalGuard eval named-v named-q flagItem twoItems valueItems wordItem fresh after-one after-zero after-choice one-word word-used nothing forged noNames noLetters visited gaveYes missingV
 decided = (refl, refl, refl)

@@ -6,18 +6,20 @@ use Prim.Native.Nat.{ℕ, zero, suc, _+_, _-_, _*_}
 use lib.Dec.{leb, eqb, ltb}
 use lib.ListN.{length, getElem?}
 use Rattle.utf8.specs.Utf8.{if_then_else_}
-use Rattle.rules.specs.Base.{null, all, _>>?_}
-use Rattle.rules.specs.Outcome.{Outcome, ok, refused, fault, panic, wrongKind, endless, _>>=_, at, Refusal, refuse, refuseAt, isMissing, canCatch, wrongInput, combineWith}
+use Rattle.rules.specs.Base.{null, all}
+use Rattle.rules.specs.Outcome.{Spot, Outcome, ok, refused, fault, panic, wrongKind, endless, _>>=_, at, Refusal, refuse, refuseAt, isMissing, canCatch, wrongInput, combineWith}
 use Rattle.rules.specs.Outcome.{shortLong125, shortLong126, shortLong127, parseFlag559, takeArgument679, orElse305, orElse307}
-use Rattle.rules.specs.Value.{Base, yesNo, text, number, Kind, item, BaseValue, isYes, isText, isNumber, Value, base, absent, present, nil, cons, listOf, hasKind}
+use Rattle.rules.specs.Value.{Base, yesNo, text, number, Kind, item, BaseValue, isYes, isText, isNumber, Value, base, absent, present, nil, cons, listOf}
 use Rattle.rules.specs.Tree.{Named, Position, unrestricted, strict, nonStrict, Tree, Flag, Argument, Positional, Optional, Many, Some, Count, Last, Choice, Fallback, Guard, kindOf}
 use Rattle.rules.specs.Split.{Item}
 use Rattle.rules.specs.State.{State, Picked, pickWinner, saveConflicts}
 use Rattle.rules.specs.Take.{Took, Taken, Operand, takeFlag, takeArg, takePositionalWord}
 
--- one evaluation of a node: the state it was given and the state it left
+-- one evaluation of a node: the kind worked out for it, the state it was given, how it ended and the state it left
 pub record Visit : Type 0 where
+  pub kind : Option Kind
   pub given : State
+  pub outcome : Outcome Value
   pub left : State
 
 -- How a run ended, the state it left, the tries it made, the evaluations it passed through
@@ -44,23 +46,13 @@ r then f =
       | fault x ↦ ended (fault x) (r .state)
     ])
 
--- ---- every evaluation of every node
-unfoldable pub ofKind : Option Kind → Value → Bool
-ofKind none v = false
-ofKind (some k) v = hasKind k v
-
--- a value must have the kind of its node
-unfoldable pub checked : Option Kind → Outcome Value → Outcome Value
-checked k (ok v) = if ofKind k v then ok v else fault wrongKind
-checked k (refused e) = refused e
-checked k (fault x) = fault x
-
+-- ---- every evaluation of every node is kept in the trace
 unfoldable pub visit : Tree → State → Ran Value → Ran Value
 visit t s r = record {
-  outcome = checked (kindOf t) (r .outcome);
+  outcome = r .outcome;
   state = r .state;
   tries = r .tries;
-  trace = r .trace ++ (record { given = s; left = r .state } ∷ []);
+  trace = r .trace ++ (record { kind = kindOf t; given = s; outcome = r .outcome; left = r .state } ∷ []);
 }
 
 -- the states passed through: those any node is given or leaves
@@ -68,17 +60,17 @@ unfoldable pub statesOf : List Visit → List State
 statesOf [] = []
 statesOf (v ∷ vs) = v .given ∷ v .left ∷ statesOf vs
 
--- ---- kinds 1 to 3: a try is one evaluation
-unfoldable pub tried : State → Outcome (Took (Outcome Value)) → Ran Value
-tried s o = elim o [
-  | ok t ↦ record { outcome = t .answer; state = t .state; tries = 1; trace = [] }
+-- ---- kinds 1 to 3: what a take gives, and what follows from its answer in the state it left. A try is one evaluation
+unfoldable pub leaf : {A : Type 0} → State → Outcome (Took A) → (A → State → Outcome Value) → Ran Value
+leaf s o follows = elim o [
+  | ok t ↦ record { outcome = follows (t .answer) (t .state); state = t .state; tries = 1; trace = [] }
   | refused e ↦ record { outcome = refused e; state = s; tries = 1; trace = [] }
   | fault x ↦ record { outcome = fault x; state = s; tries = 1; trace = [] }
 ]
 
--- 20 Missing, by the node that looked and its scope
-unfoldable pub missed : ℕ → State → Refusal
-missed n s = record { number = 20; place = none; missing = record { node = n; start = s .start; end = s .end } ∷ [] }
+-- 20 Missing, by the node that looked in vain and its scope
+unfoldable pub refuseMissing : ℕ → State → Refusal
+refuseMissing n s = record { number = 20; place = none; missing = record { node = n; start = s .start; end = s .end } ∷ [] }
 
 -- `ShortLong::try_from`: whether there is a name to show. A lookup that follows the test for an empty list cannot fail
 unfoldable pub shownName : Named → Outcome Bool
@@ -89,23 +81,19 @@ shownName m =
     then (at shortLong126 (getElem? (m .shorts) 0) >>= λ _. ok true)
     else (at shortLong127 (getElem? (m .shorts) 0) >>= λ _. at shortLong127 (getElem? (m .longs) 0) >>= λ _. ok true))
 
--- a leaf without a name stops at the given spot
-unfoldable pub missing : Outcome Value → ℕ → Named → State → Outcome Value
-missing unnamed n m s = shownName m >>= λ shown. if shown then refused (missed n s) else unnamed
-
-unfoldable pub answer : State → Outcome Value → Outcome (Took (Outcome Value))
-answer s o = ok (record { answer = o; state = s })
+-- no item has its names: 20; a leaf that has no name to show stops at the given spot
+unfoldable pub notFound : Spot → ℕ → Named → State → Outcome Value
+notFound unnamed n m s = shownName m >>= λ shown. if shown then refused (refuseMissing n s) else fault (panic unnamed)
 
 -- a required flag's value is yes; a switch that is missing is no
-unfoldable pub flagValue : ℕ → Named → Bool → Took Bool → Outcome Value
-flagValue n m switch t =
-    if t .answer
+unfoldable pub flagValue : ℕ → Named → Bool → Bool → State → Outcome Value
+flagValue n m switch there s =
+    if there
     then ok (base (isYes true))
-    else (if switch then ok (base (isYes false)) else missing (fault (panic parseFlag559)) n m (t .state))
+    else (if switch then ok (base (isYes false)) else notFound parseFlag559 n m s)
 
 unfoldable pub evalFlag : ℕ → List Item → ℕ → Named → Bool → State → Ran Value
-evalFlag mark items n m switch s =
-    tried s (takeFlag mark items m s >>= λ t. answer (t .state) (flagValue n m switch t))
+evalFlag mark items n m switch s = leaf s (takeFlag mark items m s) (flagValue n m switch)
 
 -- Number: one optional `+`, then one or more digits, at most 4,294,967,295
 unfoldable pub isDigit : ℕ → Bool
@@ -123,27 +111,21 @@ unfoldable pub numberOf : List ℕ → Option ℕ
 numberOf [] = none
 numberOf (b ∷ s) = if eqb b 43 then unsigned s else unsigned (b ∷ s)
 
--- `parse_os_str`: a text stands at its place; 25 at `current`
-unfoldable pub parsedText : Base → ℕ → List ℕ → Option BaseValue
-parsedText yesNo i t = none
-parsedText text i t = some (isText (item i))
-parsedText number i t = numberOf t >>? λ n. some (isNumber n)
-
 unfoldable pub failedAt : ℕ → Option ℕ → Refusal
 failedAt n place = record { number = n; place = place; missing = [] }
 
+-- `parse_os_str`: a text stands at its place; a number, or 25 at `current`. No yes/no is read from a text
 unfoldable pub parseText : Base → ℕ → List ℕ → State → Outcome Value
-parseText b i t s = elim (parsedText b i t) [ none ↦ refused (failedAt 25 (s .current)) | some v ↦ ok (base v) ]
+parseText yesNo i t s = fault wrongKind
+parseText text i t s = ok (base (isText (item i)))
+parseText number i t s = elim (numberOf t) [ none ↦ refused (failedAt 25 (s .current)) | some n ↦ ok (base (isNumber n)) ]
 
-unfoldable pub argumentValue : ℕ → Named → Base → Took (Option Taken) → Outcome Value
-argumentValue n m b t = elim (t .answer) [
-  | none ↦ missing (fault (panic takeArgument679)) n m (t .state)
-  | some x ↦ parseText b (x .place) (x .text) (t .state)
-]
+unfoldable pub argumentValue : ℕ → Named → Base → Option Taken → State → Outcome Value
+argumentValue n m b none s = notFound takeArgument679 n m s
+argumentValue n m b (some x) s = parseText b (x .place) (x .text) s
 
 unfoldable pub evalArgument : ℕ → List Item → ℕ → Named → Base → Bool → State → Ran Value
-evalArgument mark items n m b adjacent s =
-    tried s (takeArg mark items m adjacent s >>= λ t. answer (t .state) (argumentValue n m b t))
+evalArgument mark items n m b adjacent s = leaf s (takeArg mark items m adjacent s) (argumentValue n m b)
 
 -- 23 StrictPos, 24 NonStrictPos: the word, which remains used
 unfoldable pub wrongPosition : Position → Bool → Option ℕ
@@ -157,15 +139,12 @@ placedValue p b x s = elim (wrongPosition p (x .strict)) [
   | some n ↦ refused (refuseAt n (x .place))
 ]
 
-unfoldable pub positionalValue : ℕ → Position → Base → Took (Option Operand) → Outcome Value
-positionalValue n p b t = elim (t .answer) [
-  | none ↦ refused (missed n (t .state))
-  | some x ↦ placedValue p b x (t .state)
-]
+unfoldable pub positionalValue : ℕ → Position → Base → Option Operand → State → Outcome Value
+positionalValue n p b none s = refused (refuseMissing n s)
+positionalValue n p b (some x) s = placedValue p b x s
 
 unfoldable pub evalPositional : ℕ → List Item → ℕ → Position → Base → State → Ran Value
-evalPositional mark items n p b s =
-    tried s (takePositionalWord mark items s >>= λ t. answer (t .state) (positionalValue n p b t))
+evalPositional mark items n p b s = leaf s (takePositionalWord mark items s) (positionalValue n p b)
 
 -- ---- `parse_option`
 -- fewer places remain than after the last counted success; none is before the first
@@ -228,51 +207,48 @@ lastOf (v ∷ vs) = elim (lastOf vs) [ none ↦ some v | some w ↦ some w ]
 unfoldable pub evalLast : (State → Ran Value) → State → Ran Value
 evalLast run s = repeated false true run s then λ vs t. elim (lastOf vs) [ none ↦ run t | some v ↦ ended (ok v) t ]
 
--- ---- choice: both on copies, by `this_or_that_picks_first`
-unfoldable pub errorOf : Outcome Value → Option Refusal
-errorOf (ok v) = none
-errorOf (refused e) = some e
-errorOf (fault x) = none
+-- ---- choice: both on copies
+unfoldable pub side : Bool → Option ℕ → Outcome Picked
+side first place = ok (record { first = first; place = place })
+
+-- `this_or_that_picks_first`, by how both sides ended: a success that used nothing gives way to a refusal for wrong input. The states
+-- are the one that was given and the two that were left
+unfoldable pub picksFirst : State → State → State → Outcome Value → Outcome Value → Outcome Picked
+picksFirst s a b (ok v) (ok w) =
+    if eqb (s .remaining) (a .remaining) && eqb (s .remaining) (b .remaining) then side true none else ok (pickWinner a b)
+picksFirst s a b (ok v) (refused e) = if eqb (s .remaining) (a .remaining) && wrongInput e then refused e else side true none
+picksFirst s a b (refused e) (ok w) = if eqb (s .remaining) (b .remaining) && wrongInput e then refused e else side false none
+picksFirst s a b (refused e) (refused e′) = refused (combineWith e e′)
+picksFirst s a b (fault x) o = fault x
+picksFirst s a b (ok v) (fault x) = fault x
+picksFirst s a b (refused e) (fault x) = fault x
+
+unfoldable pub won : State → State → Option ℕ → State
+won s loser none = s
+won s loser (some w) = saveConflicts s loser w
 
 unfoldable pub valueOf : Outcome Value → Option Value
 valueOf (ok v) = some v
 valueOf (refused e) = none
 valueOf (fault x) = none
 
-unfoldable pub side : Bool → Option ℕ → Outcome Picked
-side first place = ok (record { first = first; place = place })
+-- the side that was picked: its value is there, so neither unwrap can fail
+unfoldable pub picked : Ran Value → Ran Value → Picked → Ran Value
+picked a b p =
+    if p .first
+    then ended (at orElse305 (valueOf (a .outcome))) (won (a .state) (b .state) (p .place))
+    else ended (at orElse307 (valueOf (b .outcome))) (won (b .state) (a .state) (p .place))
 
--- a success that used nothing gives way to a refusal for wrong input
-unfoldable pub picksFirst : Option Refusal → Option Refusal → State → State → State → Outcome Picked
-picksFirst none none s a b =
-    if eqb (s .remaining) (a .remaining) && eqb (s .remaining) (b .remaining) then side true none else ok (pickWinner a b)
-picksFirst none (some e) s a b =
-    if eqb (s .remaining) (a .remaining) && wrongInput e then refused e else side true none
-picksFirst (some e) none s a b =
-    if eqb (s .remaining) (b .remaining) && wrongInput e then refused e else side false none
-picksFirst (some e) (some e′) s a b = refused (combineWith e e′)
-
-unfoldable pub won : State → State → Option ℕ → State
-won s loser none = s
-won s loser (some w) = saveConflicts s loser w
-
--- refusing, it leaves the state it was given; after a success the winner's value is there, so neither unwrap can fail
+-- refusing, it leaves the state it was given
 unfoldable pub chosen : State → Ran Value → Ran Value → Ran Value
-chosen s a b = elim (picksFirst (errorOf (a .outcome)) (errorOf (b .outcome)) s (a .state) (b .state)) [
-  | ok p ↦ if p .first
-      then ended (at orElse305 (valueOf (a .outcome))) (won (a .state) (b .state) (p .place))
-      else ended (at orElse307 (valueOf (b .outcome))) (won (b .state) (a .state) (p .place))
+chosen s a b = elim (picksFirst s (a .state) (b .state) (a .outcome) (b .outcome)) [
+  | ok p ↦ picked a b p
   | refused e ↦ ended (refused e) s
   | fault x ↦ ended (fault x) s
 ]
 
--- a fault of either side is the choice's
 unfoldable pub evalChoice : State → Ran Value → Ran Value → Ran Value
-evalChoice s a b = after a (after b (elim (a .outcome) [
-  | fault x ↦ ended (fault x) s
-  | ok v ↦ elim (b .outcome) [ fault x ↦ ended (fault x) s | ok w ↦ chosen s a b | refused e ↦ chosen s a b ]
-  | refused e ↦ elim (b .outcome) [ fault x ↦ ended (fault x) s | ok w ↦ chosen s a b | refused e′ ↦ chosen s a b ]
-]))
+evalChoice s a b = after a (after b (chosen s a b))
 
 -- ---- fallback gives its value, state put back, for 20, 21, 24; refusing, it leaves the state it was given
 unfoldable pub evalFallback : BaseValue → State → Ran Value → Ran Value

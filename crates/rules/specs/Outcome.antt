@@ -27,7 +27,7 @@ pub data Fault : Type 0 where
   wrongKind endless : Fault
 
 -- The Rust's MissingItem: the node that looked in vain, and the scope it looked in
-pub record Missing : Type 0 where
+pub record MissingItem : Type 0 where
   pub node : ℕ
   pub start : ℕ
   pub end : ℕ
@@ -36,7 +36,7 @@ pub record Missing : Type 0 where
 pub record Refusal : Type 0 where
   pub number : ℕ
   pub place : Option ℕ
-  pub missing : List Missing
+  pub missing : List MissingItem
 
 pub data Outcome (A : Type 0) : Type 0 where
   ok : A → Outcome A

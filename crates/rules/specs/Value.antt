@@ -1,6 +1,7 @@
 -- Kinds, values and answer words.
 use mathlib.Core.Bool.{Bool, true, false, _&&_}
 use mathlib.Core.List.{List, [], _∷_, _++_}
+use mathlib.Core.Option.{Option, some, none}
 use Prim.Native.Nat.{ℕ, suc, _+_}
 use lib.Dec.{eqb}
 use Rattle.utf8.specs.Utf8.{if_then_else_}
@@ -48,7 +49,7 @@ baseOf (isYes b) = yesNo
 baseOf (isText t) = text
 baseOf (isNumber n) = number
 
--- A value is of a kind:
+-- A value has the shape of a kind. What its numbers and texts mean is in Kinds
 unfoldable pub isBase : Base → Value → Bool
 isBase b (base v) = sameBase b (baseOf v)
 isBase b absent = false
@@ -76,6 +77,19 @@ hasKind (optional b) v = isOptional (isBase b) v
 hasKind (list b) v = isList (isBase b) v
 hasKind (listOfOptional b) v = isList (isOptional (isBase b)) v
 hasKind (optionalList b) v = isOptional (isList (isBase b)) v
+
+-- a node whose children do not fit has no kind, and no value is of it
+unfoldable pub ofKind : Option Kind → Value → Bool
+ofKind none v = false
+ofKind (some k) v = hasKind k v
+
+-- the base values inside a value
+unfoldable pub basesOf : Value → List BaseValue
+basesOf (base v) = v ∷ []
+basesOf absent = []
+basesOf (present v) = basesOf v
+basesOf nil = []
+basesOf (cons v w) = basesOf v ++ basesOf w
 
 -- Answer words: yes 1, no 0; a number itself; text: its item place, or 256 + the name record
 unfoldable pub word : BaseValue → ℕ

@@ -6,10 +6,10 @@ use mathlib.Core.Option.{Option, some, none}
 use Prim.Native.Nat.{ℕ}
 use lib.Dec.{eqb}
 use Rattle.utf8.specs.Utf8.{if_then_else_}
-use Rattle.rules.specs.Outcome.{Outcome, ok, refused, fault, at, orElse305, orElse307, Refusal, refuse, canCatch}
+use Rattle.rules.specs.Outcome.{Outcome, ok, refused, fault, at, orElse305, orElse307, refuse, canCatch}
 use Rattle.rules.specs.Value.{BaseValue, isNumber, Value, base, listOf}
 use Rattle.rules.specs.State.{State, Picked, pickWinner}
-use Rattle.rules.specs.Eval.{Ran, ended, after, fewer, swallowed, failedAt, side, valueOf, won}
+use Rattle.rules.specs.Eval.{Ran, ended, after, fewer, swallowed, failedAt, side, valueOf, picked}
 use Rattle.rules.specs.declared.Refused.{Refused}
 use Rattle.error.specs.Refusals.{refusedOf, refusalOf}
 use Rattle.structs.specs.declared.Counting.{Counting}
@@ -63,10 +63,11 @@ unfoldable pub guardBy : ℕ → ℕ → State → Outcome Value
 guardBy number n s = if eqb number 0 then ok (base (isNumber n)) else refused (failedAt number (s .current))
 
 -- ---- choice
--- how a side ended: no refusal, or this one, of which number and place are handed about
-abbrev pub EndedBy : Option Refusal → Refused → Type 0
-EndedBy none x = x .number ≡ 0
-EndedBy (some e) x = (refusedOf e ≡ x) × (x .number ≡ 0 → ⊥)
+-- how a side ended: with a value, or with a refusal, of which number and place are handed about
+abbrev pub EndedBy : Outcome Value → Refused → Type 0
+EndedBy (ok v) x = x .number ≡ 0
+EndedBy (refused e) x = (refusedOf e ≡ x) × (x .number ≡ 0 → ⊥)
+EndedBy (fault z) x = ⊥
 
 -- what was missing is forgotten
 unfoldable pub forgotten : {A : Type 0} → Outcome A → Outcome A
@@ -80,17 +81,10 @@ pickBy Second a b = side false none
 pickBy Winner a b = ok (pickWinner a b)
 pickBy (Neither e) a b = refused (refusalOf e)
 
--- the side that won, with its value and its state
-unfoldable pub winning : Picked → Ran Value → Ran Value → Ran Value
-winning p a b =
-    if p .first
-    then ended (at orElse305 (valueOf (a .outcome))) (won (a .state) (b .state) (p .place))
-    else ended (at orElse307 (valueOf (b .outcome))) (won (b .state) (a .state) (p .place))
-
 unfoldable pub chosenBy : Pick → State → Ran Value → Ran Value → Ran Value
 chosenBy First s a b = ended (at orElse305 (valueOf (a .outcome))) (a .state)
 chosenBy Second s a b = ended (at orElse307 (valueOf (b .outcome))) (b .state)
-chosenBy Winner s a b = winning (pickWinner (a .state) (b .state)) a b
+chosenBy Winner s a b = picked a b (pickWinner (a .state) (b .state))
 chosenBy (Neither e) s a b = ended (refused (refusalOf e)) s
 
 unfoldable pub forgottenRan : {A : Type 0} → Ran A → Ran A

@@ -13,14 +13,14 @@ use Rattle.rules.specs.Base.{null}
 use Rattle.rules.specs.Outcome.{Spot, orElse305, orElse307, Outcome, ok, refused, fault, at, Refusal, refuse, isMissing, canCatch, wrongInput, combineWith}
 use Rattle.rules.specs.Value.{BaseValue, Value, base, listOf}
 use Rattle.rules.specs.State.{State, Picked, pickWinner}
-use Rattle.rules.specs.Eval.{Ran, ended, after, _then_, fewer, swallowed, parseOption, idle, repeated, evalSome, evalFallback, errorOf, valueOf, side, picksFirst, won, chosen}
+use Rattle.rules.specs.Eval.{Ran, ended, after, _then_, fewer, swallowed, parseOption, idle, repeated, evalSome, evalFallback, side, picksFirst, valueOf, picked, won, chosen}
 use Rattle.rules.specs.declared.Refused.{Refused}
 use Rattle.error.specs.Refusals.{refusedOf, refusalOf, combine-forgets}
 use Rattle.structs.specs.declared.Counting.the-variants.{Counted, Uncounted, Absent, PassedOn}
 use Rattle.structs.specs.declared.Fallback.the-variants.{Own, Refusal as Passed}
 use Rattle.structs.specs.declared.Pick.{Pick}
 use Rattle.structs.specs.declared.Pick.the-variants.{First, Second, Winner, Neither}
-use Rattle.structs.specs.Decisions.{withRemaining, countedOf, optionWay, someOf, optionBy, someBy, fallbackWay, fallbackBy, EndedBy, forgotten, pickBy, winning, chosenBy, forgottenRan}
+use Rattle.structs.specs.Decisions.{withRemaining, countedOf, optionWay, someOf, optionBy, someBy, fallbackWay, fallbackBy, EndedBy, forgotten, pickBy, chosenBy, forgottenRan}
 
 -- ---- what was counted last
 pub counted-none : countedOf 4294967295 ≡ none
@@ -150,21 +150,21 @@ if-forgets false q r h k = k
 
 module _ (s : State) (a b : Ran Value) where
   by : Outcome Picked → Ran Value
-  by o = elim o [ ok p ↦ winning p a b | refused e ↦ ended (refused e) s | fault x ↦ ended (fault x) s ]
+  by o = elim o [ ok p ↦ picked a b p | refused e ↦ ended (refused e) s | fault x ↦ ended (fault x) s ]
 
-  winning-forgets : (p : Picked) → forgottenRan (winning p a b) ≡ winning p a b
-  unfolding winning
-  winning-forgets p =
+  picked-forgets : (p : Picked) → forgottenRan (picked a b p) ≡ picked a b p
+  unfolding picked
+  picked-forgets p =
       if-forgets (p .first) _ _ (ended-forgets orElse305 (valueOf (a .outcome)) _) (ended-forgets orElse307 (valueOf (b .outcome)) _)
 
   by-forgets : (o : Outcome Picked) → forgottenRan (by o) ≡ by (forgotten o)
   unfolding by forgottenRan forgotten ended
-  by-forgets (ok p) = winning-forgets p
+  by-forgets (ok p) = picked-forgets p
   by-forgets (refused e) = refl
   by-forgets (fault x) = refl
 
   by-pick : (r : Pick) → by (pickBy r (a .state) (b .state)) ≡ chosenBy r s a b
-  unfolding by pickBy chosenBy winning side won if_then_else_
+  unfolding by pickBy chosenBy picked side won if_then_else_
   by-pick First = refl
   by-pick Second = refl
   by-pick Winner = refl
@@ -172,12 +172,10 @@ module _ (s : State) (a b : Ran Value) where
 
   pub chosen-by :
       (r : Pick)
-      → forgotten (picksFirst (errorOf (a .outcome)) (errorOf (b .outcome)) s (a .state) (b .state))
-      ≡ pickBy r (a .state) (b .state)
+      → forgotten (picksFirst s (a .state) (b .state) (a .outcome) (b .outcome)) ≡ pickBy r (a .state) (b .state)
       → forgottenRan (chosen s a b) ≡ chosenBy r s a b
-  unfolding chosen by winning
-  chosen-by r h =
-      by-forgets (picksFirst (errorOf (a .outcome)) (errorOf (b .outcome)) s (a .state) (b .state)) ∙ ap by h ∙ by-pick r
+  unfolding chosen by
+  chosen-by r h = by-forgets (picksFirst s (a .state) (b .state) (a .outcome) (b .outcome)) ∙ ap by h ∙ by-pick r
 
 -- ---- choice, as the code tests
 wrong-number : (e : Refusal) (x : Refused) → refusedOf e ≡ x → wrongInput e ≡ wrongInput (refuse (x .number))
@@ -187,74 +185,82 @@ wrong-number e x h = ap (λ (y : Refused). wrongInput (refuse (y .number))) h
 same : {k l m n : ℕ} → k ≡ m → l ≡ n → eqb k l ≡ eqb m n
 same p q = ap₂ (λ (u v : ℕ). eqb u v) p q
 
-module _ (e f : Option Refusal) (s a b : State) (x y : Refused) (given left-a left-b : ℕ) (r : Pick) where
+module _ (o u : Outcome Value) (s a b : State) (x y : Refused) (given left-a left-b : ℕ) (r : Pick) where
   abbrev Picks : Type 0
   Picks =
-      EndedBy e x
-      → EndedBy f y
+      EndedBy o x
+      → EndedBy u y
       → s .remaining ≡ given
       → a .remaining ≡ left-a
       → b .remaining ≡ left-b
-      → forgotten (picksFirst e f s a b) ≡ pickBy r a b
+      → forgotten (picksFirst s a b o u) ≡ pickBy r a b
 
 pub picks-two :
-    (e f : Option Refusal) (s a b : State) (x y : Refused) (g l m : ℕ) (r : Pick)
+    (o u : Outcome Value) (s a b : State) (x y : Refused) (g l m : ℕ) (r : Pick)
     → x .number ≡ 0
     → y .number ≡ 0
     → r ≡ (if eqb g l && eqb g m then First else Winner)
-    → Picks e f s a b x y g l m r
+    → Picks o u s a b x y g l m r
 unfolding picksFirst forgotten pickBy side if_then_else_
-picks-two none none s a b x y g l m r z w i h k p q t = rw (i, same p q, same p t) (go (eqb g l && eqb g m))
+picks-two (ok v) (ok w′) s a b x y g l m r z w i h k p q t = rw (i, same p q, same p t) (go (eqb g l && eqb g m))
   where
     go : (u : Bool) → forgotten (if u then side true none else ok (pickWinner a b)) ≡ pickBy (if u then First else Winner) a b
     go true = refl
     go false = refl
-picks-two none (some e) s a b x y g l m r z w i h k p q t = absurd (k .1 w)
-picks-two (some e) f s a b x y g l m r z w i h k p q t = absurd (h .1 z)
+picks-two (ok v) (refused e) s a b x y g l m r z w i h k p q t = absurd (k .1 w)
+picks-two (refused e) u s a b x y g l m r z w i h k p q t = absurd (h .1 z)
+picks-two (ok v) (fault e) s a b x y g l m r z w i h k p q t = absurd k
+picks-two (fault e) u s a b x y g l m r z w i h k p q t = absurd h
 
 pub picks-first :
-    (e f : Option Refusal) (s a b : State) (x y : Refused) (g l m : ℕ) (r : Pick)
+    (o u : Outcome Value) (s a b : State) (x y : Refused) (g l m : ℕ) (r : Pick)
     → x .number ≡ 0
     → (y .number ≡ 0 → ⊥)
     → r ≡ (if eqb g l && wrongInput (refuse (y .number)) then Neither y else First)
-    → Picks e f s a b x y g l m r
+    → Picks o u s a b x y g l m r
 unfolding picksFirst forgotten pickBy side if_then_else_
-picks-first none none s a b x y g l m r z w i h k p q t = absurd (w k)
-picks-first none (some e) s a b x y g l m r z w i h k p q t =
+picks-first (ok v) (ok w′) s a b x y g l m r z w i h k p q t = absurd (w k)
+picks-first (ok v) (refused e) s a b x y g l m r z w i h k p q t =
     rw (i, same p q, wrong-number e y (k .0)) (go (eqb g l && wrongInput (refuse (y .number))))
   where
     go : (u : Bool) → forgotten (if u then refused e else side true none) ≡ pickBy (if u then Neither y else First) a b
     go true = ap (λ (v : Refused). refused (refusalOf v)) (k .0)
     go false = refl
-picks-first (some e) f s a b x y g l m r z w i h k p q t = absurd (h .1 z)
+picks-first (refused e) u s a b x y g l m r z w i h k p q t = absurd (h .1 z)
+picks-first (ok v) (fault e) s a b x y g l m r z w i h k p q t = absurd k
+picks-first (fault e) u s a b x y g l m r z w i h k p q t = absurd h
 
 pub picks-second :
-    (e f : Option Refusal) (s a b : State) (x y : Refused) (g l m : ℕ) (r : Pick)
+    (o u : Outcome Value) (s a b : State) (x y : Refused) (g l m : ℕ) (r : Pick)
     → (x .number ≡ 0 → ⊥)
     → y .number ≡ 0
     → r ≡ (if eqb g m && wrongInput (refuse (x .number)) then Neither x else Second)
-    → Picks e f s a b x y g l m r
+    → Picks o u s a b x y g l m r
 unfolding picksFirst forgotten pickBy side if_then_else_
-picks-second none f s a b x y g l m r z w i h k p q t = absurd (z h)
-picks-second (some e) none s a b x y g l m r z w i h k p q t =
+picks-second (ok v) u s a b x y g l m r z w i h k p q t = absurd (z h)
+picks-second (refused e) (ok w′) s a b x y g l m r z w i h k p q t =
     rw (i, same p t, wrong-number e x (h .0)) (go (eqb g m && wrongInput (refuse (x .number))))
   where
     go : (u : Bool) → forgotten (if u then refused e else side false none) ≡ pickBy (if u then Neither x else Second) a b
     go true = ap (λ (v : Refused). refused (refusalOf v)) (h .0)
     go false = refl
-picks-second (some e) (some f) s a b x y g l m r z w i h k p q t = absurd (k .1 w)
+picks-second (refused e) (refused f) s a b x y g l m r z w i h k p q t = absurd (k .1 w)
+picks-second (refused e) (fault f) s a b x y g l m r z w i h k p q t = absurd k
+picks-second (fault e) u s a b x y g l m r z w i h k p q t = absurd h
 
 pub picks-neither :
-    (e f : Option Refusal) (s a b : State) (x y : Refused) (g l m : ℕ) (c : Refused)
+    (o u : Outcome Value) (s a b : State) (x y : Refused) (g l m : ℕ) (c : Refused)
     → (x .number ≡ 0 → ⊥)
     → (y .number ≡ 0 → ⊥)
     → c ≡ refusedOf (combineWith (refusalOf x) (refusalOf y))
-    → Picks e f s a b x y g l m (Neither c)
+    → Picks o u s a b x y g l m (Neither c)
 unfolding picksFirst forgotten pickBy
-picks-neither none f s a b x y g l m c z w i h k p q t = absurd (z h)
-picks-neither (some e) none s a b x y g l m c z w i h k p q t = absurd (w k)
-picks-neither (some e) (some f) s a b x y g l m c z w i h k p q t =
+picks-neither (ok v) u s a b x y g l m c z w i h k p q t = absurd (z h)
+picks-neither (refused e) (ok w′) s a b x y g l m c z w i h k p q t = absurd (w k)
+picks-neither (refused e) (refused f) s a b x y g l m c z w i h k p q t =
     ap (λ (v : Refused). refused (refusalOf v))
     (combine-forgets e f
     ∙ ap₂ (λ (v u : Refused). refusedOf (combineWith (refusalOf v) (refusalOf u))) (h .0) (k .0)
     ∙ sym i)
+picks-neither (refused e) (fault f) s a b x y g l m c z w i h k p q t = absurd k
+picks-neither (fault e) u s a b x y g l m c z w i h k p q t = absurd h

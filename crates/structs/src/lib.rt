@@ -2,11 +2,10 @@
 ghost use mathlib.Core.Path.{_≡_};
 ghost use mathlib.Core.Bool.{Bool, true, false, not, _&&_};
 ghost use mathlib.Core.List.{List};
-ghost use mathlib.Core.Option.{Option};
 ghost use lib.Dec.{eqb};
 ghost use lib.ListN.{length};
 ghost use Rattle.utf8.specs.Utf8.{if_then_else_};
-ghost use Rattle.rules.specs.Outcome.{ok, Refusal, refuse, wrongInput};
+ghost use Rattle.rules.specs.Outcome.{Outcome, ok, refuse, wrongInput};
 ghost use Rattle.rules.specs.Value.{Value, base, isNumber};
 ghost use Rattle.rules.specs.State.{State};
 ghost use Rattle.rules.specs.Eval.{Ran, _then_, fewer, swallowed, idle, guarded, repeated, evalSome, picksFirst};
@@ -160,13 +159,13 @@ pub fn this_or_that_picks_first(
     left_a: u32,
     left_b: u32,
 ) -> Pick
-    ensures { λ r. ⌜ ((e f : Option Refusal) (s a b : State)
-        → EndedBy e «err_a»
-        → EndedBy f «err_b»
+    ensures { λ r. ⌜ ((o u : Outcome Value) (s a b : State)
+        → EndedBy o «err_a»
+        → EndedBy u «err_b»
         → s .remaining ≡ given
         → a .remaining ≡ «left_a»
         → b .remaining ≡ «left_b»
-        → forgotten (picksFirst e f s a b) ≡ pickBy r a b) ⌝ }
+        → forgotten (picksFirst s a b o u) ≡ pickBy r a b) ⌝ }
 {
     if err_a.number == 0 {
         if err_b.number == 0 {
