@@ -37,7 +37,7 @@ pub form-long : (b : List ℕ) → ((a : Accepted) × (checkForm b ≡ accepted 
 form-long b e = accepted-length b (e .0) (e .1)
 
 pub form-eight : (b : List ℕ) → ((a : Accepted) × (checkForm b ≡ accepted a)) → 8 ≤ length b
-form-eight b e = omega (arith, well-made b (e .0) (e .1) .exact)
+form-eight b e = omega (arith, well-made b (e .0) (e .1) .counts .exact)
 
 pub name-below : (b : List ℕ) (k n : ℕ) → n ≡ nameCount b → k < n → k < nameCount b
 name-below b k n m h = omega (arith, m, h)

@@ -40,7 +40,7 @@ pub check-long : (b : List ℕ) (r : Refused) → r ≡ checkCode (checkForm b) 
 check-long b r e z = let (a, h) = check-accepted b r e z in accepted-length b a h
 
 pub check-eight : (b : List ℕ) (r : Refused) → r ≡ checkCode (checkForm b) → r .number ≡ 0 → 8 ≤ length b
-check-eight b r e z = let (a, h) = check-accepted b r e z in omega (arith, well-made b a h .exact)
+check-eight b r e z = let (a, h) = check-accepted b r e z in omega (arith, well-made b a h .counts .exact)
 
 pub node-below : (b : List ℕ) (k n : ℕ) → n ≡ nodeCount b → k < n → k < nodeCount b
 node-below b k n m h = omega (arith, m, h)

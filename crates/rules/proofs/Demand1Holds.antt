@@ -1,4 +1,4 @@
--- Demand 1: every input is answered; it is run exactly if it is ready.
+-- Demand 1: every input is answered; it is run exactly if it is ready, and else refused by what is at fault.
 use mathlib.Core.Bool.{Bool, true, false, _||_, true≢false}
 use mathlib.Core.List.{List, []}
 use mathlib.Core.Logic.{_⊎_, inl, inr, ⊎-elim}
@@ -13,17 +13,17 @@ use Rattle.utf8.specs.Utf8.{if_then_else_}
 use Rattle.rules.specs.Base.{numbers}
 use Rattle.rules.specs.Outcome.{Outcome, ok, refused, fault, Refusal, _>>=_}
 use Rattle.rules.specs.Value.{Value, answerWords}
-use Rattle.rules.specs.Sheet.{sheetFault, sheetGood, argumentCount, arguments}
+use Rattle.rules.specs.Sheet.{sheetFault, arguments}
 use Rattle.rules.specs.Form.{Form, readForm, fieldCount}
 use Rattle.rules.specs.Accept.{Checked, accepted, refusedAt, Accepted, checkForm}
-use Rattle.rules.specs.Outcome.{refuseAt}
-use Rattle.rules.specs.State.{emptyState}
 use Rattle.rules.specs.Eval.{ended}
 use Rattle.rules.specs.Run.{Line, tooMany, padded, refusedInput, report, reportWith, shortSlices, split, runLine, runChecked, run}
-use Rattle.rules.specs.Answered.{Ready, InputNumber, Demand1}
+use Rattle.rules.specs.Answered.{SheetFault, manyArguments, badSheet, AtFault, badForm, sheetAtFault, shortSlice, Ready, Demand1}
 use Rattle.rules.proofs.Acceptance.{accepted-form, accepted-fields}
-use Rattle.rules.proofs.WellMadeLaws.{well-made, refused-not-made, check-numbers}
-use Rattle.rules.proofs.SplitLaws.{some≢none, ok-injective, LineGood, split-line, line-law, line-refusal}
+use Rattle.rules.proofs.WellMadeLaws.{well-made, refused-not-made, check-fault, check-numbers}
+use Rattle.rules.proofs.SheetLaws.{sheet-made, made-sheet, sheet-fault}
+use Rattle.rules.proofs.InputFaults.{padded-nil, cleared-left, line-fault, line-left}
+use Rattle.rules.proofs.SplitLaws.{some≢none, ok-injective, LineGood, split-line, line-law}
 use Rattle.rules.proofs.EvalSound.{Any}
 use Rattle.rules.proofs.Fields.{RunsAll}
 use Rattle.rules.proofs.Demand3Holds.{line-good, line-runs}
@@ -43,32 +43,37 @@ unfolding readForm
 few-fields b a e =
     let w = well-made b a e in
     let h = accepted-fields b a e ∙ ap (λ (f : Form). length (f .fields)) (accepted-form b a e) ∙ length-map (numbers (fieldCount b) 0) _ ∙ numbers-length (fieldCount b) 0 in
-    omega (arith, h, w .fields .1)
+    omega (arith, h, w .counts .fields .1)
 
 -- ---- refused because of the input
 -- the report of a refusal from 1 to 7
-input-refused : (b s : List ℕ) (ni na n : ℕ) (k : Option ℕ) → run b s ni na ≡ ok (refusedInput ni na n k) → InputNumber n → (Ready b s ni na → ⊥) → Demand1 b s ni na
+input-refused :
+    (b s : List ℕ) (ni na n : ℕ) (k : Option ℕ)
+    → run b s ni na ≡ ok (refusedInput ni na n k)
+    → AtFault b s ni na n k
+    → n ≤ 8
+    → (Ready b s ni na → ⊥)
+    → Demand1 b s ni na
 unfolding refusedInput
-input-refused b s ni na n k e h unready = record {
+input-refused b s ni na n k e h small unready = record {
   report = refusedInput ni na n k;
   answered = e;
-  number = inr (unready, h, record { tries = refl; words = refl; answers = refl; cleared = λ _. (refl, refl) });
+  number = inr (unready, h, record { tries = refl; words = refl; answers = padded-nil na; items = cleared-left b s ni n small });
   items = padded-length ni [] (omega arith);
   answers = padded-length na [] (omega arith);
 }
 
-sheet-numbers : (s : List ℕ) → 0 < sheetFault s → InputNumber (sheetFault s)
-unfolding sheetFault if_then_else_
-sheet-numbers s = go (ltb (length s) 2) (ltb 256 (argumentCount s)) (sheetGood s)
-  where
-    Says : ℕ → Type 0
-    Says n = 0 < n → InputNumber n
+fault-small : (s : List ℕ) (n : ℕ) → SheetFault s n → n ≤ 8
+fault-small s n (manyArguments c h) = omega arith
+fault-small s n (badSheet m h) = omega arith
 
-    go : (a b c : Bool) → Says (if a then 5 else (if b then 6 else (if c then 0 else 5)))
-    go true b c h = (omega arith, omega arith)
-    go false true c h = (omega arith, omega arith)
-    go false false true h = (omega arith, omega arith)
-    go false false false h = (omega arith, omega arith)
+short-slice : (ni na : ℕ) → shortSlices ni na ≡ true → (ni < 1792) ⊎ (na < 8240)
+unfolding shortSlices
+short-slice ni na = go (ltb ni 1792) refl
+  where
+    go : (t : Bool) → ltb ni 1792 ≡ t → (t || ltb na 8240) ≡ true → (ni < 1792) ⊎ (na < 8240)
+    go true h e = inl (ltb-true ni 1792 h)
+    go false h e = inr (ltb-true na 8240 e)
 
 long-slices : (ni na : ℕ) → shortSlices ni na ≡ false → (1792 ≤ ni) × (8240 ≤ na)
 unfolding shortSlices
@@ -82,9 +87,6 @@ short-not-ready : (b s : List ℕ) (ni na : ℕ) → shortSlices ni na ≡ true 
 unfolding shortSlices
 short-not-ready b s ni na e r = true≢false (sym e ∙ rw (le-ltb ni 1792 (r .items), le-ltb na 8240 (r .answers)))
 
-nine-large : (n : ℕ) → n ≡ 9 → n ≤ 8 → ⊥
-nine-large n e h = omega arith
-
 -- ---- the ways of a run
 module _ (b s : List ℕ) (ni na : ℕ) (a : Accepted) (form : checkForm b ≡ accepted a) where
   run-checked : run b s ni na ≡ runChecked ni na s a
@@ -95,14 +97,17 @@ module _ (b s : List ℕ) (ni na : ℕ) (a : Accepted) (form : checkForm b ≡ a
   sheet-refused : 0 < sheetFault s → Demand1 b s ni na
   unfolding runChecked if_then_else_
   sheet-refused h =
-      input-refused b s ni na (sheetFault s) none (run-checked ∙ rw (lt-ltb 0 (sheetFault s) h)) (sheet-numbers s h)
-      (λ (r : Ready b s ni na). omega (arith, h, r .sheet))
+      let x = sheet-fault s h in
+      input-refused b s ni na (sheetFault s) none (run-checked ∙ rw (lt-ltb 0 (sheetFault s) h))
+      (sheetAtFault (sheetFault s) (well-made b a form) x) (fault-small s (sheetFault s) x)
+      (λ (r : Ready b s ni na). omega (arith, h, made-sheet s (r .sheet)))
 
   -- 7
   slices-refused : sheetFault s ≡ 0 → shortSlices ni na ≡ true → Demand1 b s ni na
   unfolding runChecked if_then_else_
   slices-refused z e =
-      input-refused b s ni na 7 none (run-checked ∙ rw (z, e)) (omega arith, omega arith) (short-not-ready b s ni na e)
+      input-refused b s ni na 7 none (run-checked ∙ rw (z, e))
+      (shortSlice (well-made b a form) (sheet-made s z) (short-slice ni na e)) (omega arith) (short-not-ready b s ni na e)
 
   module _ (l : Line) (sheet : sheetFault s ≡ 0) (slices : shortSlices ni na ≡ false) (splits : split (a .form) s ≡ ok l) where
     run-reports : run b s ni na ≡ report ni na l (runLine (a .fields) l)
@@ -117,14 +122,8 @@ module _ (b s : List ℕ) (ni na : ℕ) (a : Accepted) (form : checkForm b ≡ a
         (λ (g : LineGood (arguments s) l). omega (arith, g .records, g .few, long-slices ni na slices .0))
         (line-law (a .form) s l splits)
 
-    -- 8 keeps no item
-    split-cleared : (e : Refusal) → l .refusal ≡ some e → e .number ≤ 8 → (padded ni (l .records) ≡ padded ni []) × (l .state ≡ emptyState)
-    unfolding tooMany refuseAt
-    split-cleared e u h =
-        ⊎-elim
-        (λ (t : l ≡ tooMany). (ap (λ (x : Line). padded ni (x .records)) t, ap (λ (x : Line). x .state) t))
-        (λ (g : LineGood (arguments s) l). let n = ap (λ (x : Refusal). x .number) (g .refusal e u .1) in absurd (nine-large (e .number) n h))
-        (line-law (a .form) s l splits)
+    form-splits : split (readForm b) s ≡ ok l
+    form-splits = ap (λ (f : Form). split f s) (sym (accepted-form b a form)) ∙ splits
 
     -- 8 and 9
     split-refused : (e : Refusal) → l .refusal ≡ some e → Demand1 b s ni na
@@ -133,10 +132,10 @@ module _ (b s : List ℕ) (ni na : ℕ) (a : Accepted) (form : checkForm b ≡ a
       report = reportWith ni na l (ended (refused e) (l .state)) (e .number) (e .place) [];
       answered = run-reports ∙ rw (u, runLine);
       number = inr (
-        (λ (r : Ready b s ni na). let same = ok-injective (sym (r .splits) ∙ ap (λ (f : Form). split f s) (sym (accepted-form b a form)) ∙ splits) in
+        (λ (r : Ready b s ni na). let same = ok-injective (sym (r .splits) ∙ form-splits) in
             some≢none (sym u ∙ ap (λ (x : Line). x .refusal) (sym same) ∙ r .unrefused)),
-        ⊎-elim (λ (h : e .number ≡ 8). (omega arith, omega arith)) (λ (h : e .number ≡ 9). (omega arith, omega arith)) (line-refusal (a .form) s l e splits u),
-        record { tries = refl; words = refl; answers = refl; cleared = split-cleared e u },
+        line-fault b s l e u form-splits ni na (well-made b a form) (sheet-made s sheet) (long-slices ni na slices .0) (long-slices ni na slices .1),
+        record { tries = refl; words = refl; answers = padded-nil na; items = line-left b s l e u form-splits ni },
       );
       items = padded-length ni (l .records) records-fit;
       answers = padded-length na [] (omega arith);
@@ -147,11 +146,11 @@ module _ (b s : List ℕ) (ni na : ℕ) (a : Accepted) (form : checkForm b ≡ a
       ready : Ready b s ni na
       ready = record {
         form = well-made b a form;
-        sheet = sheet;
+        sheet = sheet-made s sheet;
         items = long-slices ni na slices .0;
         answers = long-slices ni na slices .1;
         line = l;
-        splits = ap (λ (f : Form). split f s) (sym (accepted-form b a form)) ∙ splits;
+        splits = form-splits;
         unrefused = u;
       }
 
@@ -216,4 +215,5 @@ demand1 b s ni na = go (checkForm b) refl
     go (accepted a) e = accepted-answered b s ni na a e
     go (refusedAt n k) e =
         let h = check-numbers b n k e in
-        input-refused b s ni na n k (rw (e, run)) (h .0, omega arith) (λ (r : Ready b s ni na). refused-not-made b n k e (r .form))
+        input-refused b s ni na n k (rw (e, run)) (badForm n k (check-fault b n k e)) (omega arith)
+        (λ (r : Ready b s ni na). refused-not-made b n k e (r .form))

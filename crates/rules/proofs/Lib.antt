@@ -25,6 +25,10 @@ pub mod Acceptance
 pub mod Uses
 pub mod WellMadeLaws
 pub mod Meanings
+-- Sheets
+pub mod SheetLaws
+-- Refusals of the input
+pub mod InputFaults
 -- Single calls
 pub mod CallsAnswer
 -- The demands

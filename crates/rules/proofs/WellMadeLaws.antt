@@ -1,15 +1,16 @@
--- A form is accepted exactly when it is well made.
+-- A form is accepted exactly when it is well made, and refused by the number and place of its lowest fault.
 use mathlib.Core.Bool.{Bool, true, false, not, _&&_, _||_, false≢true, true≢false}
 use mathlib.Core.List.{List, [], _∷_, _++_}
 use mathlib.Core.Logic.{_⊎_, inl, inr, ⊎-elim}
 use mathlib.Core.Option.{Option, some, none, Option·some-injective, Option·none-ne-some}
 use mathlib.Core.Path.{_≡_, refl, sym, _∙_, ap, subst}
 use Prim.Native.Nat.{ℕ, zero, suc, _+_, _-_, _*_, _%_, _≤_, _<_}
-use native.Mathlib.Nat.{zero-add, add-zero}
+use native.Mathlib.Nat.{zero-add, add-zero, eq-or-lt-of-le}
 use native.Mathlib.Omega.{arith}
 use lib.Dec.{leb, eqb}
 use lib.ListN.{length, take, drop, getElem?, length-append, length-map, length-take, length-drop}
-use borrow.Author.Tests.{eq-eqb, le-leb, lt-leb, eqb-true, leb-true, leb-false}
+use lib.Seq.{length-take-le}
+use borrow.Author.Tests.{eq-eqb, le-leb, lt-leb, eqb-true, eqb-false, leb-true, leb-false}
 use Rattle.utf8.specs.Utf8.{if_then_else_, wellFormed}
 use Rattle.rules.specs.Base.{null, all, contains, occurrences, numbers, isSome, _>>?_, slice, firstFault}
 use Rattle.rules.specs.Value.{Base, yesNo, text, number, sameBase, baseNumber, Kind, one, optional, list, listOfOptional, optionalList, name, BaseValue, isYes, isText, isNumber, baseOf}
@@ -17,19 +18,13 @@ use Rattle.rules.specs.Form.{Node, Name, Form, nodeCount, fieldCount, na
 use Rattle.rules.specs.Tree.{Named, Tree, Flag, Argument, Positional, Optional, Many, Some, Count, Last, Choice, Fallback, Guard, optionalKind, listKind, countKind, lastKind, shapeOf, innerBase, sameKind, choiceKind, baseKind, kindOf, hasRepeat, zeros, namesOf, namedBy, namedOf, flagOf, argumentOf, positionOf, positionalOf, fitting, repeatOf, fallbackValue, fallbackOf, guardOf, childOf, caughtOf, choiceOf, treeOf}
 use Rattle.rules.specs.Accept.{Checked, accepted, refusedAt, Accepted, lengthGood, treesFrom, uses, usedOnce, treesAt, checkUse, checkRecords, checkForm}
 use Rattle.rules.specs.Demands.{All}
-use Rattle.rules.specs.WellMade.{NameMade, NamesMade, Unused, FallbackMade, NodeMade, flagRow, argumentRow, positionalRow, optionalRow, listRow, countRow, lastRow, choiceRow, fallbackRow, guardRow, WellMade}
-use Rattle.rules.proofs.Acceptance.{refused-not, if-some, branch, zeros-unused, if-true, if-false, bind-is, both, unused-zeros, lookup-some, lookup-snoc, All-map, good-no-fault, numbers-length, numbers-all, numbers-each, bind-some, and-true, Made, flagMade, argumentMade, positionalMade, optionalMade, manyMade, someMade, countMade, lastMade, choiceMade, fallbackMade, guardMade, TreeAt, TreesAt, trees-made, trees-length, no-fault, is-some, names-some, NameGood, short-one, accepted-length, accepted-passed}
+use Rattle.rules.specs.WellMade.{NameMade, NamesMade, Unused, FallbackMade, NodeMade, flagRow, argumentRow, positionalRow, optionalRow, listRow, countRow, lastRow, choiceRow, fallbackRow, guardRow, NodesMade, CountsMade, WellMade}
+use Rattle.rules.specs.Answered.{FormFault, badCounts, badName, badNode, badField, badUse}
+use Rattle.rules.proofs.Acceptance.{refused-not, accepted-same, lookup-inside, if-some, branch, zeros-unused, if-true, if-false, bind-is, both, unused-zeros, lookup-some, lookup-snoc, All-map, good-no-fault, numbers-length, numbers-all, numbers-each, bind-some, and-true, Made, flagMade, argumentMade, positionalMade, optionalMade, manyMade, someMade, countMade, lastMade, choiceMade, fallbackMade, guardMade, TreeAt, TreesAt, trees-made, trees-length, no-fault, is-some, names-some, NameGood, short-one, accepted-length, accepted-passed}
 use Rattle.rules.proofs.Uses.{fields-inside, used-once}
 
 -- ---- counts and length
-record Counts (b : List ℕ) : Type 0 where
-  nodes : (1 ≤ nodeCount b) × (nodeCount b ≤ 64)
-  fields : (1 ≤ fieldCount b) × (fieldCount b ≤ 16)
-  names : nameCount b ≤ 128
-  area : areaLength b ≤ 4096
-  exact : length b ≡ 8 + 2 * fieldCount b + 16 * nodeCount b + 6 * nameCount b + areaLength b
-
-length-counts : (b : List ℕ) → lengthGood b ≡ true → Counts b
+pub length-counts : (b : List ℕ) → lengthGood b ≡ true → CountsMade b
 unfolding lengthGood countsGood formLength areaAt namesAt nodesAt
 length-counts b e =
     let l = and-true (countsGood b) (eqb (formLength b) (length b)) e in
@@ -47,7 +42,7 @@ length-counts b e =
       exact = sym (eqb-true (formLength b) (length b) (l .1));
     }
 
-counts-length : (b : List ℕ) → WellMade b → lengthGood b ≡ true
+pub counts-length : (b : List ℕ) → CountsMade b → lengthGood b ≡ true
 unfolding lengthGood countsGood formLength areaAt namesAt nodesAt
 counts-length b w =
     let exact = w .exact in
@@ -96,6 +91,9 @@ module _ (area : List ℕ) where
         short = λ e. short-one area m g (eq-eqb (m .type) 0 e);
         long = type-long (m .type) (nameBytes area m) (p .1);
       }
+
+  each-made : (l : List Name) → All (NameGood area) l → All (NameMade area) l
+  each-made = All-map (NameGood area) (NameMade area) name-made
 
   name-good : (m : Name) → NameMade area m → NameGood area m
   unfolding nameGood
@@ -310,30 +308,43 @@ node-count : (b : List ℕ) → length (readForm b .nodes) ≡ nodeCount b
 unfolding readForm
 node-count b = length-map (numbers (nodeCount b) 0) _ ∙ numbers-length (nodeCount b) 0
 
+-- nodes that have trees are made
+nodes-made :
+    (f : Form) (xs : List Node) (ts : List Tree) (n : ℕ)
+    → treesFrom f [] xs ≡ accepted ts
+    → ((k : ℕ) (x : Node) → k < n → getElem? (f .nodes) k ≡ some x → getElem? xs k ≡ some x)
+    → NodesMade f n
+nodes-made f xs ts n e part = record {
+  kind = kindAt ts;
+  repeats = repeatsAt ts;
+  each = λ k x l h.
+      let at = trees-at f ts 0 xs (trees-made f [] xs ts e) k x (part k x l h) in
+      let t : TreeAt f ts k x = subst (λ (n : ℕ). TreeAt f ts n x) (zero-add k) at in
+      node-made ts f k x (t .tree) (t .stands) (t .made);
+}
+
+fields-made :
+    (b : List ℕ) (ts us : List Tree)
+    → treesFrom (readForm b) [] (readForm b .nodes) ≡ accepted ts
+    → treesAt ts (readForm b .fields) ≡ some us
+    → All (λ (k : ℕ). k < nodeCount b) (readForm b .fields)
+fields-made b ts us e g =
+    let f = readForm b in
+    let long : length ts ≡ nodeCount b = trees-length f [] (f .nodes) ts e ∙ zero-add (length (f .nodes)) ∙ node-count b in
+    subst (λ (n : ℕ). All (λ (k : ℕ). k < n) (f .fields)) long (fields-inside ts (f .fields) us g)
+
 -- an accepted form is well made
 pub well-made : (b : List ℕ) (a : Accepted) → checkForm b ≡ accepted a → WellMade b
 well-made b a e =
     let f = readForm b in
-    let ts = a .trees in
-    let c = length-counts b (accepted-length b a e) in
     let p = accepted-passed b a e in
-    let at : TreesAt f ts 0 (f .nodes) = trees-made f [] (f .nodes) ts (p .trees) in
-    let long : length ts ≡ nodeCount b = trees-length f [] (f .nodes) ts (p .trees) ∙ zero-add (length (f .nodes)) ∙ node-count b in
     let once = used-once f (numbers (length (f .nodes)) 0) (no-fault (usedOnce f) 0 (numbers (length (f .nodes)) 0) (p .once)) in
     let count = node-count b in
     record {
-      nodes = c .nodes;
-      fields = c .fields;
-      names = c .names;
-      area = c .area;
-      exact = c .exact;
-      nameRecords = All-map (NameGood (f .area)) (NameMade (f .area)) (name-made (f .area)) (f .names) (p .names);
-      kind = kindAt ts;
-      repeats = repeatsAt ts;
-      nodeRecords = λ k x h.
-          let t : TreeAt f ts k x = subst (λ (n : ℕ). TreeAt f ts n x) (zero-add k) (trees-at f ts 0 (f .nodes) at k x h) in
-          node-made ts f k x (t .tree) (t .stands) (t .made);
-      fieldNumbers = subst (λ (n : ℕ). All (λ (k : ℕ). k < n) (f .fields)) long (fields-inside ts (f .fields) (a .fields) (p .fields));
+      counts = length-counts b (accepted-length b a e);
+      nameRecords = each-made (f .area) (f .names) (p .names);
+      nodeRecords = nodes-made f (f .nodes) (a .trees) (nodeCount b) (p .trees) (λ k x l h. h);
+      fieldNumbers = fields-made b (a .trees) (a .fields) (p .trees) (p .fields);
       usedOnce = λ k l. numbers-all (λ (k : ℕ). occurrences k (uses f) ≡ 1) (length (f .nodes)) 0 once k (omega arith) (omega arith);
     }
 
@@ -551,20 +562,31 @@ module _ (f : Form) (kind : ℕ → Kind) (repeats : ℕ → Bool) where
       (below : List Tree) (xs : List Node)
       → Known kind repeats below
       → ((j : ℕ) (x : Node) → getElem? xs j ≡ some x → NodeMade f kind repeats (length below + j) x)
-      → (ts : List Tree) × (treesFrom f below xs ≡ accepted ts)
+      → (ts : List Tree) × (treesFrom f below xs ≡ accepted ts) × Known kind repeats ts
   unfolding treesFrom
-  trees-is below [] h n = (below, refl)
+  trees-is below [] h n = (below, refl, h)
   trees-is below (x ∷ xs) h n =
       let this : NodeMade f kind repeats (length below) x =
       subst (λ (k : ℕ). NodeMade f kind repeats k x) (add-zero (length below)) (n 0 x refl) in
       let m = next f kind repeats below h x this in
       let long = length-append below (m .tree ∷ []) in
-      let (ts, e) =
+      let (ts, e, all) =
       trees-is (below ++ (m .tree ∷ [])) xs (known-more below (m .tree) h (m .kinds) (m .repeat))
       (λ j y g.
       let same : length below + suc j ≡ length (below ++ (m .tree ∷ [])) + j = omega arith in
       subst (λ (k : ℕ). NodeMade f kind repeats k y) same (n (suc j) y g)) in
-      (ts, rw (m .is, treesFrom) e)
+      (ts, rw (m .is, treesFrom) e, all)
+
+-- nodes that are made have trees, of the kinds told
+nodes-trees :
+    (f : Form) (xs : List Node) (n : ℕ)
+    → (w : NodesMade f n)
+    → ((k : ℕ) (x : Node) → getElem? xs k ≡ some x → (k < n) × (getElem? (f .nodes) k ≡ some x))
+    → (ts : List Tree) × (treesFrom f [] xs ≡ accepted ts) × Known (w .kind) (w .repeats) ts
+nodes-trees f xs n w part =
+    trees-is f (w .kind) (w .repeats) [] xs (λ i c h. absurd (Option·none-ne-some c h))
+    (λ j x h. let (l, g) = part j x h in
+    subst (λ (k : ℕ). NodeMade f (w .kind) (w .repeats) k x) (sym (zero-add j)) (w .each j x l g))
 
 -- ---- the fields, and the uses
 fields-is : (ts : List Tree) (ks : List ℕ) → All (λ (k : ℕ). k < length ts) ks → (us : List Tree) × (treesAt ts ks ≡ some us)
@@ -591,9 +613,8 @@ unfolding checkForm usedOnce
 made-accepted b w =
     let f = readForm b in
     let count = node-count b in
-    let (ts, e) =
-    trees-is f (w .kind) (w .repeats) [] (f .nodes) (λ i c h. absurd (Option·none-ne-some c h))
-    (λ j x h. subst (λ (k : ℕ). NodeMade f (w .kind) (w .repeats) k x) (sym (zero-add j)) (w .nodeRecords j x h)) in
+    let (ts, e, all) =
+    nodes-trees f (f .nodes) (nodeCount b) (w .nodeRecords) (λ j x h. let l = lookup-inside (f .nodes) j x h in (omega arith, h)) in
     let long : nodeCount b ≡ length ts = sym (trees-length f [] (f .nodes) ts e ∙ zero-add (length (f .nodes)) ∙ count) in
     let (us, g) = fields-is ts (f .fields) (subst (λ (n : ℕ). All (λ (k : ℕ). k < n) (f .fields)) long (w .fieldNumbers)) in
     let names =
@@ -604,78 +625,270 @@ made-accepted b w =
     (numbers-each (λ (k : ℕ). usedOnce f k ≡ true) (length (f .nodes)) 0
     (λ k l m. eq-eqb (occurrences k (uses f)) 1 (w .usedOnce k (omega arith)))) in (
       record { form = f; trees = ts; fields = us },
-      if-true (lengthGood b) (checkRecords f) (refusedAt 1 none) (counts-length b w) ∙ records-accepted f ts us names e g once,
+      if-true (lengthGood b) (checkRecords f) (refusedAt 1 none) (counts-length b (w .counts)) ∙ records-accepted f ts us names e g once,
     )
 
 -- a form that is refused is not well made
 pub refused-not-made : (b : List ℕ) (n : ℕ) (k : Option ℕ) → checkForm b ≡ refusedAt n k → WellMade b → ⊥
 refused-not-made b n k e w = let (a, h) = made-accepted b w in refused-not n k a (sym e ∙ h)
 
--- ---- the numbers of the refusals
-takeNumber : {A : Type 0} → Checked A → ℕ
-takeNumber (accepted a) = 0
-takeNumber (refusedAt n k) = n
+-- ---- what is at fault where the form check refuses
+-- the lowest element that fails a test
+record Lowest (A : Type 0) (p : A → Bool) (j : ℕ) (l : List A) (k : ℕ) : Type 0 where
+  at : ℕ
+  element : A
+  place : j + at ≡ k
+  stands : getElem? l at ≡ some element
+  fails : p element ≡ false
+  lower : All (λ (a : A). p a ≡ true) (take at l)
 
--- a refusal of the form check is 1 to 4
-abbrev Early : (A : Type 0) → Checked A → Type 0
-Early A c = (n : ℕ) (k : Option ℕ) → c ≡ refusedAt n k → (1 ≤ n) × (n ≤ 4)
+first-fault : {A : Type 0} (p : A → Bool) (j : ℕ) (l : List A) (k : ℕ) → firstFault p j l ≡ some k → Lowest A p j l k
+unfolding firstFault if_then_else_
+first-fault p j [] k e = absurd (Option·none-ne-some k e)
+first-fault {A} p j (x ∷ l) k e = go (p x) refl (first-fault p (suc j) l k) e
+  where
+    go :
+        (t : Bool)
+        → p x ≡ t
+        → (firstFault p (suc j) l ≡ some k → Lowest A p (suc j) l k)
+        → (if t then firstFault p (suc j) l else some j) ≡ some k
+        → Lowest A p j (x ∷ l) k
+    go true h rest e =
+        let r = rest e in
+        let here = r .place in
+        record { at = suc (r .at); element = r .element; place = omega arith; stands = r .stands; fails = r .fails; lower = (h, r .lower) }
+    go false h rest e =
+        let here = Option·some-injective j k e in
+        record { at = 0; element = x; place = omega arith; stands = refl; fails = h; lower = tt }
 
-early-accepted : {A : Type 0} (a : A) → Early A (accepted a)
-early-accepted a n k e = absurd (refused-not n k a (sym e))
+-- the same among numbers
+first-number :
+    (p : ℕ → Bool) (n j k : ℕ)
+    → firstFault p j (numbers n j) ≡ some k
+    → (j ≤ k) × (k < j + n) × (p k ≡ false) × ((i : ℕ) → j ≤ i → i < k → p i ≡ true)
+unfolding firstFault numbers if_then_else_
+first-number p zero j k e = absurd (Option·none-ne-some k e)
+first-number p (suc n) j k e = go (p j) refl (first-number p n (suc j) k) e
+  where
+    Says : ℕ → ℕ → Type 0
+    Says n j = (j ≤ k) × (k < j + n) × (p k ≡ false) × ((i : ℕ) → j ≤ i → i < k → p i ≡ true)
 
-early-refused : (A : Type 0) (m : ℕ) (j : Option ℕ) → 1 ≤ m → m ≤ 4 → Early A (refusedAt m j)
-unfolding takeNumber
-early-refused A m j h l n k e = let same : m ≡ n = ap takeNumber e in (omega arith, omega arith)
+    go :
+        (t : Bool)
+        → p j ≡ t
+        → (firstFault p (suc j) (numbers n (suc j)) ≡ some k → Says n (suc j))
+        → (if t then firstFault p (suc j) (numbers n (suc j)) else some j) ≡ some k
+        → Says (suc n) j
+    go true h rest e =
+        let (a, b, c, d) = rest e in
+        (omega arith, omega arith, c, λ i l m. ⊎-elim (λ (z : j ≡ i). rw z at h) (λ (z : j < i). d i (omega arith) m) (eq-or-lt-of-le l))
+    go false h rest e =
+        let z = Option·some-injective j k e in
+        (omega arith, omega arith, rw z at h, λ i l m. absurd (omega arith))
 
-trees-early : (f : Form) (below : List Tree) (xs : List Node) → Early (List Tree) (treesFrom f below xs)
+-- lookups
+lookup-take : {A : Type 0} (n : ℕ) (l : List A) (i : ℕ) → i < n → getElem? (take n l) i ≡ getElem? l i
+lookup-take zero l i h = absurd (omega arith)
+lookup-take (suc n) [] i h = refl
+lookup-take (suc n) (x ∷ l) zero h = refl
+lookup-take (suc n) (x ∷ l) (suc i) h = lookup-take n l i (omega arith)
+
+take-inside : {A : Type 0} (n : ℕ) (l : List A) (i : ℕ) (a : A) → getElem? (take n l) i ≡ some a → i < n
+take-inside n l i a e = let h = lookup-inside (take n l) i a e in let m = length-take n l in omega arith
+
+lookup-none : {A : Type 0} (l : List A) (i : ℕ) → getElem? l i ≡ none → length l ≤ i
+lookup-none [] i e = omega arith
+lookup-none (x ∷ l) zero e = absurd (Option·none-ne-some x (sym e))
+lookup-none (x ∷ l) (suc i) e = let h = lookup-none l i e in omega arith
+
+-- a refusal is its number and place
+refused-number : {A : Type 0} (m n : ℕ) (j k : Option ℕ) → _≡_ {A = Checked A} (refusedAt m j) (refusedAt n k) → n ≡ m
+refused-number m n j k e = cc
+
+refused-place : {A : Type 0} (m n : ℕ) (j k : Option ℕ) → _≡_ {A = Checked A} (refusedAt m j) (refusedAt n k) → k ≡ j
+refused-place m n j k e = cc
+
+-- where the trees end
+record Stopped (f : Form) (below : List Tree) (xs : List Node) (n : ℕ) (k : Option ℕ) : Type 0 where
+  at : ℕ
+  node : Node
+  trees : List Tree
+  number : n ≡ 3
+  place : k ≡ some (length below + at)
+  stands : getElem? xs at ≡ some node
+  lower : treesFrom f below (take at xs) ≡ accepted trees
+  fails : treeOf f trees node ≡ none
+
+trees-refused :
+    (f : Form) (below : List Tree) (xs : List Node) (n : ℕ) (k : Option ℕ)
+    → treesFrom f below xs ≡ refusedAt n k
+    → Stopped f below xs n k
 unfolding treesFrom
-trees-early f below [] = early-accepted below
-trees-early f below (x ∷ xs) =
-    elim (treeOf f below x) as
-    (λ o. Early (List Tree) (elim o [ none ↦ refusedAt 3 (some (length below)) | some t ↦ treesFrom f (below ++ (t ∷ [])) xs ])) [
-      | none ↦ early-refused (List Tree) 3 (some (length below)) (omega arith) (omega arith)
-      | some t ↦ trees-early f (below ++ (t ∷ [])) xs
-    ]
+trees-refused f below [] n k e = absurd (refused-not n k below (sym e))
+trees-refused f below (x ∷ xs) n k e = go (treeOf f below x) refl (λ t. trees-refused f (below ++ (t ∷ [])) xs n k)
+  where
+    go :
+        (o : Option Tree)
+        → treeOf f below x ≡ o
+        → ((t : Tree) → treesFrom f (below ++ (t ∷ [])) xs ≡ refusedAt n k → Stopped f (below ++ (t ∷ [])) xs n k)
+        → Stopped f below (x ∷ xs) n k
+    go none h rest =
+        let here : _≡_ {A = Checked (List Tree)} (refusedAt 3 (some (length below))) (refusedAt n k) = rw (h, treesFrom) at e in
+        record {
+          at = 0;
+          node = x;
+          trees = below;
+          number = refused-number 3 n (some (length below)) k here;
+          place = refused-place 3 n (some (length below)) k here ∙ ap {B = Option ℕ} some (sym (add-zero (length below)));
+          stands = refl;
+          lower = refl;
+          fails = h;
+        }
+    go (some t) h rest =
+        let r = rest t (rw (h, treesFrom) at e) in
+        let long = length-append below (t ∷ []) in
+        let same : length (below ++ (t ∷ [])) + r .at ≡ length below + suc (r .at) = omega arith in
+        record {
+          at = suc (r .at);
+          node = r .node;
+          trees = r .trees;
+          number = r .number;
+          place = r .place ∙ ap {B = Option ℕ} some same;
+          stands = r .stands;
+          lower = rw (h, treesFrom) (r .lower);
+          fails = r .fails;
+        }
 
-module _ (f : Form) where
-  use-early : (ts : List Tree) → Early Accepted (checkUse f ts)
-  unfolding checkUse
-  use-early ts = first (treesAt ts (f .fields)) refl
+-- 3: the nodes below are made, and with no kinds is the next made too
+module _ (f : Form) (x : Node) (ts : List Tree) (k : ℕ) (stands : getElem? (f .nodes) k ≡ some x) where
+  module _ (lower : treesFrom f [] (take k (f .nodes)) ≡ accepted ts) where
+    lower-made : NodesMade f k
+    lower-made = nodes-made f (take k (f .nodes)) ts k lower (λ j y l h. lookup-take k (f .nodes) j l ∙ h)
+
+    trees-below : length ts ≡ k
+    trees-below =
+        let inside = lookup-inside (f .nodes) k x stands in
+        trees-length f [] (take k (f .nodes)) ts lower ∙ zero-add _ ∙ length-take-le k (f .nodes) (omega arith)
+
+    next-not-made : treeOf f ts x ≡ none → NodesMade f (suc k) → ⊥
+    next-not-made fails w =
+        let (us, e, known) =
+        nodes-trees f (take k (f .nodes)) (suc k) w (λ j y h. let l = take-inside k (f .nodes) j y h in (omega arith, sym (lookup-take k (f .nodes) j l) ∙ h)) in
+        let same : us ≡ ts = accepted-same us ts (sym e ∙ lower) in
+        let known-ts = subst (Known (w .kind) (w .repeats)) same known in
+        let here : NodeMade f (w .kind) (w .repeats) (length ts) x =
+        subst (λ (k : ℕ). NodeMade f (w .kind) (w .repeats) k x) (sym trees-below) (w .each k x (omega arith) stands) in
+        let m = next f (w .kind) (w .repeats) ts known-ts x here in
+        Option·none-ne-some (m .tree) (sym fails ∙ m .is)
+
+-- 4: a field that has no tree
+fields-none : (ts : List Tree) (ks : List ℕ) → treesAt ts ks ≡ none → (i k : ℕ) × (getElem? ks i ≡ some k) × (length ts ≤ k)
+unfolding treesAt _>>?_
+fields-none ts [] e = absurd (Option·none-ne-some [] (sym e))
+fields-none ts (k ∷ ks) e = go (getElem? ts k) refl (treesAt ts ks) refl (fields-none ts ks) e
+  where
+    Says : List ℕ → Type 0
+    Says ks = (i k : ℕ) × (getElem? ks i ≡ some k) × (length ts ≤ k)
+
+    go :
+        (o : Option Tree)
+        → getElem? ts k ≡ o
+        → (us : Option (List Tree))
+        → treesAt ts ks ≡ us
+        → (treesAt ts ks ≡ none → Says ks)
+        → (o >>? λ t. us >>? λ vs. some (t ∷ vs)) ≡ none
+        → Says (k ∷ ks)
+    go none h us g rest e = (0, k, refl, lookup-none ts k h)
+    go (some t) h none g rest e = let (i, j, l, m) = rest g in (suc i, j, l, m)
+    go (some t) h (some us) g rest e = absurd (Option·none-ne-some (t ∷ us) (sym e))
+
+refused-fault : {A : Type 0} (b : List ℕ) (m n : ℕ) (j k : Option ℕ) → _≡_ {A = Checked A} (refusedAt m j) (refusedAt n k) → FormFault b m j → FormFault b n k
+refused-fault b m n j k e h = rw (refused-number m n j k e, refused-place m n j k e) h
+
+module _ (b : List ℕ) (counts : CountsMade b) (n : ℕ) (k : Option ℕ) where
+  -- 4
+  use-fault :
+      All (NameMade (readForm b .area)) (readForm b .names)
+      → (ts : List Tree)
+      → treesFrom (readForm b) [] (readForm b .nodes) ≡ accepted ts
+      → checkUse (readForm b) ts ≡ refusedAt n k
+      → FormFault b n k
+  unfolding checkUse usedOnce
+  use-fault names ts trees e = first (treesAt ts (readForm b .fields)) refl
     where
+      f : Form
+      f = readForm b
+
+      nodes : NodesMade f (nodeCount b)
+      nodes = nodes-made f (f .nodes) ts (nodeCount b) trees (λ k x l h. h)
+
       second :
           (us : List Tree)
           → treesAt ts (f .fields) ≡ some us
           → (o : Option ℕ)
           → firstFault (usedOnce f) 0 (numbers (length (f .nodes)) 0) ≡ o
-          → Early Accepted (checkUse f ts)
-      second us h (some k) g = rw (h, g, checkUse) (early-refused Accepted 4 (some k) (omega arith) (omega arith))
-      second us h none g = rw (h, g, checkUse) (early-accepted (record { form = f; trees = ts; fields = us }))
+          → FormFault b n k
+      second us h none g = absurd (refused-not n k _ (sym (rw (h, g, checkUse) at e)))
+      second us h (some i) g =
+          let (l, m, once, lower) = first-number (usedOnce f) (length (f .nodes)) 0 i g in
+          let count = node-count b in
+          refused-fault b 4 n (some i) k (rw (h, g, checkUse) at e)
+          (badUse i counts names nodes (fields-made b ts us trees h) (omega arith) (λ z. eqb-false _ 1 once z)
+          (λ j l. eqb-true (occurrences j (uses f)) 1 (lower j (omega arith) l)))
 
-      first : (o : Option (List Tree)) → treesAt ts (f .fields) ≡ o → Early Accepted (checkUse f ts)
-      first none h = rw (h, checkUse) (early-refused Accepted 4 none (omega arith) (omega arith))
+      first : (o : Option (List Tree)) → treesAt ts (f .fields) ≡ o → FormFault b n k
+      first none h =
+          let (i, j, at, l) = fields-none ts (f .fields) h in
+          let long = trees-length f [] (f .nodes) ts trees in
+          let count = node-count b in
+          refused-fault b 4 n none k (rw (h, checkUse) at e) (badField i j counts names nodes at (omega arith))
       first (some us) h = second us h (firstFault (usedOnce f) 0 (numbers (length (f .nodes)) 0)) refl
 
-  records-early : Early Accepted (checkRecords f)
+  -- 2, then 3
+  records-fault : checkRecords (readForm b) ≡ refusedAt n k → FormFault b n k
   unfolding checkRecords
-  records-early = first (firstFault (nameGood (f .area)) 0 (f .names)) refl
+  records-fault e = first (firstFault (nameGood (readForm b .area)) 0 (readForm b .names)) refl
     where
-      second :
-          firstFault (nameGood (f .area)) 0 (f .names) ≡ none
-          → (c : Checked (List Tree))
-          → treesFrom f [] (f .nodes) ≡ c
-          → Early Accepted (checkRecords f)
-      second h (refusedAt n k) g =
-          let (l, m) = trees-early f [] (f .nodes) n k g in
-          rw (h, g, checkRecords) (early-refused Accepted n k l m)
-      second h (accepted ts) g = rw (h, g, checkRecords) (use-early ts)
+      f : Form
+      f = readForm b
 
-      first : (o : Option ℕ) → firstFault (nameGood (f .area)) 0 (f .names) ≡ o → Early Accepted (checkRecords f)
-      first (some k) h = rw (h, checkRecords) (early-refused Accepted 2 (some k) (omega arith) (omega arith))
+      second : firstFault (nameGood (f .area)) 0 (f .names) ≡ none → (c : Checked (List Tree)) → treesFrom f [] (f .nodes) ≡ c → FormFault b n k
+      second h (accepted ts) g =
+          use-fault (each-made (f .area) (f .names) (no-fault (nameGood (f .area)) 0 (f .names) h)) ts g (rw (h, g, checkRecords) at e)
+      second h (refusedAt m j) g =
+          let r = trees-refused f [] (f .nodes) m j g in
+          let names = each-made (f .area) (f .names) (no-fault (nameGood (f .area)) 0 (f .names) h) in
+          let place : j ≡ some (r .at) = r .place ∙ ap {B = Option ℕ} some (zero-add (r .at)) in
+          refused-fault b m n j k (rw (h, g, checkRecords) at e)
+          (rw (r .number, place)
+          (badNode (r .at) counts names (lower-made f (r .node) (r .trees) (r .at) (r .stands) (r .lower))
+          (next-not-made f (r .node) (r .trees) (r .at) (r .stands) (r .lower) (r .fails))))
+
+      first : (o : Option ℕ) → firstFault (nameGood (f .area)) 0 (f .names) ≡ o → FormFault b n k
+      first (some i) h =
+          let r = first-fault (nameGood (f .area)) 0 (f .names) i h in
+          let place : i ≡ r .at = sym (r .place) ∙ zero-add (r .at) in
+          refused-fault b 2 n (some i) k (rw (h, checkRecords) at e)
+          (rw place
+          (badName (r .at) (r .element) counts (each-made (f .area) (take (r .at) (f .names)) (r .lower)) (r .stands)
+          (λ w. false≢true (sym (r .fails) ∙ name-good (f .area) (r .element) w))))
       first none h = second h (treesFrom f [] (f .nodes)) refl
 
+-- a form that is refused is at fault as its number and place say
+pub check-fault : (b : List ℕ) (n : ℕ) (k : Option ℕ) → checkForm b ≡ refusedAt n k → FormFault b n k
+unfolding checkForm if_then_else_
+check-fault b n k = go (lengthGood b) refl
+  where
+    go : (t : Bool) → lengthGood b ≡ t → (if t then checkRecords (readForm b) else refusedAt 1 none) ≡ refusedAt n k → FormFault b n k
+    go true h e = records-fault b (length-counts b h) n k e
+    go false h e = refused-fault b 1 n none k e (badCounts (λ c. false≢true (sym h ∙ counts-length b c)))
+
+fault-numbers : (b : List ℕ) (n : ℕ) (k : Option ℕ) → FormFault b n k → (1 ≤ n) × (n ≤ 4)
+fault-numbers b n k (badCounts c) = (omega arith, omega arith)
+fault-numbers b n k (badName i m c a h d) = (omega arith, omega arith)
+fault-numbers b n k (badNode i c a l d) = (omega arith, omega arith)
+fault-numbers b n k (badField i j c a l h m) = (omega arith, omega arith)
+fault-numbers b n k (badUse i c a l h m o d) = (omega arith, omega arith)
+
 pub check-numbers : (b : List ℕ) (n : ℕ) (k : Option ℕ) → checkForm b ≡ refusedAt n k → (1 ≤ n) × (n ≤ 4)
-unfolding checkForm
-check-numbers b n k =
-    branch (lengthGood b) (checkRecords (readForm b)) (refusedAt 1 none)
-    (λ _. records-early (readForm b) n k)
-    (early-refused Accepted 1 none (omega arith) (omega arith) n k)
+check-numbers b n k e = fault-numbers b n k (check-fault b n k e)

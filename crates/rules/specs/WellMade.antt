@@ -1,4 +1,4 @@
--- Which forms are well made: document 01's rules for a form, one fact each, in its words.
+-- Which forms and sheets are well made: document 01's rules for each, one fact each, in its words.
 use mathlib.Core.Bool.{Bool, true, false, _||_}
 use mathlib.Core.List.{List, [], _∷_}
 use mathlib.Core.Logic.{_⊎_}
@@ -7,8 +7,10 @@ use mathlib.Core.Path.{_≡_}
 use Prim.Native.Nat.{ℕ, _+_, _*_, _≤_, _<_}
 use lib.ListN.{length, getElem?, take, drop}
 use Rattle.utf8.specs.Utf8.{wellFormed}
+use Rattle.wire.specs.Wire.{offset}
 use Rattle.rules.specs.Base.{occurrences}
 use Rattle.rules.specs.Value.{Base, yesNo, text, number, Kind, one}
+use Rattle.rules.specs.Sheet.{argumentCount, sheetArea}
 use Rattle.rules.specs.Form.{Node, Name, Form, nodeCount, fieldCount, nameCount, areaLength, readForm, nameBytes, oneCharacter}
 use Rattle.rules.specs.Tree.{optionalKind, listKind, countKind, lastKind, choiceKind}
 use Rattle.rules.specs.Accept.{uses}
@@ -93,7 +95,14 @@ pub data NodeMade (f : Form) (kind : ℕ → Kind) (repeats : ℕ → Bool) (k :
       → kind (x .p) ≡ one number → kind k ≡ one number → repeats k ≡ repeats (x .p)
       → NodeMade f kind repeats k x
 
-pub record WellMade (b : List ℕ) : Type 0 where
+-- the first n nodes, with one kind and one answer about repeats for each of them
+pub record NodesMade (f : Form) (n : ℕ) : Type 0 where
+  pub kind : ℕ → Kind
+  pub repeats : ℕ → Bool
+  pub each : (k : ℕ) (x : Node) → k < n → getElem? (f .nodes) k ≡ some x → NodeMade f kind repeats k x
+
+-- Counts and length of a form
+pub record CountsMade (b : List ℕ) : Type 0 where
   -- nodes n (1..64), fields f (1..16), names m (0..128), area a (0..4,096)
   pub nodes : (1 ≤ nodeCount b) × (nodeCount b ≤ 64)
   pub fields : (1 ≤ fieldCount b) × (fieldCount b ≤ 16)
@@ -101,11 +110,26 @@ pub record WellMade (b : List ℕ) : Type 0 where
   pub area : areaLength b ≤ 4096
   -- length exactly 8 + 2f + 16n + 6m + a
   pub exact : length b ≡ 8 + 2 * fieldCount b + 16 * nodeCount b + 6 * nameCount b + areaLength b
+
+pub record WellMade (b : List ℕ) : Type 0 where
+  pub counts : CountsMade b
   -- every name record, and every node
   pub nameRecords : All (NameMade (readForm b .area)) (readForm b .names)
-  pub kind : ℕ → Kind
-  pub repeats : ℕ → Bool
-  pub nodeRecords : (k : ℕ) (x : Node) → getElem? (readForm b .nodes) k ≡ some x → NodeMade (readForm b) kind repeats k x
+  pub nodeRecords : NodesMade (readForm b) (nodeCount b)
   -- every field is a node; each node is used exactly once, as child or field
   pub fieldNumbers : All (λ (k : ℕ). k < nodeCount b) (readForm b .fields)
   pub usedOnce : (k : ℕ) → k < nodeCount b → occurrences k (uses (readForm b)) ≡ 1
+
+-- A sheet: count n of arguments, n + 1 offsets of two bytes, then the byte area, which reaches to the end
+pub record SheetMade (s : List ℕ) : Type 0 where
+  -- the count is there: 0..256 arguments
+  pub counted : 2 ≤ length s
+  pub count : argumentCount s ≤ 256
+  -- n + 1 offsets are there, then the byte area (at most 32,768)
+  pub offsets : 2 + 2 * (argumentCount s + 1) ≤ length s
+  pub area : length (sheetArea s) ≤ 32768
+  -- first offset 0, offsets never fall
+  pub first : offset 2 s 0 ≡ 0
+  pub rising : (k : ℕ) → k < argumentCount s → offset 2 s k ≤ offset 2 s (k + 1)
+  -- the last equals the area's length, nothing follows
+  pub last : offset 2 s (argumentCount s) ≡ length (sheetArea s)
