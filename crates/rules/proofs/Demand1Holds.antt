@@ -18,11 +18,11 @@ use Rattle.rules.specs.Form.{Form, readForm, fieldCount}
 use Rattle.rules.specs.Accept.{Checked, accepted, refusedAt, Accepted, checkForm}
 use Rattle.rules.specs.Eval.{ended}
 use Rattle.rules.specs.Run.{Line, tooMany, padded, refusedInput, report, reportWith, shortSlices, split, runLine, runChecked, run}
-use Rattle.rules.specs.Answered.{SheetFault, manyArguments, badSheet, AtFault, badForm, sheetAtFault, shortSlice, Ready, Demand1}
+use Rattle.rules.specs.Answered.{AtFault, badForm, sheetAtFault, shortSlice, Ready, Demand1}
 use Rattle.rules.proofs.Acceptance.{accepted-form, accepted-fields}
 use Rattle.rules.proofs.WellMadeLaws.{well-made, refused-not-made, check-fault, check-numbers}
 use Rattle.rules.proofs.SheetLaws.{sheet-made, made-sheet, sheet-fault}
-use Rattle.rules.proofs.InputFaults.{padded-nil, cleared-left, line-fault, line-left}
+use Rattle.rules.proofs.InputFaults.{padded-nil, fault-small, cleared-left, line-fault, line-left}
 use Rattle.rules.proofs.SplitLaws.{some≢none, ok-injective, LineGood, split-line, line-law}
 use Rattle.rules.proofs.EvalSound.{Any}
 use Rattle.rules.proofs.Fields.{RunsAll}
@@ -62,10 +62,6 @@ input-refused b s ni na n k e h small unready = record {
   items = padded-length ni [] (omega arith);
   answers = padded-length na [] (omega arith);
 }
-
-fault-small : (s : List ℕ) (n : ℕ) → SheetFault s n → n ≤ 8
-fault-small s n (manyArguments c h) = omega arith
-fault-small s n (badSheet m h) = omega arith
 
 short-slice : (ni na : ℕ) → shortSlices ni na ≡ true → (ni < 1792) ⊎ (na < 8240)
 unfolding shortSlices

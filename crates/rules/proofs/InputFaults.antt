@@ -19,18 +19,22 @@ use Rattle.rules.specs.State.{State, emptyState, construct}
 use Rattle.rules.specs.Run.{Line, tooMany, ambiguity, parsedMark, lineOf, padded, split}
 use Rattle.rules.specs.Demands.{All}
 use Rattle.rules.specs.WellMade.{WellMade, SheetMade}
-use Rattle.rules.specs.Answered.{Splits, AtFault, manyItems, ambiguousLetter, ItemsLeft}
+use Rattle.rules.specs.Answered.{SheetFault, manyArguments, badSheet, Splits, AtFault, manyItems, ambiguousLetter, ItemsLeft}
 use Rattle.rules.proofs.SplitLaws.{some≢none, ok-injective, ambiguous-law}
 
 pub padded-nil : (n : ℕ) → padded n [] ≡ replicate n 0
 unfolding padded
 padded-nil n = ap (λ (k : ℕ). replicate k 0) (sub-zero n)
 
+pub fault-small : (s : List ℕ) (n : ℕ) → SheetFault s n → n ≤ 8
+fault-small s n (manyArguments c h) = omega arith
+fault-small s n (badSheet m h) = omega arith
+
 -- 1 to 7 leave nothing
 pub cleared-left : (b s : List ℕ) (ni n : ℕ) → n ≤ 8 → ItemsLeft b s ni n (padded ni []) emptyState
 cleared-left b s ni n h = record { cleared = λ _. (padded-nil ni, refl); kept = λ e. absurd (omega (arith, h, e)) }
 
-bind-ok : {A B : Type 0} (o : Outcome A) (f : A → Outcome B) (b : B) → (o >>= f) ≡ ok b → (a : A) × (o ≡ ok a) × (f a ≡ ok b)
+pub bind-ok : {A B : Type 0} (o : Outcome A) (f : A → Outcome B) (b : B) → (o >>= f) ≡ ok b → (a : A) × (o ≡ ok a) × (f a ≡ ok b)
 unfolding _>>=_
 bind-ok (ok a) f b e = (a, refl, e)
 bind-ok (refused x) f b e = absurd (let z : _≡_ {A = ℕ} 0 1 = cc in omega arith)

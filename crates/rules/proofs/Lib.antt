@@ -29,6 +29,8 @@ pub mod Meanings
 pub mod SheetLaws
 -- Refusals of the input
 pub mod InputFaults
+-- The program `bench`
+pub mod BenchLaws
 -- Single calls
 pub mod CallsAnswer
 -- The demands

@@ -24,25 +24,32 @@ use Rattle.rules.proofs.Acceptance.{refused-not, accepted-same, lookup-
 use Rattle.rules.proofs.Uses.{fields-inside, used-once}
 
 -- ---- counts and length
-pub length-counts : (b : List ℕ) → lengthGood b ≡ true → CountsMade b
-unfolding lengthGood countsGood formLength areaAt namesAt nodesAt
-length-counts b e =
-    let l = and-true (countsGood b) (eqb (formLength b) (length b)) e in
-    let a = and-true _ (leb (areaLength b) 4096) (l .0) in
+pub counts-limits :
+    (b : List ℕ)
+    → countsGood b ≡ true
+    → ((1 ≤ nodeCount b) × (nodeCount b ≤ 64)) × ((1 ≤ fieldCount b) × (fieldCount b ≤ 16)) × (nameCount b ≤ 128) × (areaLength b ≤ 4096)
+unfolding countsGood
+counts-limits b e =
+    let a = and-true _ (leb (areaLength b) 4096) e in
     let m = and-true _ (leb (nameCount b) 128) (a .0) in
     let f = and-true _ (leb 1 (fieldCount b) && leb (fieldCount b) 16) (m .0) in
     let g = and-true (leb 1 (fieldCount b)) (leb (fieldCount b) 16) (f .1) in
     let n = and-true (leb 8 (length b)) (leb 1 (nodeCount b) && leb (nodeCount b) 64) (f .0) in
-    let k = and-true (leb 1 (nodeCount b)) (leb (nodeCount b) 64) (n .1) in
-    record {
-      nodes = (leb-true 1 (nodeCount b) (k .0), leb-true (nodeCount b) 64 (k .1));
-      fields = (leb-true 1 (fieldCount b) (g .0), leb-true (fieldCount b) 16 (g .1));
-      names = leb-true (nameCount b) 128 (m .1);
-      area = leb-true (areaLength b) 4096 (a .1);
-      exact = sym (eqb-true (formLength b) (length b) (l .1));
-    }
+    let k = and-true (leb 1 (nodeCount b)) (leb (nodeCount b) 64) (n .1) in (
+      (leb-true 1 (nodeCount b) (k .0), leb-true (nodeCount b) 64 (k .1)),
+      (leb-true 1 (fieldCount b) (g .0), leb-true (fieldCount b) 16 (g .1)),
+      leb-true (nameCount b) 128 (m .1),
+      leb-true (areaLength b) 4096 (a .1),
+    )
 
-pub counts-length : (b : List ℕ) → CountsMade b → lengthGood b ≡ true
+length-counts : (b : List ℕ) → lengthGood b ≡ true → CountsMade b
+unfolding lengthGood formLength areaAt namesAt nodesAt
+length-counts b e =
+    let l = and-true (countsGood b) (eqb (formLength b) (length b)) e in
+    let (nodes, fields, names, area) = counts-limits b (l .0) in
+    record { nodes = nodes; fields = fields; names = names; area = area; exact = sym (eqb-true (formLength b) (length b) (l .1)) }
+
+counts-length : (b : List ℕ) → CountsMade b → lengthGood b ≡ true
 unfolding lengthGood countsGood formLength areaAt namesAt nodesAt
 counts-length b w =
     let exact = w .exact in

@@ -20,3 +20,4 @@ pub mod Lines
 pub mod Demands
 pub mod WellMade
 pub mod Answered
+pub mod CallsAnswered
