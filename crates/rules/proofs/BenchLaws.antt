@@ -20,6 +20,7 @@ use Rattle.rules.specs.Run.{refusedInput, runChecked, run}
 use Rattle.rules.specs.Bench.{benchText, bench}
 use Rattle.rules.proofs.WellMadeLaws.{counts-limits}
 use Rattle.rules.proofs.SheetLaws.{sheet-made, made-length}
+use Rattle.rules.proofs.InputFaults.{run-checked}
 
 number-append : (w : ℕ) (b c : List ℕ) (i : ℕ) → i + w ≤ length b → numberAt w (b ++ c) i ≡ numberAt w b i
 unfolding numberAt
@@ -60,13 +61,17 @@ module _ (s c : List ℕ) (h : 33284 < length s) where
       go true e = (too-many (s ++ c) long (ap (ltb 256) same ∙ e) ∙ sym (too-many s h e), omega (arith, too-many s h e))
       go false e = (too-long (s ++ c) long (ap (ltb 256) same ∙ e) ∙ sym (too-long s h e), omega (arith, too-long s h e))
 
+  checked-behind : (a : Accepted) (ni na : ℕ) → runChecked ni na (s ++ c) a ≡ runChecked ni na s a
+  unfolding runChecked if_then_else_
+  checked-behind a ni na = let (same, more) = sheet-behind in rw (same, lt-ltb 0 (sheetFault s) more)
+
   run-behind : (b : List ℕ) (ni na : ℕ) → run b (s ++ c) ni na ≡ run b s ni na
-  unfolding run runChecked if_then_else_
+  unfolding run
   run-behind b ni na = go (checkForm b) refl
     where
       go : (o : Checked Accepted) → checkForm b ≡ o → run b (s ++ c) ni na ≡ run b s ni na
       go (refusedAt n k) e = rw (e, run)
-      go (accepted a) e = let (same, more) = sheet-behind in rw (e, run, same, lt-ltb 0 (sheetFault s) more)
+      go (accepted a) e = run-checked b (s ++ c) ni na a e ∙ checked-behind a ni na ∙ sym (run-checked b s ni na a e)
 
 -- ---- the form
 module _ (b c : List ℕ) (h : 8 ≤ length b) where

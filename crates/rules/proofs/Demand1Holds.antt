@@ -22,7 +22,7 @@ use Rattle.rules.specs.Answered.{AtFault, badForm, sheetAtFault, shortSl
 use Rattle.rules.proofs.Acceptance.{accepted-form, accepted-fields}
 use Rattle.rules.proofs.WellMadeLaws.{well-made, refused-not-made, check-fault, check-numbers}
 use Rattle.rules.proofs.SheetLaws.{sheet-made, made-sheet, sheet-fault}
-use Rattle.rules.proofs.InputFaults.{padded-nil, fault-small, cleared-left, line-fault, line-left}
+use Rattle.rules.proofs.InputFaults.{padded-nil, run-checked, fault-small, cleared-left, line-fault, line-left}
 use Rattle.rules.proofs.SplitLaws.{some≢none, ok-injective, LineGood, split-line, line-law}
 use Rattle.rules.proofs.EvalSound.{Any}
 use Rattle.rules.proofs.Fields.{RunsAll}
@@ -85,16 +85,15 @@ short-not-ready b s ni na e r = true≢false (sym e ∙ rw (le-ltb ni 1792 (r .i
 
 -- ---- the ways of a run
 module _ (b s : List ℕ) (ni na : ℕ) (a : Accepted) (form : checkForm b ≡ accepted a) where
-  run-checked : run b s ni na ≡ runChecked ni na s a
-  unfolding run
-  run-checked = rw (form, run)
+  runs-checked : run b s ni na ≡ runChecked ni na s a
+  runs-checked = run-checked b s ni na a form
 
   -- 5 and 6
   sheet-refused : 0 < sheetFault s → Demand1 b s ni na
   unfolding runChecked if_then_else_
   sheet-refused h =
       let x = sheet-fault s h in
-      input-refused b s ni na (sheetFault s) none (run-checked ∙ rw (lt-ltb 0 (sheetFault s) h))
+      input-refused b s ni na (sheetFault s) none (runs-checked ∙ rw (lt-ltb 0 (sheetFault s) h))
       (sheetAtFault (sheetFault s) (well-made b a form) x) (fault-small s (sheetFault s) x)
       (λ (r : Ready b s ni na). omega (arith, h, made-sheet s (r .sheet)))
 
@@ -102,13 +101,13 @@ module _ (b s : List ℕ) (ni na : ℕ) (a : Accepted) (form : checkForm b ≡ a
   slices-refused : sheetFault s ≡ 0 → shortSlices ni na ≡ true → Demand1 b s ni na
   unfolding runChecked if_then_else_
   slices-refused z e =
-      input-refused b s ni na 7 none (run-checked ∙ rw (z, e))
+      input-refused b s ni na 7 none (runs-checked ∙ rw (z, e))
       (shortSlice (well-made b a form) (sheet-made s z) (short-slice ni na e)) (omega arith) (short-not-ready b s ni na e)
 
   module _ (l : Line) (sheet : sheetFault s ≡ 0) (slices : shortSlices ni na ≡ false) (splits : split (a .form) s ≡ ok l) where
     run-reports : run b s ni na ≡ report ni na l (runLine (a .fields) l)
     unfolding runChecked if_then_else_ _>>=_
-    run-reports = run-checked ∙ rw (sheet, slices, splits)
+    run-reports = runs-checked ∙ rw (sheet, slices, splits)
 
     records-fit : length (l .records) ≤ ni
     unfolding tooMany
