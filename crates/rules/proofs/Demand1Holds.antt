@@ -23,6 +23,7 @@ use Rattle.rules.proofs.Acceptance.{accepted-form, accepted-fields}
 use Rattle.rules.proofs.WellMadeLaws.{well-made, refused-not-made, check-fault, check-numbers}
 use Rattle.rules.proofs.SheetLaws.{sheet-made, made-sheet, sheet-fault}
 use Rattle.rules.proofs.InputFaults.{padded-nil, run-checked, fault-small, cleared-left, line-fault, line-left}
+use Rattle.rules.proofs.FaultsTell.{fault-told}
 use Rattle.rules.proofs.SplitLaws.{some≢none, ok-injective, LineGood, split-line, line-law}
 use Rattle.rules.proofs.EvalSound.{Any}
 use Rattle.rules.proofs.Fields.{RunsAll}
@@ -58,6 +59,7 @@ unfolding refusedInput
 input-refused b s ni na n k e h small unready = record {
   report = refusedInput ni na n k;
   answered = e;
+  told = fault-told b s ni na (refusedInput ni na n k) e;
   number = inr (unready, h, record { tries = refl; words = refl; answers = padded-nil na; items = cleared-left b s ni n small });
   items = padded-length ni [] (omega arith);
   answers = padded-length na [] (omega arith);
@@ -123,9 +125,10 @@ module _ (b s : List ℕ) (ni na : ℕ) (a : Accepted) (form : checkForm b ≡ a
     -- 8 and 9
     split-refused : (e : Refusal) → l .refusal ≡ some e → Demand1 b s ni na
     unfolding report reportWith runLine ended
-    split-refused e u = record {
-      report = reportWith ni na l (ended (refused e) (l .state)) (e .number) (e .place) [];
+    split-refused e u = let r = reportWith ni na l (ended (refused e) (l .state)) (e .number) (e .place) [] in record {
+      report = r;
       answered = run-reports ∙ rw (u, runLine);
+      told = fault-told b s ni na r (run-reports ∙ rw (u, runLine));
       number = inr (
         (λ (r : Ready b s ni na). let same = ok-injective (sym (r .splits) ∙ form-splits) in
             some≢none (sym u ∙ ap (λ (x : Line). x .refusal) (sym same) ∙ r .unrefused)),
@@ -157,9 +160,10 @@ module _ (b s : List ℕ) (ni na : ℕ) (a : Accepted) (form : checkForm b ≡ a
 
       values-reported : (vs : List Value) → runLine (a .fields) l .outcome ≡ ok vs → Demand1 b s ni na
       unfolding report reportWith
-      values-reported vs e = record {
-        report = reportWith ni na l (runLine (a .fields) l) 0 none (answerWords vs);
+      values-reported vs e = let r = reportWith ni na l (runLine (a .fields) l) 0 none (answerWords vs) in record {
+        report = r;
         answered = run-reports ∙ rw (e, report);
+        told = fault-told b s ni na r (run-reports ∙ rw (e, report));
         number = inl (ready, inl refl);
         items = padded-length ni (l .records) records-fit;
         answers = padded-length na (answerWords vs)
@@ -168,9 +172,10 @@ module _ (b s : List ℕ) (ni na : ℕ) (a : Accepted) (form : checkForm b ≡ a
 
       refusal-reported : (x : Refusal) → runLine (a .fields) l .outcome ≡ refused x → Demand1 b s ni na
       unfolding report reportWith
-      refusal-reported x e = record {
-        report = reportWith ni na l (runLine (a .fields) l) (x .number) (x .place) [];
+      refusal-reported x e = let r = reportWith ni na l (runLine (a .fields) l) (x .number) (x .place) [] in record {
+        report = r;
         answered = run-reports ∙ rw (e, report);
+        told = fault-told b s ni na r (run-reports ∙ rw (e, report));
         number = inl (ready, inr (rw e at (runs .ends)));
         items = padded-length ni (l .records) records-fit;
         answers = padded-length na [] (omega arith);

@@ -6,7 +6,7 @@ use mathlib.Core.Path.{_≡_, refl, sym, ap, _∙_}
 use Prim.Native.Nat.{ℕ, zero, suc, _≤_, _<_}
 use native.Mathlib.Nat.{sub-zero}
 use native.Mathlib.Omega.{arith}
-use borrow.Author.Tests.{ltb-true, ltb-false}
+use borrow.Author.Tests.{le-ltb, ltb-true, ltb-false}
 use lib.Dec.{ltb}
 use lib.ListN.{length, replicate, length-replicate}
 use Rattle.utf8.specs.Utf8.{if_then_else_}
@@ -46,7 +46,7 @@ bind-ok (refused x) f b e = absurd (let z : _≡_ {A = ℕ} 0 1 = cc in omega ar
 bind-ok (fault x) f b e = absurd (let z : _≡_ {A = ℕ} 0 1 = cc in omega arith)
 
 -- all of n items unparsed
-abbrev fresh : ℕ → State
+abbrev pub fresh : ℕ → State
 fresh n = record { marks = replicate n 0; remaining = n; current = none; start = 0; end = n }
 
 zeros-all : (n : ℕ) → All (λ (m : ℕ). m ≡ 0) (replicate n 0)
@@ -54,13 +54,24 @@ zeros-all zero = tt
 zeros-all (suc n) = (refl, zeros-all n)
 
 -- the line of an ambiguous letter
-abbrev stopped : List ℕ → Split → ℕ → Line
+abbrev pub stopped : List ℕ → Split → ℕ → Line
 stopped s x i = record {
   refusal = some (refuseAt 9 i);
   items = itemsOf x;
   records = recordsFrom 0 (arguments s) (x .groups);
   state = fresh (length (itemsOf x));
 }
+
+pub few-line :
+    (b s : List ℕ) (x : Split) (i : ℕ)
+    → Splits b s x
+    → length (itemsOf x) ≤ 256
+    → x .ambiguous ≡ some i
+    → lineOf (arguments s) x ≡ ok (stopped s x i)
+unfolding lineOf itemsOf ambiguity construct _>>=_ if_then_else_
+few-line b s x i given few a =
+    let marker = ambiguous-law (lettersOf (readForm b)) (arguments s) x i given a .0 in
+    rw (le-ltb 256 (length (itemsOf x)) few, marker, a)
 
 -- the two ways in which splitting refuses
 data Refuses (b s : List ℕ) (l : Line) : Type 0 where
@@ -77,8 +88,8 @@ module _ (b s : List ℕ) (l : Line) (e : Refusal) (refuses : l .refusal ≡ som
         let same = ap (λ (l : Line). l .refusal) (ok-injective k) in
         absurd (some≢none (sym refuses ∙ sym same ∙ ap ambiguity a))
     few-refuses t g (some i) a =
-        let marker = ambiguous-law (lettersOf (readForm b)) (arguments s) x i given a .0 in
-        nine x i given (ltb-false 256 _ t) a (sym (ok-injective (rw (t, marker, a) at g)))
+        let few = ltb-false 256 (length (itemsOf x)) t in
+        nine x i given few a (sym (ok-injective (sym (few-line b s x i given few a) ∙ g)))
 
     line-refuses : lineOf (arguments s) x ≡ ok l → Refuses b s l
     unfolding lineOf if_then_else_

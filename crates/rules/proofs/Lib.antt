@@ -29,6 +29,7 @@ pub mod Meanings
 pub mod SheetLaws
 -- Refusals of the input
 pub mod InputFaults
+pub mod FaultsTell
 -- The program `bench`
 pub mod BenchLaws
 -- Single calls

@@ -42,14 +42,14 @@ counts-limits b e =
       leb-true (areaLength b) 4096 (a .1),
     )
 
-length-counts : (b : List ℕ) → lengthGood b ≡ true → CountsMade b
+pub length-counts : (b : List ℕ) → lengthGood b ≡ true → CountsMade b
 unfolding lengthGood formLength areaAt namesAt nodesAt
 length-counts b e =
     let l = and-true (countsGood b) (eqb (formLength b) (length b)) e in
     let (nodes, fields, names, area) = counts-limits b (l .0) in
     record { nodes = nodes; fields = fields; names = names; area = area; exact = sym (eqb-true (formLength b) (length b) (l .1)) }
 
-counts-length : (b : List ℕ) → CountsMade b → lengthGood b ≡ true
+pub counts-length : (b : List ℕ) → CountsMade b → lengthGood b ≡ true
 unfolding lengthGood countsGood formLength areaAt namesAt nodesAt
 counts-length b w =
     let exact = w .exact in
@@ -88,7 +88,7 @@ unfolding typeGood if_then_else_
 type-long t s g e = subst (λ (t : ℕ). typeGood t s ≡ true) e g
 
 module _ (area : List ℕ) where
-  name-made : (m : Name) → NameGood area m → NameMade area m
+  pub name-made : (m : Name) → NameGood area m → NameMade area m
   unfolding nameGood
   name-made m g =
       let p = and-true (leb (m .offset + m .size) (length area)) (typeGood (m .type) (nameBytes area m)) g in
@@ -99,14 +99,17 @@ module _ (area : List ℕ) where
         long = type-long (m .type) (nameBytes area m) (p .1);
       }
 
-  each-made : (l : List Name) → All (NameGood area) l → All (NameMade area) l
+  pub each-made : (l : List Name) → All (NameGood area) l → All (NameMade area) l
   each-made = All-map (NameGood area) (NameMade area) name-made
 
-  name-good : (m : Name) → NameMade area m → NameGood area m
+  pub name-good : (m : Name) → NameMade area m → NameGood area m
   unfolding nameGood
   name-good m w =
       both (le-leb (m .offset + m .size) (length area) (w .inside))
       (type-good (m .type) (nameBytes area m) (w .type) (w .short) (w .long))
+
+  pub each-good : (l : List Name) → All (NameMade area) l → All (NameGood area) l
+  each-good = All-map (NameMade area) (NameGood area) name-good
 
 -- ---- kinds
 base-same : (a b : Base) → sameBase a b ≡ true → a ≡ b
@@ -311,12 +314,12 @@ trees-at f ts j (y ∷ xs) h (suc k) x e =
     subst (λ (n : ℕ). TreeAt f ts n x) same (trees-at f ts (suc j) xs (h .1) k x e)
 
 -- ---- all of it
-node-count : (b : List ℕ) → length (readForm b .nodes) ≡ nodeCount b
+pub node-count : (b : List ℕ) → length (readForm b .nodes) ≡ nodeCount b
 unfolding readForm
 node-count b = length-map (numbers (nodeCount b) 0) _ ∙ numbers-length (nodeCount b) 0
 
 -- nodes that have trees are made
-nodes-made :
+pub nodes-made :
     (f : Form) (xs : List Node) (ts : List Tree) (n : ℕ)
     → treesFrom f [] xs ≡ accepted ts
     → ((k : ℕ) (x : Node) → k < n → getElem? (f .nodes) k ≡ some x → getElem? xs k ≡ some x)
@@ -330,15 +333,18 @@ nodes-made f xs ts n e part = record {
       node-made ts f k x (t .tree) (t .stands) (t .made);
 }
 
-fields-made :
+pub trees-count : (b : List ℕ) (ts : List Tree) → treesFrom (readForm b) [] (readForm b .nodes) ≡ accepted ts → length ts ≡ nodeCount b
+trees-count b ts e =
+    trees-length (readForm b) [] (readForm b .nodes) ts e ∙ zero-add (length (readForm b .nodes)) ∙ node-count b
+
+pub fields-made :
     (b : List ℕ) (ts us : List Tree)
     → treesFrom (readForm b) [] (readForm b .nodes) ≡ accepted ts
     → treesAt ts (readForm b .fields) ≡ some us
     → All (λ (k : ℕ). k < nodeCount b) (readForm b .fields)
 fields-made b ts us e g =
-    let f = readForm b in
-    let long : length ts ≡ nodeCount b = trees-length f [] (f .nodes) ts e ∙ zero-add (length (f .nodes)) ∙ node-count b in
-    subst (λ (n : ℕ). All (λ (k : ℕ). k < n) (f .fields)) long (fields-inside ts (f .fields) us g)
+    let ks = readForm b .fields in
+    subst (λ (n : ℕ). All (λ (k : ℕ). k < n) ks) (trees-count b ts e) (fields-inside ts ks us g)
 
 -- an accepted form is well made
 pub well-made : (b : List ℕ) (a : Accepted) → checkForm b ≡ accepted a → WellMade b
@@ -388,7 +394,7 @@ unfolding repeatOf
 repeat-is make c κ h e = if-false (hasRepeat c) none (fitting (make c)) h ∙ fitting-is (make c) κ e
 
 -- the trees below are of the kinds that are told
-abbrev Known : (ℕ → Kind) → (ℕ → Bool) → List Tree → Type 0
+abbrev pub Known : (ℕ → Kind) → (ℕ → Bool) → List Tree → Type 0
 Known kind repeats below = (i : ℕ) (c : Tree) → getElem? below i ≡ some c → (kindOf c ≡ some (kind i)) × (hasRepeat c ≡ repeats i)
 
 -- the tree of a node, by its kind
@@ -585,7 +591,7 @@ module _ (f : Form) (kind : ℕ → Kind) (repeats : ℕ → Bool) where
       (ts, rw (m .is, treesFrom) e, all)
 
 -- nodes that are made have trees, of the kinds told
-nodes-trees :
+pub nodes-trees :
     (f : Form) (xs : List Node) (n : ℕ)
     → (w : NodesMade f n)
     → ((k : ℕ) (x : Node) → getElem? xs k ≡ some x → (k < n) × (getElem? (f .nodes) k ≡ some x))
@@ -596,7 +602,7 @@ nodes-trees f xs n w part =
     subst (λ (k : ℕ). NodeMade f (w .kind) (w .repeats) k x) (sym (zero-add j)) (w .each j x l g))
 
 -- ---- the fields, and the uses
-fields-is : (ts : List Tree) (ks : List ℕ) → All (λ (k : ℕ). k < length ts) ks → (us : List Tree) × (treesAt ts ks ≡ some us)
+pub fields-is : (ts : List Tree) (ks : List ℕ) → All (λ (k : ℕ). k < length ts) ks → (us : List Tree) × (treesAt ts ks ≡ some us)
 unfolding treesAt
 fields-is ts [] h = ([], refl)
 fields-is ts (k ∷ ks) h =
@@ -622,11 +628,9 @@ made-accepted b w =
     let count = node-count b in
     let (ts, e, all) =
     nodes-trees f (f .nodes) (nodeCount b) (w .nodeRecords) (λ j x h. let l = lookup-inside (f .nodes) j x h in (omega arith, h)) in
-    let long : nodeCount b ≡ length ts = sym (trees-length f [] (f .nodes) ts e ∙ zero-add (length (f .nodes)) ∙ count) in
-    let (us, g) = fields-is ts (f .fields) (subst (λ (n : ℕ). All (λ (k : ℕ). k < n) (f .fields)) long (w .fieldNumbers)) in
+    let (us, g) = fields-is ts (f .fields) (subst (λ (n : ℕ). All (λ (k : ℕ). k < n) (f .fields)) (sym (trees-count b ts e)) (w .fieldNumbers)) in
     let names =
-    good-no-fault (nameGood (f .area)) 0 (f .names)
-    (All-map (NameMade (f .area)) (NameGood (f .area)) (name-good (f .area)) (f .names) (w .nameRecords)) in
+    good-no-fault (nameGood (f .area)) 0 (f .names) (each-good (f .area) (f .names) (w .nameRecords)) in
     let once =
     good-no-fault (usedOnce f) 0 (numbers (length (f .nodes)) 0)
     (numbers-each (λ (k : ℕ). usedOnce f k ≡ true) (length (f .nodes)) 0
@@ -669,7 +673,7 @@ first-fault {A} p j (x ∷ l) k e = go (p x) refl (first-fault p (suc j) l k) e
         record { at = 0; element = x; place = omega arith; stands = refl; fails = h; lower = tt }
 
 -- the same among numbers
-first-number :
+pub first-number :
     (p : ℕ → Bool) (n j k : ℕ)
     → firstFault p j (numbers n j) ≡ some k
     → (j ≤ k) × (k < j + n) × (p k ≡ false) × ((i : ℕ) → j ≤ i → i < k → p i ≡ true)
@@ -716,17 +720,17 @@ refused-place : {A : Type 0} (m n : ℕ) (j k : Option ℕ) → _≡_ {A = Check
 refused-place m n j k e = cc
 
 -- where the trees end
-record Stopped (f : Form) (below : List Tree) (xs : List Node) (n : ℕ) (k : Option ℕ) : Type 0 where
-  at : ℕ
-  node : Node
-  trees : List Tree
-  number : n ≡ 3
-  place : k ≡ some (length below + at)
-  stands : getElem? xs at ≡ some node
-  lower : treesFrom f below (take at xs) ≡ accepted trees
-  fails : treeOf f trees node ≡ none
+pub record Stopped (f : Form) (below : List Tree) (xs : List Node) (n : ℕ) (k : Option ℕ) : Type 0 where
+  pub at : ℕ
+  pub node : Node
+  pub trees : List Tree
+  pub number : n ≡ 3
+  pub place : k ≡ some (length below + at)
+  pub stands : getElem? xs at ≡ some node
+  pub lower : treesFrom f below (take at xs) ≡ accepted trees
+  pub fails : treeOf f trees node ≡ none
 
-trees-refused :
+pub trees-refused :
     (f : Form) (below : List Tree) (xs : List Node) (n : ℕ) (k : Option ℕ)
     → treesFrom f below xs ≡ refusedAt n k
     → Stopped f below xs n k
@@ -769,7 +773,7 @@ trees-refused f below (x ∷ xs) n k e = go (treeOf f below x) refl (λ t. trees
 -- 3: the nodes below are made, and with no kinds is the next made too
 module _ (f : Form) (x : Node) (ts : List Tree) (k : ℕ) (stands : getElem? (f .nodes) k ≡ some x) where
   module _ (lower : treesFrom f [] (take k (f .nodes)) ≡ accepted ts) where
-    lower-made : NodesMade f k
+    pub lower-made : NodesMade f k
     lower-made = nodes-made f (take k (f .nodes)) ts k lower (λ j y l h. lookup-take k (f .nodes) j l ∙ h)
 
     trees-below : length ts ≡ k
@@ -777,7 +781,7 @@ module _ (f : Form) (x : Node) (ts : List Tree) (k : ℕ) (stands : getElem? (f 
         let inside = lookup-inside (f .nodes) k x stands in
         trees-length f [] (take k (f .nodes)) ts lower ∙ zero-add _ ∙ length-take-le k (f .nodes) (omega arith)
 
-    next-not-made : treeOf f ts x ≡ none → NodesMade f (suc k) → ⊥
+    pub next-not-made : treeOf f ts x ≡ none → NodesMade f (suc k) → ⊥
     next-not-made fails w =
         let (us, e, known) =
         nodes-trees f (take k (f .nodes)) (suc k) w (λ j y h. let l = take-inside k (f .nodes) j y h in (omega arith, sym (lookup-take k (f .nodes) j l) ∙ h)) in
@@ -846,8 +850,7 @@ module _ (b : List ℕ) (counts : CountsMade b) (n : ℕ) (k : Option ℕ) where
       first : (o : Option (List Tree)) → treesAt ts (f .fields) ≡ o → FormFault b n k
       first none h =
           let (i, j, at, l) = fields-none ts (f .fields) h in
-          let long = trees-length f [] (f .nodes) ts trees in
-          let count = node-count b in
+          let long = trees-count b ts trees in
           refused-fault b 4 n none k (rw (h, checkUse) at e) (badField i j counts names nodes at (omega arith))
       first (some us) h = second us h (firstFault (usedOnce f) 0 (numbers (length (f .nodes)) 0)) refl
 

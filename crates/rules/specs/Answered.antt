@@ -129,13 +129,14 @@ pub record Ready (b s : List ℕ) (ni na : ℕ) : Type 0 where
 abbrev pub RunNumber : ℕ → Type 0
 RunNumber n = (n ≡ 0) ⊎ ((20 ≤ n) × (n ≤ 27))
 
--- Such an input is run to its end and answered; everything else is refused under a number from 1 to 9, by what is at fault.
--- Both slices are filled
+-- Such an input is run to its end and answered; everything else is refused under a number from 1 to 9, by what is at fault,
+-- and what is at fault tells number and place. Both slices are filled
 pub record Demand1 (b s : List ℕ) (ni na : ℕ) : Type 0 where
   pub report : Report
   pub answered : run b s ni na ≡ ok report
   pub number :
       (Ready b s ni na × RunNumber (report .number))
       ⊎ ((Ready b s ni na → ⊥) × AtFault b s ni na (report .number) (report .place) × Left b s ni na report)
+  pub told : (n : ℕ) (k : Option ℕ) → AtFault b s ni na n k → (report .number ≡ n) × (report .place ≡ k)
   pub items : length (report .items) ≡ ni
   pub answers : length (report .answers) ≡ na
