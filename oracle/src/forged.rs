@@ -19,14 +19,18 @@ pub struct State {
 pub const ITEM_WORDS: usize = 1792;
 pub const ANSWER_WORDS: usize = 8240;
 
-/// The first 256 records of an item slice, up to the last that is not all 0.
+/// The whole records of an item slice, up to the last that is not all 0.
 pub fn records(items: &[u32]) -> Vec<[u32; 7]> {
-    let mut records: Vec<[u32; 7]> =
-        items.chunks_exact(7).take(256).map(|r| r.try_into().expect("seven words")).collect();
+    let mut records: Vec<[u32; 7]> = items.chunks_exact(7).map(|r| r.try_into().expect("seven words")).collect();
     while records.last().is_some_and(|r| *r == [0; 7]) {
         records.pop();
     }
     records
+}
+
+/// Whether the words behind the last whole record, fewer than seven, are all 0.
+fn tail_good(items: &[u32]) -> bool {
+    items.chunks_exact(7).remainder().iter().all(|w| *w == 0)
 }
 
 /// Whether an item record is one that refusal 30 lets through, over an area of that many bytes.
@@ -107,7 +111,8 @@ impl Call {
         let kind = |node: usize| form.and_then(|f| f.nodes.get(node)).map(|n| n.kind);
         let ty = |record: usize| form.and_then(|f| f.names.get(record)).map(|n| n.ty);
         match *self {
-            Call::Remove(place) | Call::Get(place) | Call::OnlyOnce(place) | Call::SaveConflicts(_, place) => place < count,
+            Call::Remove(place) | Call::Get(place) | Call::SaveConflicts(_, place) => place < count,
+            Call::OnlyOnce(place) => place < count && u32::try_from(place).is_ok(),
             Call::SetScope(start, end) => start <= end && end <= count,
             Call::AvailableFrom(start) => start <= count,
             Call::Matches(node, place) => matches!(kind(node), Some(FLAG | ARGUMENT)) && place < count,
@@ -149,7 +154,7 @@ pub fn refusal(lent: &Lent, call: &Call) -> Option<Refusal> {
         }
         let records = records(lent.items);
         let area = sheet.arguments.iter().map(Vec::len).sum();
-        if !records.iter().all(|r| record_good(r, area)) {
+        if !tail_good(lent.items) || !records.iter().all(|r| record_good(r, area)) {
             return Some(Refusal::new(30));
         }
         count = records.len();
@@ -201,6 +206,21 @@ mod tests {
         assert_eq!(records.len(), 3);
         assert!(!record_good(&records[1], 9), "a hole is a record of unknown kind");
         assert!(record_good(&records[2], 0));
+    }
+
+    #[test]
+    fn a_table_may_be_longer_than_a_state() {
+        let mut items = vec![0; ITEM_WORDS + 7];
+        items[ITEM_WORDS] = 4;
+        assert_eq!(records(&items).len(), 257);
+        items.extend([0; 6]);
+        assert_eq!(records(&items).len(), 257);
+        assert!(tail_good(&items));
+        *items.last_mut().expect("words") = 1;
+        assert!(!tail_good(&items), "a word behind the last whole record");
+        items.push(0);
+        assert!(tail_good(&items));
+        assert_eq!(records(&items).len(), 258);
     }
 
     #[test]

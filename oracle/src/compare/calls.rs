@@ -245,7 +245,7 @@ fn random_call(rng: &mut Rng, form: &Form, count: usize, second: State, beyond: 
 }
 
 /// A well-made case of at most 40 arguments, split by the proved code.
-fn start(rng: &mut Rng, spare: usize) -> (Vec<u8>, Vec<u8>, Vec<u32>, State) {
+pub fn start(rng: &mut Rng, spare: usize) -> (Vec<u8>, Vec<u8>, Vec<u32>, State) {
     loop {
         let case = cases::well_made(rng);
         let small = Sheet::check(&case.sheet).is_ok_and(|s| s.arguments.len() <= 40);
@@ -391,7 +391,7 @@ fn damage_items(rng: &mut Rng, items: &mut Vec<u32>, count: usize) {
         return;
     }
     let at = 7 * rng.below(count + 1).min(255);
-    match rng.below(7) {
+    match rng.below(8) {
         0 => items[at + rng.below(7)] = rng.below(8) as u32,
         1 => items[at + rng.below(7)] = u32::MAX,
         2 => items[at..at + 7].fill(0),
@@ -401,6 +401,10 @@ fn damage_items(rng: &mut Rng, items: &mut Vec<u32>, count: usize) {
         }
         4 => items[7 * rng.below(256) + rng.below(7)] = 1 + rng.below(5) as u32,
         5 => items.truncate(forged::ITEM_WORDS - 1 - rng.below(2) * rng.below(1700)),
+        6 => {
+            let word = items.len() - 1 - rng.below(10);
+            items[word] = 1 + rng.below(5) as u32;
+        }
         _ => items[at] = items[at] % 5 + 1,
     }
 }

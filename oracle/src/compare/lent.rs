@@ -65,7 +65,7 @@ fn find(lent: &Lent, items: &[[u32; 7]], node: usize) -> Answer {
 
 impl Compared {
     /// The calls on a lent state are those by value.
-    fn lent(&mut self, lent: &Lent, call: &Call) {
+    pub fn lent(&mut self, lent: &Lent, call: &Call) {
         self.cases += 1;
         let by_value = calls::ours(lent, call);
         self.answered(by_value.answer.number);
@@ -73,7 +73,7 @@ impl Compared {
         self.same("in place", &input, in_place(lent, call), (by_value.answer, by_value.state));
     }
 
-    fn found(&mut self, lent: &Lent, items: &[[u32; 7]], node: usize, theirs: Answer) {
+    pub fn found(&mut self, lent: &Lent, items: &[[u32; 7]], node: usize, theirs: Answer) {
         self.cases += 1;
         let ours = find(lent, items, node);
         self.answered(ours.number);
@@ -92,18 +92,24 @@ pub fn compare_forged(seed: u64, count: u64) -> Compared {
         let lent = forgery.lent();
         compared.lent(&lent, &Call::Remove(rng.below(lent.state.count.min(300) as usize + 2)));
         compared.lent(&lent, &Call::TakeFlag(rng.below(forgery.nodes + 2)));
-        let (items, node) = (records(lent.items), rng.below(forgery.nodes + 2));
-        let mut words = items.concat();
-        words.resize(forged::ITEM_WORDS, 0);
-        let whole = Lent { items: &words, ..lent };
-        let refused = forged::refusal(&whole, &Call::Matches(node, 0)).filter(|r| r.number != 28 || !named(&whole, node));
-        let theirs = match refused {
-            Some(r) => Answer { number: r.number, place: r.place.map_or(0, |p| p as u32 + 1), ..Answer::default() },
-            None => by_number(&whole, items.len(), node),
-        };
+        let (mut items, node) = (records(lent.items), rng.below(forgery.nodes + 2));
+        items.resize(items.len() + rng.below(2) * rng.below(4), [0; 7]);
+        let theirs = sought(&lent, &items, node);
         compared.found(&lent, &items, node, theirs);
     }
     compared
+}
+
+/// What the search must answer over item structs, of which any number may stand behind the last that is not all 0.
+pub fn sought(lent: &Lent, items: &[[u32; 7]], node: usize) -> Answer {
+    let mut words = items.concat();
+    words.resize(words.len().max(forged::ITEM_WORDS), 0);
+    let whole = Lent { items: &words, ..*lent };
+    let refused = forged::refusal(&whole, &Call::Matches(node, 0)).filter(|r| r.number != 28 || !named(&whole, node));
+    match refused {
+        Some(r) => Answer { number: r.number, place: r.place.map_or(0, |p| p as u32 + 1), ..Answer::default() },
+        None => by_number(&whole, records(&words).len(), node),
+    }
 }
 
 /// Whether a node of a form is a flag or an argument.

@@ -82,7 +82,7 @@ pub fn eval(lent: &Lent, answers: &mut [u32], node: usize) -> RunAnswer {
 }
 
 /// The part that holds a text, or the refusal with its place plus 1.
-fn text<'a>(lent: &Lent<'a>, word: u32) -> Result<&'a [u8], (u32, u32)> {
+pub fn text<'a>(lent: &Lent<'a>, word: u32) -> Result<&'a [u8], (u32, u32)> {
     let (f, s, i) = (lent.form, lent.sheet, lent.items);
     let t = unsafe { silverpoise_text(f.as_ptr(), f.len(), s.as_ptr(), s.len(), i.as_ptr(), i.len(), word) };
     if t.number != 0 {
@@ -271,7 +271,7 @@ pub fn compare_eval(seed: u64, count: u64) -> Compared {
 }
 
 /// The text that an answer word stands for: an item's, or a name record's.
-fn text_of(lent: &Lent, word: u32) -> Vec<u8> {
+pub fn text_of(lent: &Lent, word: u32) -> Vec<u8> {
     if word >= 256 {
         return Form::check(lent.form).expect("a form").name(word as usize - 256).to_vec();
     }
