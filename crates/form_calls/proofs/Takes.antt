@@ -164,7 +164,7 @@ arg-small mark area words n adjacent m p m′ t q h = go (t .value) refl
         (arg-within mark (q .told) (q .items) (stateOf m p) (rw (q .same) (q .fine .good)) n adjacent)
 
     few : length (q .items) ≤ 256
-    few = q .table .small
+    few = omega (arith, q .same, q .fine .small)
 
     go : (v : Value) → t .value ≡ v → SmallValue (t .value)
     go Missing k = rw k tt

@@ -199,10 +199,16 @@ module _ (s words : List ℕ) (i : ℕ) (r : Input) (g : Gives s words r) where
           let t = g .good e in
           record { made = t .made; items = t .holds .items; table = t .holds .table; below = omega (arith, t .holds .count) }
 
-      pub once-small : i < 256
-      once-small = let t = g .good e in omega (arith, t .holds .count, t .holds .table .small)
+      pub once-wide : 4294967295 < i → plainAnswer placeOrNone (callOnlyOnce s words i) ≡ some (answerWith 28 0 (coded 0 0 0))
+      unfolding callOnlyOnce plainAnswer placeIn refuse _>>=_ if_then_else_
+      once-wide w =
+          let t = g .good e in
+          let l : i < length (t .holds .items) = omega (arith, t .holds .count) in
+          let step : callOnlyOnce s words i ≡ refused (refuse 28) =
+          table-given s words _ (r .count) t ∙ rw (lt-ltb i (length (t .holds .items)) l, le-ltb i 4294967296 (omega arith)) in
+          ap (plainAnswer placeOrNone) step
 
-      module _ (f : ℕ) (z : Earlier (sheetArea s) words i f) where
+      module _ (small : i ≤ 4294967295) (f : ℕ) (z : Earlier (sheetArea s) words i f) where
         told : plainAnswer placeOrNone (callOnlyOnce s words i) ≡ some (answerWith 0 0 (placeOrNone (placeOf f)))
         unfolding callOnlyOnce plainAnswer placeIn _>>=_ if_then_else_
         told =
@@ -210,7 +216,7 @@ module _ (s words : List ℕ) (i : ℕ) (r : Input) (g : Gives s words r) where
             let l : i < length (t .holds .items) = omega (arith, t .holds .count) in
             let step : callOnlyOnce s words i ≡ ok (placeOf f) =
             table-given s words _ (r .count) t
-            ∙ rw (lt-ltb i (length (t .holds .items)) l) (z .same (t .holds .items) (t .holds .table) l) in
+            ∙ rw (lt-ltb i (length (t .holds .items)) l, lt-ltb i 4294967296 (omega arith)) (z .same (t .holds .items) (t .holds .table) l) in
             ap (plainAnswer placeOrNone) step
 
         pub once-none : f ≡ 0 → plainAnswer placeOrNone (callOnlyOnce s words i) ≡ some (answerWith 0 0 (coded 0 0 0))

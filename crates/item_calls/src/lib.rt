@@ -201,7 +201,7 @@ fn earlier(sheet: &[u8], items: &[u32], place: usize) -> usize
     j
 }
 
-// The nearest earlier place with the same name as this one.
+// The nearest earlier place with the same name as this one. A place that 32 bits do not hold is none.
 pub fn only_once(sheet: &[u8], items: &[u32], place: usize) -> Answer
     ensures { λ r. ⌜ plainAnswer placeOrNone (callOnlyOnce (now (sheet .entry)) (now (items .entry)) place) ≡ some r ⌝ }
 {
@@ -210,6 +210,9 @@ pub fn only_once(sheet: &[u8], items: &[u32], place: usize) -> Answer
         return refused(g.number);
     }
     if g.count <= place {
+        return refused(28);
+    }
+    if 0xffff_ffff < place {
         return refused(28);
     }
     let found = earlier(sheet, items, place);

@@ -3,16 +3,17 @@ use mathlib.Core.Path.{_≡_, refl, sym, ap, _∙_}
 use mathlib.Core.Bool.{Bool, true, false}
 use mathlib.Core.List.{List, [], _∷_}
 use mathlib.Core.Option.{Option, some, none}
-use Prim.Native.Nat.{ℕ, zero, suc, _+_, _*_, _≤_}
-use native.Mathlib.Omega.{arith}
+use Prim.Native.Nat.{ℕ, zero, suc, _+_, _*_, _/_, _≤_}
+use native.Mathlib.Omega.{arith, div-fact}
 use lib.ListN.{length, take, drop, getElem?}
 use lib.Seq.{drop-drop}
 use Rattle.utf8.specs.Utf8.{if_then_else_}
 use Rattle.rules.specs.Form.{Node, nameCount, readForm}
-use Rattle.rules.specs.Outcome.{ok, refused, refuse}
+use Rattle.rules.specs.Outcome.{Outcome, ok, refused, refuse}
 use Rattle.rules.specs.Split.{Item}
 use Rattle.rules.specs.Tree.{Named, zeros, namesOf, namedOf, namedBy}
-use Rattle.rules.specs.Calls.{itemFrom, recordsIn, trimmed, itemsFrom, itemsIn}
+use Rattle.rules.specs.Base.{_>>?_}
+use Rattle.rules.specs.Calls.{itemFrom, recordsIn, wholeRecords, trimmed, itemsFrom, itemsIn}
 use Rattle.rules.proofs.Acceptance.{bind-some, names-some}
 use Rattle.layout.proofs.Sizes.{names-length}
 use Rattle.named.specs.Codes.{namesFrom, namedAt}
@@ -93,31 +94,38 @@ items-at area (r ∷ rs) is e i x h =
     go zero y a ys h later = let w : y ≡ x = cc in (r, refl, rw (← w) a)
     go (suc j) y a ys h later = later j h
 
--- the items that a slice of enough words is read as
-pub table-in : (area words : List ℕ) (is : List Item) → 1792 ≤ length words → itemsIn area words ≡ ok is → Table area words is
-unfolding itemsIn
-table-in area words is long e = go (itemsFrom area (trimmed (recordsIn 256 words))) refl e
+-- the items that a slice is read as
+pub table-in : (area words : List ℕ) (is : List Item) → itemsIn area words ≡ ok is → Table area words is
+unfolding itemsIn wholeRecords _>>?_ if_then_else_
+table-in area words is e = go (zeros (drop (7 * whole) words)) e
   where
-    front : Front (recordsIn 256 words) (trimmed (recordsIn 256 words))
-    front = trimmed-front (recordsIn 256 words)
+    whole : ℕ
+    whole = length words / 7
 
-    made : itemsFrom area (trimmed (recordsIn 256 words)) ≡ some is → Table area words is
+    front : Front (recordsIn whole words) (trimmed (recordsIn whole words))
+    front = trimmed-front (recordsIn whole words)
+
+    made : itemsFrom area (trimmed (recordsIn whole words)) ≡ some is → Table area words is
     made h =
-        let n = items-length area (trimmed (recordsIn 256 words)) is h in
-        let m = records-length 256 words in
+        let n = items-length area (trimmed (recordsIn whole words)) is h in
+        let m = records-length whole words in
         let s = front .short in
         record {
-          room = omega arith;
-          small = omega arith;
+          room = omega (arith, div-fact (length words) 6);
           at = λ i x t.
-              let r = items-at area (trimmed (recordsIn 256 words)) is h i x t in
-              rw (← records-at 256 words i (r .0) (front .same i (r .0) (r .1))) (r .2);
+              let r = items-at area (trimmed (recordsIn whole words)) is h i x t in
+              rw (← records-at whole words i (r .0) (front .same i (r .0) (r .1))) (r .2);
         }
 
-    go : (o : Option (List Item)) → itemsFrom area (trimmed (recordsIn 256 words)) ≡ o
+    read : (o : Option (List Item)) → itemsFrom area (trimmed (recordsIn whole words)) ≡ o
         → (elim o [ none ↦ refused (refuse 30) | some xs ↦ ok xs ]) ≡ ok is → Table area words is
-    go none h k = absurd (let z : _≡_ {A = ℕ} 0 1 = cc in omega arith)
-    go (some xs) h k = let z : xs ≡ is = cc in made (h ∙ ap some z)
+    read none h k = absurd (let z : _≡_ {A = ℕ} 0 1 = cc in omega arith)
+    read (some xs) h k = let z : xs ≡ is = cc in made (h ∙ ap some z)
+
+    go : (b : Bool) → _≡_ {A = Outcome (List Item)} (elim ((if b then some (recordsIn whole words) else none) >>? λ rs. itemsFrom area (trimmed rs))
+        [ none ↦ refused (refuse 30) | some xs ↦ ok xs ]) (ok is) → Table area words is
+    go true k = read (itemsFrom area (trimmed (recordsIn whole words))) refl k
+    go false k = absurd (let z : _≡_ {A = ℕ} 0 1 = cc in omega arith)
 
 -- ---- names
 

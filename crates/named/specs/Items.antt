@@ -14,7 +14,6 @@ use Rattle.arg.specs.declared.Part.{Part}
 -- The first records of `words` are the items `is`, whose parts lie in `area`.
 pub record Table (area words : List ℕ) (is : List Item) : Type 0 where
   pub room : 7 * length is ≤ length words
-  pub small : length is ≤ 256
   pub at : (i : ℕ) (x : Item) → getElem? is i ≡ some x → itemFrom area (take 7 (drop (7 * i) words)) ≡ some x
 
 -- a part of the sheet's area

@@ -74,9 +74,6 @@ codes-room b l c e =
     let long : length l ≡ 128 = ap length e ∙ length-replicate {A = ℕ} 128 0 in
     omega arith
 
-pub known-few : (n : ℕ) (area words : List ℕ) → Holds area words n → n ≤ 256
-known-few n area words h = omega (arith, h .count, h .table .small)
-
 pub known-long : (l : List ℕ) → l ≡ replicate 257 0 → length l ≡ 257
 known-long l e = ap length e ∙ length-replicate {A = ℕ} 257 0
 
@@ -93,6 +90,10 @@ known-matchable b codes s words n c w made h = record {
 
 pub cleared-holds : (b s words o : List ℕ) (x : Raw) (k : ℕ) → Cleared b s words o x k → (n : ℕ) → n ≡ x .count → Holds (sheetArea s) words n
 cleared-holds b s words o x k c n e = rw e (c .input .holds)
+
+-- a state has a mark for each of its items
+pub cleared-few : (b s words o : List ℕ) (x : Raw) (k : ℕ) → Cleared b s words o x k → (n : ℕ) → n ≡ x .count → n ≤ 256
+cleared-few b s words o x k c n e = omega (arith, in-kept (x .count) x (c .input .good) .small)
 
 pub cleared-made : (b s words o : List ℕ) (x : Raw) (k : ℕ) → Cleared b s words o x k → sheetFault s ≡ 0
 cleared-made b s words o x k c = c .input .made

@@ -84,7 +84,7 @@ fn wide(x: u32) -> usize
 
 // Which nodes each of the items matches.
 fn known_of(form: &[u8], sheet: &[u8], items: &[u32], count: usize) -> [u64; 257]
-    requires { ⌜ Checked (now form) × (sheetFault (now sheet) ≡ 0) × Holds (sheetArea (now sheet)) (now items) count ⌝ }
+    requires { ⌜ Checked (now form) × (sheetFault (now sheet) ≡ 0) × Holds (sheetArea (now sheet)) (now items) count × (count ≤ 256) ⌝ }
     ensures { λ r. ⌜ Known (now (form .entry)) (sheetArea (now (sheet .entry))) (now (items .entry)) count r ⌝ }
 {
     let codes = codes_of(form);

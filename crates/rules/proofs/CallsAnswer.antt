@@ -26,7 +26,7 @@ use Rattle.rules.specs.State.{State, Scope, Found, position, matchShort,
 use Rattle.rules.specs.Take.{Took, took, Operand, isCommand, takeCommand, takeArg, takePositionalWord, takeCmd}
 use Rattle.rules.specs.Run.{Line, parsedMark, padded, split}
 use Rattle.rules.specs.Calls.{callRemove, callPickWinner, callSaveConflicts, callSetScope, callAdjacentScope, callAvailableFrom, onItems, callGet, callConflict, operandOr20, callTakePositional, callOnlyOnce, onForm, keyOf, flagNames, argumentKey, commandName, callMatches, callTakeFlag, callTakeArg, callTakeCmd, callKind, callPortable, callText}
-use Rattle.rules.specs.Calls.{formIn, sheetIn, sliceIn, itemsFrom, trimmed, recordsIn, itemsIn, fromRaw, toRaw, stateIn, asked, placeIn, scopeIn, handed, splitRefused, splitReport, splitChecked, callSplit, evaluatedWith, evaluated, unchanged, evalIn, callEval}
+use Rattle.rules.specs.Calls.{formIn, sheetIn, sliceIn, itemsFrom, trimmed, wholeRecords, itemsIn, fromRaw, toRaw, stateIn, asked, placeIn, scopeIn, handed, splitRefused, splitReport, splitChecked, callSplit, evaluatedWith, evaluated, unchanged, evalIn, callEval}
 use Rattle.rules.specs.declared.State.{State as Raw}
 use Rattle.rules.specs.Demands.{Good, Sound}
 use Rattle.rules.specs.Answered.{FormFault, badCounts, badName, badNode, badField, badUse, SheetFault, manyArguments, badSheet, AtFault, badForm, sheetAtFault, shortSlice, ItemsLeft}
@@ -137,7 +137,7 @@ slice-answers n l = if-answers 7 (leb n (length l)) l
 
 items-answers : (area l : List ℕ) → Answers (30 ∷ []) (itemsIn area l)
 unfolding itemsIn
-items-answers area l = some-answers 30 (itemsFrom area (trimmed (recordsIn 256 l)))
+items-answers area l = some-answers 30 (wholeRecords l >>? λ rs. itemsFrom area (trimmed rs))
 
 state-answers : (n : ℕ) (x : Raw) → Answers (29 ∷ []) (stateIn n x)
 unfolding stateIn
@@ -436,7 +436,8 @@ module _ (sheet slice : List ℕ) where
   unfolding callOnlyOnce all contains
   once-called i = with-items _ (refl, refl, refl)
       (λ is. bind-answers (placeIn (length is) i) _ (place-answers (length is) i) refl
-      (λ j e. more-answers (once-answers is i (place-below (length is) i j e)) refl))
+      (λ j e. bind-answers (placeIn 4294967296 i) _ (place-answers 4294967296 i) refl
+      (λ _ _. more-answers (once-answers is i (place-below (length is) i j e)) refl)))
 
   text-called : (form : List ℕ) (w : ℕ) → Answers (1 ∷ 2 ∷ 3 ∷ 4 ∷ 6 ∷ 5 ∷ 7 ∷ 30 ∷ 28 ∷ []) (callText form sheet slice w)
   unfolding callText all contains

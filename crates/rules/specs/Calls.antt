@@ -2,7 +2,7 @@
 use mathlib.Core.Bool.{Bool, true, false, _&&_}
 use mathlib.Core.List.{List, [], _∷_}
 use mathlib.Core.Option.{Option, some, none}
-use Prim.Native.Nat.{ℕ, zero, suc, _+_, _-_}
+use Prim.Native.Nat.{ℕ, zero, suc, _+_, _-_, _*_, _/_}
 use lib.Dec.{leb, eqb, ltb}
 use lib.ListN.{length, getD, take, drop, getElem?}
 use Rattle.utf8.specs.Utf8.{if_then_else_}
@@ -66,10 +66,13 @@ itemFrom area r =
     (if eqb (getD r 0 0) 4 then wordFrom Word area r else
     (if eqb (getD r 0 0) 5 then wordFrom PosWord area r else none))))
 
--- The items of a slice are its first 256 records up to the last that is not all 0
+-- The items of a slice are all its whole records up to the last that is not all 0; words behind the last whole one must be 0
 unfoldable pub recordsIn : ℕ → List ℕ → List (List ℕ)
 recordsIn zero l = []
 recordsIn (suc n) l = take 7 l ∷ recordsIn n (drop 7 l)
+
+unfoldable pub wholeRecords : List ℕ → Option (List (List ℕ))
+wholeRecords l = if zeros (drop (7 * (length l / 7)) l) then some (recordsIn (length l / 7) l) else none
 
 unfoldable pub trimmed : List (List ℕ) → List (List ℕ)
 trimmed [] = []
@@ -80,7 +83,8 @@ itemsFrom area [] = some []
 itemsFrom area (r ∷ rs) = itemFrom area r >>? λ x. itemsFrom area rs >>? λ xs. some (x ∷ xs)
 
 unfoldable pub itemsIn : List ℕ → List ℕ → Outcome (List Item)
-itemsIn area l = elim (itemsFrom area (trimmed (recordsIn 256 l))) [ none ↦ refused (refuse 30) | some is ↦ ok is ]
+itemsIn area l = elim (wholeRecords l >>? λ rs. itemsFrom area (trimmed rs))
+    [ none ↦ refused (refuse 30) | some is ↦ ok is ]
 
 -- A state as it is handed over has 256 marks, and `current` as the place plus 1, or 0 for none
 unfoldable pub fromRaw : Raw → State
@@ -212,10 +216,10 @@ operandOr20 t = elim (t .answer) [ none ↦ refused (refuse 20) | some o ↦ too
 unfoldable pub callTakePositional : List ℕ → List ℕ → Raw → Outcome (Called Operand)
 callTakePositional sheet slice x = onItems sheet slice x (λ is s. takePositionalWord parsedMark is s >>= operandOr20)
 
--- `only_once`: sheet, item slice and place; there is no state to hand back
+-- `only_once`: sheet, item slice and place, which is handed back in 32 bits; there is no state to hand back
 unfoldable pub callOnlyOnce : List ℕ → List ℕ → ℕ → Outcome (Option ℕ)
 callOnlyOnce sheet slice i = sheetIn sheet >>= λ area. sliceIn 1792 slice >>= λ l. itemsIn area l >>= λ is.
-    placeIn (length is) i >>= λ _. onlyOnce is i
+    placeIn (length is) i >>= λ _. placeIn 4294967296 i >>= λ _. onlyOnce is i
 
 -- ---- calls with a form: what the form must have is asked for last
 unfoldable pub onForm : {A : Type 0} → List ℕ → List ℕ → List ℕ → Raw → (Accepted → List Item → State → Outcome (Took A)) → Outcome (Called A)

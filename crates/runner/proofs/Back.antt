@@ -211,6 +211,5 @@ line-table f s l n m e z r =
     let more = length-replicate {A = ℕ} (n - length (l .records)) 0 in
     record {
       room = omega (arith, g .records, g .few);
-      small = g .few;
       at = recorded-line f s (w .whole) (l .records) rest (l .items) m (w .same) (w .records) (w .items);
     }

@@ -290,7 +290,7 @@ table-long l e = ap length e ∙ length-replicate {A = ℕ} 257 0
 
 module _ (b codes s words m : List ℕ) (p : Numbers) (o : List ℕ) (g : Begins b codes s words m p o) (n : ℕ) (e : n ≡ p .count) where
   pub items-few : n ≤ 256
-  items-few = omega (arith, g .state .same, g .state .table .small)
+  items-few = omega (arith, g .state .fine .small)
 
   pub items-matchable : Matchable b codes s words n
   items-matchable = record {

@@ -4,19 +4,20 @@ use mathlib.Core.Bool.{Bool, true, false, not, false≢true}
 use mathlib.Core.List.{List, [], _∷_}
 use mathlib.Core.Logic.{inl}
 use mathlib.Core.Option.{Option, some, none}
-use Prim.Native.Nat.{ℕ, zero, suc, _-_, _≤_, _<_}
+use Prim.Native.Nat.{ℕ, zero, suc, _-_, _*_, _/_, _≤_, _<_}
 use native.Mathlib.Omega.{arith}
 use lib.ListN.{length, drop, getElem?, length-drop}
 use borrow.Author.Tests.{eq-eqb, ne-eqb, le-leb, lt-leb, not-true, not-false}
 use Rattle.utf8.specs.Utf8.{if_then_else_}
 use Rattle.wire.specs.Wire.{areaStart, area as wireArea}
 use Rattle.wire.specs.Laws.{good-table, start-most}
-use Rattle.rules.specs.Base.{isSome}
+use Rattle.rules.specs.Base.{isSome, _>>?_}
 use Rattle.rules.specs.Outcome.{Outcome, ok, refused, fault, refuse, Refusal, _>>=_}
 use Rattle.rules.specs.Sheet.{argumentCount, sheetArea, sheetFault}
 use Rattle.rules.specs.Split.{Item}
 use Rattle.rules.specs.State.{State}
-use Rattle.rules.specs.Calls.{itemFrom, recordsIn, trimmed, itemsFrom, itemsIn, sheetIn, sliceIn, fromRaw, stateIn}
+use Rattle.rules.specs.Tree.{zeros}
+use Rattle.rules.specs.Calls.{itemFrom, recordsIn, wholeRecords, trimmed, itemsFrom, itemsIn, sheetIn, sliceIn, fromRaw, stateIn}
 use Rattle.rules.specs.declared.State.{State as Raw}
 use Rattle.rules.proofs.Acceptance.{bind-some, lookup-some}
 use Rattle.rules.proofs.Formats.{good-sheet}
@@ -72,30 +73,51 @@ items-length area (r ∷ rs) is e =
     let z : f .0 ∷ g .0 ≡ is = cc in
     rw (← z) (ap suc (items-length area rs (g .0) (g .1)))
 
-read-as : (area words : List ℕ) (rs : List (List ℕ)) (o : Option (List Item)) → trimmed (recordsIn 256 words) ≡ rs → itemsFrom area rs ≡ o
-    → itemsIn area words ≡ (elim o [ none ↦ refused (refuse 30) | some is ↦ ok is ])
-unfolding itemsIn
-read-as area words rs o t e =
-    ap (λ (p : Option (List Item)). elim p as (λ _. Outcome (List Item)) [ none ↦ refused (refuse 30) | some is ↦ ok is ])
-    (ap (itemsFrom area) t ∙ e)
+module _ (area words : List ℕ) (n : ℕ) (t : Trims words n) where
+  found-as : (b : Bool) → zeros (drop (7 * (length words / 7)) words) ≡ b → (o : Option (List Item)) → itemsFrom area (recordsIn n words) ≡ o
+      → (wholeRecords words >>? λ rs. itemsFrom area (trimmed rs)) ≡ (if b then o else none)
+  unfolding wholeRecords if_then_else_ _>>?_
+  found-as b z o e = ap (λ (c : Bool). (if c then some (recordsIn (length words / 7) words) else none) >>? λ rs. itemsFrom area (trimmed rs)) z ∙ go b
+    where
+      go : (c : Bool) → ((if c then some (recordsIn (length words / 7) words) else none) >>? λ rs. itemsFrom area (trimmed rs)) ≡ (if c then o else none)
+      go true = ap (itemsFrom area) (t .same) ∙ e
+      go false = refl
 
-module _ (area words : List ℕ) (n : ℕ) (long : 1792 ≤ length words) (t : Trims words n) where
-  pub holds : isSome (itemsFrom area (recordsIn n words)) ≡ true → Holds area words n
-  holds e =
-      let f = some-is (itemsFrom area (recordsIn n words)) e in
-      let read : itemsIn area words ≡ ok (f .0) = read-as area words (recordsIn n words) (some (f .0)) (t .same) (f .1) in
-      record {
-        items = f .0;
-        read = read;
-        count = items-length area (recordsIn n words) (f .0) (f .1) ∙ records-length n words;
-        table = table-in area words (f .0) long read;
-      }
+  read-as : (o : Option (List Item)) → (wholeRecords words >>? λ rs. itemsFrom area (trimmed rs)) ≡ o
+      → itemsIn area words ≡ (elim o [ none ↦ refused (refuse 30) | some is ↦ ok is ])
+  unfolding itemsIn
+  read-as o e = ap (λ (p : Option (List Item)). elim p as (λ _. Outcome (List Item)) [ none ↦ refused (refuse 30) | some is ↦ ok is ]) e
 
-  pub holds-not : isSome (itemsFrom area (recordsIn n words)) ≡ false → itemsIn area words ≡ refused (refuse 30)
-  holds-not e = read-as area words (recordsIn n words) none (t .same) (none-is (itemsFrom area (recordsIn n words)) e)
+  module _ (b : Bool) (z : b ≡ zeros (drop (7 * (length words / 7)) words)) where
+    pub holds : b ≡ true → isSome (itemsFrom area (recordsIn n words)) ≡ true → Holds area words n
+    unfolding if_then_else_
+    holds h e =
+        let f = some-is (itemsFrom area (recordsIn n words)) e in
+        let read : itemsIn area words ≡ ok (f .0) = read-as (some (f .0)) (found-as true (sym z ∙ h) (some (f .0)) (f .1)) in
+        record {
+          items = f .0;
+          read = read;
+          count = items-length area (recordsIn n words) (f .0) (f .1) ∙ records-length n words;
+          table = table-in area words (f .0) read;
+        }
 
-  pub checks : (b : Bool) → b ≡ isSome (itemsFrom area (recordsIn n words)) → Checks area words (record { good = b; count = n })
-  checks b e = record { good = λ h. holds (sym e ∙ h); bad = λ h. holds-not (sym e ∙ h) }
+    pub holds-not : isSome (itemsFrom area (recordsIn n words)) ≡ false → itemsIn area words ≡ refused (refuse 30)
+    unfolding if_then_else_
+    holds-not e = read-as none (found-as b (sym z) none (none-is (itemsFrom area (recordsIn n words)) e) ∙ go b)
+      where
+        go : (c : Bool) → _≡_ {A = Option (List Item)} (if c then none else none) none
+        go true = refl
+        go false = refl
+
+    pub checks-tail : b ≡ false → Checks area words (record { good = b; count = n })
+    unfolding if_then_else_
+    checks-tail h = record {
+      good = λ e. absurd (false≢true (sym h ∙ e));
+      bad = λ _. read-as none (found-as false (sym z ∙ h) (itemsFrom area (recordsIn n words)) refl);
+    }
+
+    pub checks : b ≡ true → (c : Bool) → c ≡ isSome (itemsFrom area (recordsIn n words)) → Checks area words (record { good = c; count = n })
+    checks h c e = record { good = λ k. holds h (sym e ∙ k); bad = λ k. holds-not (sym e ∙ k) }
 
 -- ---- the input, in the order of its tests
 

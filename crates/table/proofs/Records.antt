@@ -4,12 +4,12 @@ use mathlib.Core.Bool.{Bool, true, false, not, _&&_}
 use mathlib.Core.List.{List, [], _∷_}
 use mathlib.Core.Logic.{⊎-elim}
 use mathlib.Core.Option.{Option, some, none}
-use Prim.Native.Nat.{ℕ, zero, suc, _+_, _-_, _*_, _≤_, _<_}
+use Prim.Native.Nat.{ℕ, zero, suc, _+_, _-_, _*_, _/_, _≤_, _<_}
 use native.Mathlib.Nat.{eq-or-lt-of-le, sub-zero}
 use native.Mathlib.Omega.{arith}
 use lib.Dec.{leb, eqb}
 use lib.ListN.{length, getD, take, drop, length-drop}
-use lib.Seq.{length-take-le, drop-cons, drop-drop}
+use lib.Seq.{length-take-le, take-length, drop-cons, drop-drop}
 use borrow.Author.Tests.{ne-eqb, lt-leb, le-leb, not-true, not-false}
 use Rattle.utf8.specs.Utf8.{if_then_else_}
 use Rattle.rules.specs.Base.{all, isSome, _>>?_}
@@ -24,6 +24,9 @@ use Rattle.table.specs.Given.{Trims}
 
 pub record-part : (l : List ℕ) (i : ℕ) → take (7 * i + 7 - 7 * i) (drop (7 * i) l) ≡ recordAt l i
 record-part l i = let z : 7 * i + 7 - 7 * i ≡ 7 = omega arith in rw z
+
+pub tail-part : (l : List ℕ) (i : ℕ) → take (length l - i) (drop i l) ≡ drop i l
+tail-part l i = ap (λ (n : ℕ). take n (drop i l)) (sym (length-drop i l)) ∙ take-length (drop i l)
 
 pub record-long : (l : List ℕ) (i : ℕ) → 7 * i + 7 ≤ length l → length (recordAt l i) ≡ 7
 record-long l i h = length-take-le 7 (drop (7 * i) l) (omega (arith, length-drop (7 * i) l))
@@ -189,8 +192,8 @@ trim-last zero l h = rw h
 trim-last (suc n) l h = rw (trim-last n (drop 7 l) (ap zeros (record-later l n) ∙ h))
 
 pub record Trimming (words : List ℕ) (n : ℕ) : Type 0 where
-  pub small : n ≤ 256
-  pub same : trimmed (recordsIn 256 words) ≡ trimmed (recordsIn n words)
+  pub within : n ≤ length words / 7
+  pub same : trimmed (recordsIn (length words / 7) words) ≡ trimmed (recordsIn n words)
 
 module _ (words : List ℕ) (n : ℕ) (z : Trimming words n) (h : 0 < n) (t : Bool) (e : t ≡ zeros (recordAt words (n - 1))) where
   less : n ≡ suc (n - 1)
@@ -198,13 +201,13 @@ module _ (words : List ℕ) (n : ℕ) (z : Trimming words n) (h : 0 < n) (t : Bo
 
   pub trimming-next : not t ≡ false → Trimming words (n - 1)
   trimming-next k = record {
-    small = omega (arith, z .small);
+    within = omega (arith, z .within);
     same = z .same ∙ ap (λ (m : ℕ). trimmed (recordsIn m words)) less ∙ trim-zero (n - 1) words (sym e ∙ not-false t k);
   }
 
   pub trimming-last : not t ≡ true → Trims words n
   trimming-last k = record {
-    small = z .small;
+    within = z .within;
     same = z .same ∙ ap (λ (m : ℕ). trimmed (recordsIn m words)) less ∙ trim-last (n - 1) words (sym e ∙ not-true t k)
         ∙ ap (λ (m : ℕ). recordsIn m words) (sym less);
   }
@@ -213,7 +216,7 @@ pub trimming-none : (words : List ℕ) (n : ℕ) → Trimming words n → n ≤ 
 unfolding trimmed recordsIn
 trimming-none words n z h =
     let e : n ≡ 0 = omega arith in
-    record { small = z .small; same = z .same ∙ rw e }
+    record { within = z .within; same = z .same ∙ rw e }
 
 -- ---- each record is an item
 

@@ -2,7 +2,7 @@
 use mathlib.Core.Bool.{true, false}
 use mathlib.Core.List.{List}
 use mathlib.Core.Path.{_≡_}
-use Prim.Native.Nat.{ℕ, _≤_}
+use Prim.Native.Nat.{ℕ, _/_, _≤_}
 use lib.ListN.{length}
 use Rattle.rules.specs.Outcome.{Outcome, ok, refused, refuse, _>>=_}
 use Rattle.rules.specs.Sheet.{sheetArea, sheetFault}
@@ -13,10 +13,10 @@ use Rattle.named.specs.Items.{Table}
 use Rattle.table.specs.declared.Checked.{Checked}
 use Rattle.table.specs.declared.Input.{Input}
 
--- the records up to the last that is not all 0 are the first n
+-- the whole records up to the last that is not all 0 are the first n
 pub record Trims (words : List ℕ) (n : ℕ) : Type 0 where
-  pub small : n ≤ 256
-  pub same : trimmed (recordsIn 256 words) ≡ recordsIn n words
+  pub within : n ≤ length words / 7
+  pub same : trimmed (recordsIn (length words / 7) words) ≡ recordsIn n words
 
 -- ---- the items of a slice
 pub record Holds (area words : List ℕ) (n : ℕ) : Type 0 where

@@ -2,9 +2,9 @@
 ghost use mathlib.Core.Path.{_≡_};
 ghost use mathlib.Core.Bool.{_&&_};
 ghost use mathlib.Core.List.{List, [], _∷_};
-ghost use Prim.Native.Nat.{ℕ, _+_, _*_, _≤_};
+ghost use Prim.Native.Nat.{ℕ, _+_, _*_, _/_, _≤_};
 ghost use lib.Dec.{leb};
-ghost use lib.ListN.{length, getD};
+ghost use lib.ListN.{length, getD, drop};
 ghost use Rattle.rules.specs.Base.{isSome};
 ghost use Rattle.rules.specs.Tree.{zeros};
 ghost use Rattle.rules.specs.Sheet.{sheetArea, sheetFault};
@@ -41,7 +41,7 @@ fn words_at(items: &[u32], i: usize) -> &[u32]
     &items[from..to]
 }
 
-fn all_zero(words: &[u32]) -> bool
+pub fn all_zero(words: &[u32]) -> bool
     ensures { λ r. ⌜ r ≡ zeros (now (words .entry)) ⌝ }
 {
     let mut k = 0;
@@ -54,12 +54,19 @@ fn all_zero(words: &[u32]) -> bool
     true
 }
 
-// The first 256 records up to the last that is not all 0: their number.
+// Whether the words behind the last whole record are all 0.
+fn tail_good(items: &[u32]) -> bool
+    ensures { λ r. ⌜ r ≡ zeros (drop (7 * (length (now (items .entry)) / 7)) (now (items .entry))) ⌝ }
+{
+    let from = 7 * (items.len() / 7);
+    all_zero(&items[from..])
+}
+
+// The whole records up to the last that is not all 0: their number.
 fn trimmed_count(items: &[u32]) -> usize
-    requires { ⌜ 1792 ≤ length (now items) ⌝ }
     ensures { λ r. ⌜ Trims (now (items .entry)) r ⌝ }
 {
-    let mut n = 256;
+    let mut n = items.len() / 7;
     while 0 < n {
         if !all_zero(words_at(items, n - 1)) {
             return n;
@@ -134,12 +141,12 @@ fn records_good(items: &[u32], n: usize, area: usize) -> bool
 
 // Refusal 30: what the slice holds, over the sheet's area.
 pub fn check(sheet: &[u8], items: &[u32]) -> Checked
-    requires { ⌜ (sheetFault (now sheet) ≡ 0) × (1792 ≤ length (now items)) ⌝ }
+    requires { ⌜ sheetFault (now sheet) ≡ 0 ⌝ }
     ensures { λ r. ⌜ Checks (sheetArea (now (sheet .entry))) (now (items .entry)) r ⌝ }
 {
     let area = sheet.len() - wire::area_start(2, sheet::count(sheet));
     let count = trimmed_count(items);
-    let good = records_good(items, count, area);
+    let good = tail_good(items) && records_good(items, count, area);
     Checked { good, count }
 }
 

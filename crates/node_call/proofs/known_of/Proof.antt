@@ -1,5 +1,5 @@
 use borrow.Author.Needs.{needs}
-use Rattle.node_call.proofs.Answers.{known-few, known-long, known-matchable}
+use Rattle.node_call.proofs.Answers.{known-long, known-matchable}
 use Rattle.node_call.proofs.known_of.Statement.{statement}
 use Rattle.node_call.proofs.known_of.Tie as tie
 
@@ -13,7 +13,7 @@ slice-aggregate-known : tie.Need-slice-aggregate-known
 slice-aggregate-known c = search needs
 
 known-requires : tie.Need-known-requires
-known-requires c κs = (search known-matchable, search known-few, search known-long)
+known-requires c κs = (search known-matchable, search needs, search known-long)
 
 returns : tie.Need-returns
 returns c = search needs

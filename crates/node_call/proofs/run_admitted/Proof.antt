@@ -2,7 +2,7 @@
 use mathlib.Core.Path.{_≡_}
 use lib.ListN.{length}
 use borrow.Author.Needs.{needs}
-use Rattle.node_call.proofs.Answers.{cleared-checked, cleared-made, cleared-holds, node-stands, node-runs}
+use Rattle.node_call.proofs.Answers.{cleared-checked, cleared-made, cleared-holds, cleared-few, node-stands, node-runs}
 use Rattle.node_call.proofs.run_admitted.Statement.{statement}
 use Rattle.node_call.proofs.run_admitted.Tie as tie
 use Rattle.node_call.proofs.run_admitted.Reads as reads
@@ -12,7 +12,7 @@ wide-requires : tie.Need-wide-requires
 wide-requires c κs = search needs
 
 known-of-requires : tie.Need-known-of-requires
-known-of-requires c κs = (search cleared-checked, search (cleared-made, needs), search cleared-holds)
+known-of-requires c κs = (search cleared-checked, search (cleared-made, needs), search cleared-holds, search cleared-few)
 
 slice-aggregate-run-value : tie.Need-slice-aggregate-run-value
 slice-aggregate-run-value c = search needs

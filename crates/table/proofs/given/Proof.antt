@@ -14,7 +14,7 @@ returns-2 : tie.Need-returns-2
 returns-2 c = gives-short _ _ _ (c .before .before .check .ensures) (c .before .if1 .left) (c .if2 .taken)
 
 check-requires-2 : tie.Need-check-requires-2
-check-requires-2 c κs = (sym (c .before .before .check .ensures) ∙ c .before .if1 .left, c .if2 .left)
+check-requires-2 c κs = sym (c .before .before .check .ensures) ∙ c .before .if1 .left
 
 returns-3 : tie.Need-returns-3
 returns-3 c = gives-bad _ _ _ (c .before .before .before .before .before .check .ensures) (c .before .before .before .before .if1 .left) (c .before .before .before .if2 .left) _ (c .before .before .check2 .ensures) (c .if3 .taken)

@@ -1,6 +1,7 @@
 -- Invariant: the records from n on are all 0. Assumes nothing.
 use mathlib.Core.Path.{_∙_, ap, refl}
-use native.Mathlib.Omega.{arith}
+use lib.ListN.{length}
+use native.Mathlib.Omega.{arith, div-fact}
 use borrow.Author.Needs.{needs}
 use Rattle.rules.specs.Tree.{zeros}
 use Rattle.table.proofs.Records.{Trimming, trimming-next, trimming-last, trimming-none}
@@ -14,13 +15,13 @@ abbrev μ-loop : tie.MeasureT-loop
 μ-loop items n₀ n = n
 
 loop-holds : tie.Need-loop-holds Inv-loop μ-loop
-loop-holds c = record { small = omega arith; same = refl }
+loop-holds c = record { within = omega arith; same = refl }
 
 sub-words-at : tie.Need-sub-words-at Inv-loop μ-loop
 sub-words-at c = search needs
 
 words-at-requires : tie.Need-words-at-requires Inv-loop μ-loop
-words-at-requires c κs = omega (arith, c .before .loop .inv .small)
+words-at-requires c κs = omega (arith, c .before .loop .inv .within, div-fact (length (c .before .before .before .args .items .now)) 6)
 
 all-zero-requires : tie.Need-all-zero-requires Inv-loop μ-loop
 all-zero-requires c κs = search needs
