@@ -15,6 +15,7 @@ use Rattle.rules.specs.Outcome.{ok, refused, refuse, _>>=_}
 use Rattle.rules.specs.Codes.{placeCode, checkCode}
 use Rattle.rules.specs.Sheet.{sheetArea, sheetFault, argumentCount}
 use Rattle.rules.specs.Split.{Item}
+use Rattle.rules.specs.Tree.{zeros}
 use Rattle.rules.specs.State.{present, parsed, presentAt}
 use Rattle.rules.specs.Accept.{Checked as CheckedForm, Accepted, accepted, refusedAt, checkForm}
 use Rattle.rules.specs.Take.{matchesArg}
@@ -37,8 +38,10 @@ use Rattle.answers.specs.Answers.{coded, answerWith, placeOrNone, plainAnswer}
 use Rattle.answers.specs.declared.Answer.{Answer}
 use Rattle.item_search.specs.declared.ItemRecord.{ItemRecord}
 use Rattle.item_search.specs.declared.Search.{Search}
+use Rattle.item_search.specs.declared.Seen.{Seen}
 use Rattle.item_search.specs.Records.{wordsOf}
-use Rattle.item_search.specs.Scan.{stoppedAt, Started, Able, reached, Reaches, marked, sought, turned, placeFrom, ended, Finishes}
+use Rattle.item_search.specs.Scan.{stoppedAt, Started, Able, reached, Reaches, marked, sought, judged, seenTo, turned, placeFrom, ended, Finishes}
+use Rattle.item_search.proofs.Scan.{turned-zero, turned-hole, turned-next}
 
 -- ---- `is_reached`
 
@@ -140,7 +143,7 @@ module _ (form sheet : List ℕ) (k : ℕ) (r : Refused) (e : r ≡ checkCode (c
                 bad = λ w. absurd (w refl);
               }
 
--- ---- `turn`
+-- ---- `judge`
 
 none-is : {A : Type 0} (o : Option A) → isSome o ≡ false → o ≡ none
 unfolding isSome
@@ -148,50 +151,50 @@ none-is none e = refl
 none-is (some a) e = absurd (false≢true (sym e))
 
 module _ (form sheet : List ℕ) (s : Raw) (g : Search) (x : ItemRecord) (i c : ℕ) where
-  pub turn-stopped : (g .number ≡ 0 → ⊥) → c ≡ turned form sheet s g x i c
-  unfolding turned if_then_else_
-  turn-stopped h = rw (ne-eqb (g .number) 0 h)
+  pub judge-stopped : (g .number ≡ 0 → ⊥) → c ≡ judged form sheet s g x i c
+  unfolding judged if_then_else_
+  judge-stopped h = rw (ne-eqb (g .number) 0 h)
 
   module _ (z : g .number ≡ 0) (a : Able form sheet g) (w : List ℕ) (ew : w ≡ wordsOf x) (b : Bool)
       (said : (bytes : List ℕ) → length bytes ≡ g .area → b ≡ isSome (itemFrom bytes w)) where
     there : b ≡ isSome (itemFrom (sheetArea sheet) (wordsOf x))
     there = said (sheetArea sheet) (a z .area) ∙ ap (λ (l : List ℕ). isSome (itemFrom (sheetArea sheet) l)) ew
 
-    turned-as : (o : Option Item) → itemFrom (sheetArea sheet) (wordsOf x) ≡ o → marked (λ y. reached s i && sought form g y) i c o ≡ turned form sheet s g x i c
-    unfolding turned if_then_else_
-    turned-as o e = sym (rw (z, turned, e))
+    judged-as : (o : Option Item) → itemFrom (sheetArea sheet) (wordsOf x) ≡ o → marked (λ y. reached s i && sought form g y) i c o ≡ judged form sheet s g x i c
+    unfolding judged if_then_else_
+    judged-as o e = sym (rw (z, judged, e))
 
-    pub turn-bad : not b ≡ true → 1 ≡ turned form sheet s g x i c
+    pub judge-bad : not b ≡ true → 1 ≡ judged form sheet s g x i c
     unfolding marked
-    turn-bad h = turned-as none (none-is _ (sym there ∙ not-true b h))
+    judge-bad h = judged-as none (none-is _ (sym there ∙ not-true b h))
 
     module _ (t : not b ≡ false) where
       item : (y : Item) × (itemFrom (sheetArea sheet) (wordsOf x) ≡ some y)
       item = is-some (itemFrom (sheetArea sheet) (wordsOf x)) (sym there ∙ not-false b t)
 
-      pub turn-kept : (c ≡ 0 → ⊥) → c ≡ turned form sheet s g x i c
+      pub judge-kept : (c ≡ 0 → ⊥) → c ≡ judged form sheet s g x i c
       unfolding marked if_then_else_
-      turn-kept h = sym (rw (ne-eqb c 0 h)) ∙ turned-as (some (item .0)) (item .1)
+      judge-kept h = sym (rw (ne-eqb c 0 h)) ∙ judged-as (some (item .0)) (item .1)
 
       module _ (n : c ≡ 0) (r : Bool) (er : Reaches s i r) where
-        pub turn-unreached : not r ≡ true → 0 ≡ turned form sheet s g x i c
+        pub judge-unreached : not r ≡ true → 0 ≡ judged form sheet s g x i c
         unfolding marked if_then_else_
-        turn-unreached h =
+        judge-unreached h =
             let e : reached s i ≡ false = sym (er .same) ∙ not-true r h in
-            sym (rw (eq-eqb c 0 n, e)) ∙ turned-as (some (item .0)) (item .1)
+            sym (rw (eq-eqb c 0 n, e)) ∙ judged-as (some (item .0)) (item .1)
 
         module _ (h : not r ≡ false) where
-          pub turn-near : i < 256
-          turn-near = er .near (not-false r h)
+          pub judge-near : i < 256
+          judge-near = er .near (not-false r h)
 
-          pub turn-names : HasNames form (g .codes) (g .key .first) (g .key .count)
-          turn-names = a z .names
+          pub judge-names : HasNames form (g .codes) (g .key .first) (g .key .count)
+          judge-names = a z .names
 
           here : itemFrom (sheetArea sheet) (recordAt w 0) ≡ some (item .0)
           here = ap (λ (l : List ℕ). itemFrom (sheetArea sheet) (recordAt l 0)) ew ∙ item .1
 
-          pub turn-item : HasItem sheet w 0
-          turn-item = record { made = a z .made; room = omega (arith, ap length ew); item = item .0; here = here }
+          pub judge-item : HasItem sheet w 0
+          judge-item = record { made = a z .made; room = omega (arith, ap length ew); item = item .0; here = here }
 
           module _ (m : Bool) (em : (y : Item) → itemFrom (sheetArea sheet) (recordAt w 0) ≡ some y → m ≡ matchesArg (namedAt form (g .key .first) (g .key .count)) (g .key .adjacent) y) where
             same : (reached s i && sought form g (item .0)) ≡ m
@@ -199,30 +202,52 @@ module _ (form sheet : List ℕ) (s : Raw) (g : Search) (x : ItemRecord) (i c : 
                 let e : reached s i ≡ true = sym (er .same) ∙ not-false r h in
                 rw e (sym (em (item .0) here))
 
-            pub turn-found : m ≡ true → i + 2 ≡ turned form sheet s g x i c
+            pub judge-found : m ≡ true → i + 2 ≡ judged form sheet s g x i c
             unfolding marked if_then_else_
-            turn-found t = sym (rw (eq-eqb c 0 n, same, t)) ∙ turned-as (some (item .0)) (item .1)
+            judge-found t = sym (rw (eq-eqb c 0 n, same, t)) ∙ judged-as (some (item .0)) (item .1)
 
-            pub turn-other : m ≡ false → 0 ≡ turned form sheet s g x i c
+            pub judge-other : m ≡ false → 0 ≡ judged form sheet s g x i c
             unfolding marked if_then_else_
-            turn-other t = sym (rw (eq-eqb c 0 n, same, t)) ∙ turned-as (some (item .0)) (item .1)
+            judge-other t = sym (rw (eq-eqb c 0 n, same, t)) ∙ judged-as (some (item .0)) (item .1)
+
+-- ---- `turn`
+
+module _ (form sheet : List ℕ) (s : Raw) (g : Search) (x : ItemRecord) (i : ℕ) (c : Seen) (w : List ℕ) (ew : w ≡ wordsOf x) (b : Bool) (eb : b ≡ zeros w) where
+  as-zeros : zeros (wordsOf x) ≡ b
+  as-zeros = ap zeros (sym ew) ∙ sym eb
+
+  pub turn-zero : b ≡ true → c ≡ turned form sheet s g x i c
+  turn-zero h = sym (turned-zero form sheet s g x i c (as-zeros ∙ h))
+
+  module _ (h : b ≡ false) where
+    pub turn-hole : (c .count ≡ i → ⊥) → seenTo 1 (i + 1) ≡ turned form sheet s g x i c
+    turn-hole n = sym (turned-hole form sheet s g x i c (as-zeros ∙ h) n)
+
+    pub turn-next : c .count ≡ i → (r : ℕ) → r ≡ judged form sheet s g x i (c .found) → seenTo r (i + 1) ≡ turned form sheet s g x i c
+    turn-next n r e = ap (λ (d : ℕ). seenTo d (i + 1)) e ∙ sym (turned-next form sheet s g x i c (as-zeros ∙ h) n)
 
 -- ---- `finish`
 
-module _ (s : Raw) (n : ℕ) (g : Search) (c : ℕ) (r : Answer) where
-  pub finish-stopped : (g .number ≡ 0 → ⊥) → r ≡ answerWith (g .number) (g .place) (coded 0 0 0) → Finishes s n g c r
+module _ (s : Raw) (g : Search) (d : Seen) (r : Answer) where
+  abbrev n : ℕ
+  n = d .count
+
+  abbrev c : ℕ
+  c = d .found
+
+  pub finish-stopped : (g .number ≡ 0 → ⊥) → r ≡ answerWith (g .number) (g .place) (coded 0 0 0) → Finishes s g d r
   finish-stopped z e = record { good = λ w. absurd (z w); bad = λ _. e }
 
   module _ (z : g .number ≡ 0) where
-    by : plainAnswer placeOrNone (ended s n g c) ≡ some r → Finishes s n g c r
+    by : plainAnswer placeOrNone (ended s n g c) ≡ some r → Finishes s g d r
     by e = record { good = λ _. e; bad = λ w. absurd (w z) }
 
-    pub finish-bad : c ≡ 1 → r ≡ answerWith 30 0 (coded 0 0 0) → Finishes s n g c r
+    pub finish-bad : c ≡ 1 → r ≡ answerWith 30 0 (coded 0 0 0) → Finishes s g d r
     unfolding ended plainAnswer refuse if_then_else_
     finish-bad h e = by (rw (eq-eqb c 1 h) (ap some (sym e)))
 
     module _ (h : c ≡ 1 → ⊥) (b : Bool) (said : stateIn n s ≡ (if b then ok (fromRaw s) else refused (refuse 29))) where
-      pub finish-state : not b ≡ true → r ≡ answerWith 29 0 (coded 0 0 0) → Finishes s n g c r
+      pub finish-state : not b ≡ true → r ≡ answerWith 29 0 (coded 0 0 0) → Finishes s g d r
       unfolding ended plainAnswer refuse if_then_else_ _>>=_
       finish-state t e = by (rw (ne-eqb c 1 h, said, not-true b t) (ap some (sym e)))
 
@@ -231,12 +256,12 @@ module _ (s : Raw) (n : ℕ) (g : Search) (c : ℕ) (r : Answer) where
         unfolding if_then_else_
         finish-near = in-kept n s (said ∙ rw (not-false b t)) .small
 
-        pub finish-node : g .key .kind ≡ 0 → r ≡ answerWith 28 0 (coded 0 0 0) → Finishes s n g c r
+        pub finish-node : g .key .kind ≡ 0 → r ≡ answerWith 28 0 (coded 0 0 0) → Finishes s g d r
         unfolding ended plainAnswer refuse if_then_else_ _>>=_
         finish-node k e = by (rw (ne-eqb c 1 h, said, not-false b t, eq-eqb (g .key .kind) 0 k) (ap some (sym e)))
 
         module _ (k : g .key .kind ≡ 0 → ⊥) where
-          pub finish-none : c ≡ 0 → r ≡ answerWith 0 0 (coded 0 0 0) → Finishes s n g c r
+          pub finish-none : c ≡ 0 → r ≡ answerWith 0 0 (coded 0 0 0) → Finishes s g d r
           unfolding ended plainAnswer placeFrom if_then_else_ _>>=_
           finish-none w e = by (rw (ne-eqb c 1 h, said, not-false b t, ne-eqb (g .key .kind) 0 k, eq-eqb c 0 w) (ap some (sym e)))
 
@@ -244,6 +269,6 @@ module _ (s : Raw) (n : ℕ) (g : Search) (c : ℕ) (r : Answer) where
             pub finish-narrow : c ≤ n + 1 → c - 2 ≤ 256
             finish-narrow l = let m = finish-near in omega arith
 
-            pub finish-some : (v : ℕ) → v ≡ c - 2 → r ≡ answerWith 0 0 (coded 1 v 0) → Finishes s n g c r
+            pub finish-some : (v : ℕ) → v ≡ c - 2 → r ≡ answerWith 0 0 (coded 1 v 0) → Finishes s g d r
             unfolding ended plainAnswer placeFrom if_then_else_ _>>=_
             finish-some v ev e = by (rw (ne-eqb c 1 h, said, not-false b t, ne-eqb (g .key .kind) 0 k, ne-eqb c 0 w, ← ev) (ap some (sym e)))

@@ -6,6 +6,7 @@ use mathlib.Core.Logic.{_⊎_, inl, inr, ⊎-elim}
 use mathlib.Core.Option.{Option, some, none}
 use mathlib.Core.Path.{_≡_, refl, sym, ap, _∙_}
 use Prim.Native.Nat.{ℕ, suc, _+_, _-_, _*_, _≤_, zero-le}
+use native.Mathlib.Nat.{zero-add}
 use native.Mathlib.Omega.{arith}
 use lib.Dec.{eqb, ltb}
 use lib.ListN.{length, take, drop, getElem?}
@@ -21,7 +22,7 @@ use Rattle.rules.specs.State.{Found, State, parsed, stateGood, unused, presentF
 use Rattle.rules.specs.Tree.{zeros}
 use Rattle.rules.specs.Accept.{Accepted, accepted, checkForm}
 use Rattle.rules.specs.Take.{matchesArg}
-use Rattle.rules.specs.Calls.{Key, formIn, sheetIn, itemFrom, itemsFrom, recordsIn, stateIn, fromRaw, asked, keyOf}
+use Rattle.rules.specs.Calls.{Key, formIn, sheetIn, itemFrom, itemsFrom, recordsIn, trimmed, stateIn, fromRaw, asked, keyOf}
 use Rattle.rules.specs.declared.State.{State as Raw}
 use Rattle.rules.proofs.Acceptance.{bind-some}
 use Rattle.state.proofs.Laws.{in-kept}
@@ -35,8 +36,9 @@ use Rattle.answers.specs.Answers.{coded, answerWith, placeOrNone, plainAnswer}
 use Rattle.answers.specs.declared.Answer.{Answer}
 use Rattle.item_search.specs.declared.ItemRecord.{ItemRecord}
 use Rattle.item_search.specs.declared.Search.{Search}
+use Rattle.item_search.specs.declared.Seen.{Seen}
 use Rattle.item_search.specs.Records.{wordsOf, itemsOr30, recordItems, placeOf, callFind}
-use Rattle.item_search.specs.Scan.{Started, Ready, sought, scan, placeFrom, ended, Finishes}
+use Rattle.item_search.specs.Scan.{Started, Ready, sought, seenTo, unseen, scan, placeFrom, ended, Finishes}
 use Rattle.item_search.proofs.Scan.{over, over-one, scan-items, scan-bad, from-first}
 
 -- ---- refused before the records
@@ -59,22 +61,12 @@ then-refused e o f h = rw h
 
 -- ---- items, a state, a node
 
-items-length : (area : List ℕ) (xs : List ItemRecord) (is : List Item) → itemsFrom area (map wordsOf xs) ≡ some is → length is ≡ length xs
-unfolding itemsFrom
-items-length area [] is e = let z : [] ≡ is = cc in rw (← z)
-items-length area (x ∷ xs) is e =
-    let f = bind-some (itemFrom area (wordsOf x)) _ e in
-    let g = bind-some (itemsFrom area (map wordsOf xs)) _ (f .2) in
-    let h : some (f .0 ∷ g .0) ≡ some is = g .2 in
-    let z : f .0 ∷ g .0 ≡ is = cc in
-    rw (← z) (ap suc (items-length area xs (g .0) (g .1)))
-
 -- what the call does with a state and a node
 abbrev searched : List Item → Option Key → State → Outcome (Option ℕ)
 searched is m u = asked m >>= λ y. find is (matchesArg (y .named) (y .adjacent)) u >>= λ f. ok (placeOf f)
 
 module _ (form sheet : List ℕ) (xs : List ItemRecord) (x : Raw) (k : ℕ) (a : Accepted) (accepts : checkForm form ≡ accepted a) (made : sheetFault sheet ≡ 0) where
-  opened : (o : Option (List Item)) → itemsFrom (sheetArea sheet) (map wordsOf xs) ≡ o
+  opened : (o : Option (List Item)) → itemsFrom (sheetArea sheet) (trimmed (map wordsOf xs)) ≡ o
       → callFind form sheet xs x k ≡ (itemsOr30 o >>= λ is. stateIn (length is) x >>= searched is (getElem? (a .trees) k >>? keyOf))
   unfolding callFind recordItems sheetIn _>>=_ if_then_else_
   opened o e = form-passed form a _ accepts ∙ rw (eq-eqb (sheetFault sheet) 0 made, e)
@@ -107,7 +99,7 @@ module _ (n : ℕ) (x : Raw) (good : stateIn n x ≡ ok (fromRaw x)) where
 
 -- ---- for `find`
 
-module _ (form sheet : List ℕ) (xs : List ItemRecord) (x : Raw) (k : ℕ) (g : Search) (z : g .number ≡ 0) (y : Ready form sheet k g) (c : ℕ) (ec : c ≡ scan form sheet x g xs 0 0) where
+module _ (form sheet : List ℕ) (xs : List ItemRecord) (x : Raw) (k : ℕ) (g : Search) (z : g .number ≡ 0) (y : Ready form sheet k g) (c : Seen) (ec : c ≡ scan form sheet x g xs 0 unseen) where
   abbrev node : Option Key
   node = getElem? (y .result .trees) k >>? keyOf
 
@@ -119,63 +111,67 @@ module _ (form sheet : List ℕ) (xs : List ItemRecord) (x : Raw) (k : ℕ) (g :
   unfolding if_then_else_
   node-some w = y .key .any ∙ rw (ne-eqb (g .key .kind) 0 w)
 
-  ended-bad : c ≡ 1 → ended x (length xs) g c ≡ refused (refuse 30)
+  ended-bad : c .found ≡ 1 → ended x (c .count) g (c .found) ≡ refused (refuse 30)
   unfolding ended if_then_else_
-  ended-bad w = rw (eq-eqb c 1 w)
+  ended-bad w = rw (eq-eqb (c .found) 1 w)
 
-  ended-state : (c ≡ 1 → ⊥) → stateIn (length xs) x ≡ refused (refuse 29) → ended x (length xs) g c ≡ refused (refuse 29)
+  ended-state : (c .found ≡ 1 → ⊥) → stateIn (c .count) x ≡ refused (refuse 29) → ended x (c .count) g (c .found) ≡ refused (refuse 29)
   unfolding ended if_then_else_ _>>=_
-  ended-state w e = rw (ne-eqb c 1 w, e)
+  ended-state w e = rw (ne-eqb (c .found) 1 w, e)
 
-  ended-node : (c ≡ 1 → ⊥) → stateIn (length xs) x ≡ ok (fromRaw x) → g .key .kind ≡ 0 → ended x (length xs) g c ≡ refused (refuse 28)
+  ended-node : (c .found ≡ 1 → ⊥) → stateIn (c .count) x ≡ ok (fromRaw x) → g .key .kind ≡ 0 → ended x (c .count) g (c .found) ≡ refused (refuse 28)
   unfolding ended if_then_else_ _>>=_
-  ended-node w e v = rw (ne-eqb c 1 w, e, eq-eqb (g .key .kind) 0 v)
+  ended-node w e v = rw (ne-eqb (c .found) 1 w, e, eq-eqb (g .key .kind) 0 v)
 
-  ended-some : (c ≡ 1 → ⊥) → stateIn (length xs) x ≡ ok (fromRaw x) → (g .key .kind ≡ 0 → ⊥) → ended x (length xs) g c ≡ ok (placeFrom c)
+  ended-some : (c .found ≡ 1 → ⊥) → stateIn (c .count) x ≡ ok (fromRaw x) → (g .key .kind ≡ 0 → ⊥) → ended x (c .count) g (c .found) ≡ ok (placeFrom (c .found))
   unfolding ended if_then_else_ _>>=_
-  ended-some w e v = rw (ne-eqb c 1 w, e, ne-eqb (g .key .kind) 0 v)
+  ended-some w e v = rw (ne-eqb (c .found) 1 w, e, ne-eqb (g .key .kind) 0 v)
 
-  module _ (is : List Item) (e : itemsFrom (sheetArea sheet) (map wordsOf xs) ≡ some is) where
-    as-over : c ≡ over x (sought form g) is 0 0
-    as-over = ec ∙ scan-items form sheet x g z xs is e 0 0
+  module _ (is : List Item) (e : itemsFrom (sheetArea sheet) (trimmed (map wordsOf xs)) ≡ some is) where
+    scanned : c ≡ seenTo (over x (sought form g) is 0 0) (length is)
+    scanned = ec ∙ scan-items form sheet x g z xs is e 0 0 ∙ rw (zero-add (length is))
 
-    not-one : c ≡ 1 → ⊥
+    as-over : c .found ≡ over x (sought form g) is 0 0
+    as-over = ap (λ (d : Seen). d .found) scanned
+
+    not-one : c .found ≡ 1 → ⊥
     not-one w = over-one x (sought form g) is 0 (sym as-over ∙ w)
 
-    long : length is ≡ length xs
-    long = items-length (sheetArea sheet) xs is e
+    long : length is ≡ c .count
+    long = sym (ap (λ (d : Seen). d .count) scanned)
 
-    call-is : callFind form sheet xs x k ≡ (stateIn (length xs) x >>= searched is node)
+    call-is : callFind form sheet xs x k ≡ (stateIn (c .count) x >>= searched is node)
     unfolding itemsOr30 _>>=_
     call-is = opened form sheet xs x k (y .result) (y .accepts) (y .made) (some is) e ∙ ap (λ (m : ℕ). stateIn m x >>= searched is node) long
 
-    by-state : (stateIn (length xs) x ≡ ok (fromRaw x)) → (b : Bool) → eqb (g .key .kind) 0 ≡ b → callFind form sheet xs x k ≡ ended x (length xs) g c
+    by-state : (stateIn (c .count) x ≡ ok (fromRaw x)) → (b : Bool) → eqb (g .key .kind) 0 ≡ b → callFind form sheet xs x k ≡ ended x (c .count) g (c .found)
     unfolding asked _>>=_
     by-state h true w =
         let v = eqb-true (g .key .kind) 0 w in
         call-is ∙ rw (h, node-none v) (sym (ended-node not-one h v))
     by-state h false w =
         let v = eqb-false (g .key .kind) 0 w in
-        call-is ∙ rw (h, node-some v) (find-scan (length xs) x h is (sought form g) long ∙ ap (λ (m : ℕ). ok (placeFrom m)) (sym as-over) ∙ sym (ended-some not-one h v))
+        call-is ∙ rw (h, node-some v) (find-scan (c .count) x h is (sought form g) long ∙ ap (λ (m : ℕ). ok (placeFrom m)) (sym as-over) ∙ sym (ended-some not-one h v))
 
-    over-items : callFind form sheet xs x k ≡ ended x (length xs) g c
+    over-items : callFind form sheet xs x k ≡ ended x (c .count) g (c .found)
     unfolding _>>=_
     over-items = ⊎-elim
-        (λ (h : stateIn (length xs) x ≡ ok (fromRaw x)). by-state h (eqb (g .key .kind) 0) refl)
-        (λ (h : stateIn (length xs) x ≡ refused (refuse 29)). call-is ∙ rw h (sym (ended-state not-one h)))
-        (state-case (length xs) x)
+        (λ (h : stateIn (c .count) x ≡ ok (fromRaw x)). by-state h (eqb (g .key .kind) 0) refl)
+        (λ (h : stateIn (c .count) x ≡ refused (refuse 29)). call-is ∙ rw h (sym (ended-state not-one h)))
+        (state-case (c .count) x)
 
-  call-ended : callFind form sheet xs x k ≡ ended x (length xs) g c
+  call-ended : callFind form sheet xs x k ≡ ended x (c .count) g (c .found)
   unfolding itemsOr30 _>>=_
-  call-ended = go (itemsFrom (sheetArea sheet) (map wordsOf xs)) refl
+  call-ended = go (itemsFrom (sheetArea sheet) (trimmed (map wordsOf xs))) refl
     where
-      go : (o : Option (List Item)) → itemsFrom (sheetArea sheet) (map wordsOf xs) ≡ o → callFind form sheet xs x k ≡ ended x (length xs) g c
+      go : (o : Option (List Item)) → itemsFrom (sheetArea sheet) (trimmed (map wordsOf xs)) ≡ o → callFind form sheet xs x k ≡ ended x (c .count) g (c .found)
       go none e =
           opened form sheet xs x k (y .result) (y .accepts) (y .made) none e
-          ∙ sym (ended-bad (ec ∙ scan-bad form sheet x g z xs e 0 0))
+          ∙ sym (ended-bad (ap (λ (d : Seen). d .found) ec ∙ scan-bad form sheet x g z xs e 0 0))
       go (some is) e = over-items is e
 
-module _ (form sheet : List ℕ) (xs : List ItemRecord) (x : Raw) (k : ℕ) (g : Search) (st : Started form sheet k g) (c : ℕ) (ec : c ≡ scan form sheet x g xs 0 0) (r : Answer) (fin : Finishes x (length xs) g c r) where
+module _ (form sheet : List ℕ) (xs : List ItemRecord) (x : Raw) (k : ℕ) (g : Search) (st : Started form sheet k g)
+    (c : Seen) (ec : c ≡ scan form sheet x g xs 0 unseen) (r : Answer) (fin : Finishes x g c r) where
   stopped : (g .number ≡ 0 → ⊥) → plainAnswer placeOrNone (callFind form sheet xs x k) ≡ some r
   unfolding callFind plainAnswer
   stopped z =
@@ -214,9 +210,9 @@ records-items area (y ∷ is) words h =
 unfoldable pub placeBelow : ℕ → ℕ → Option ℕ
 placeBelow r end = if ltb r end then some r else none
 
-module _ (form sheet words : List ℕ) (is : List Item) (t : Table (sheetArea sheet) words is) (xs : List ItemRecord) (same : map wordsOf xs ≡ recordsIn (length is) words) where
+module _ (form sheet words : List ℕ) (is : List Item) (t : Table (sheetArea sheet) words is) (xs : List ItemRecord) (same : trimmed (map wordsOf xs) ≡ recordsIn (length is) words) where
   -- the records are the table's items
-  pub table-items : itemsFrom (sheetArea sheet) (map wordsOf xs) ≡ some is
+  pub table-items : itemsFrom (sheetArea sheet) (trimmed (map wordsOf xs)) ≡ some is
   table-items = ap (itemsFrom (sheetArea sheet)) same ∙ records-items (sheetArea sheet) is words (t .at)
 
   module _ (a : Accepted) (accepts : checkForm form ≡ accepted a) (made : sheetFault sheet ≡ 0) (x : Raw) (good : stateIn (length is) x ≡ ok (fromRaw x)) (k : ℕ) (m : Key) (node : (getElem? (a .trees) k >>? keyOf) ≡ some m) where

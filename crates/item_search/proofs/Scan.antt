@@ -1,31 +1,33 @@
 -- The records one after the other: for the loop, and as the rules' search over the items that they are.
-use mathlib.Core.Bool.{Bool, true, false, _&&_}
+use mathlib.Core.Bool.{Bool, true, false, _&&_, false≢true}
 use mathlib.Core.List.{List, [], _∷_, map}
 use mathlib.Core.Logic.{⊎-elim}
 use mathlib.Core.Option.{Option, some, none, Option·none-ne-some}
-use mathlib.Core.Path.{_≡_, refl, sym, ap, _∙_}
+use mathlib.Core.Path.{_≡_, refl, sym, ap, subst, _∙_}
 use Prim.Native.Nat.{ℕ, zero, suc, _+_, _-_, _≤_, _<_}
-use native.Mathlib.Nat.{eq-or-lt-of-le}
+use native.Mathlib.Nat.{eq-or-lt-of-le, add-zero}
 use native.Mathlib.Numerals.{add-one}
 use native.Mathlib.Omega.{arith}
 use lib.Dec.{eqb, ltb}
 use lib.ListN.{length, getD, drop, getElem?, drop-of-length-le}
 use lib.Seq.{drop-cons}
-use borrow.Author.Tests.{ne-eqb, lt-leb, le-leb, ltb-true, ltb-false, lt-ltb, le-ltb}
+use borrow.Author.Tests.{eq-eqb, ne-eqb, eqb-true, eqb-false, lt-leb, le-leb, ltb-true, ltb-false, lt-ltb, le-ltb}
 use Rattle.utf8.specs.Utf8.{if_then_else_}
-use Rattle.rules.specs.Base.{_>>?_}
+use Rattle.rules.specs.Base.{all, _>>?_}
 use Rattle.rules.specs.Outcome.{Outcome, ok, _>>=_, at}
 use Rattle.rules.specs.Sheet.{sheetArea}
 use Rattle.rules.specs.Split.{Item}
 use Rattle.rules.specs.State.{Found, presentAt, presentFrom, findIn}
-use Rattle.rules.specs.Calls.{itemFrom, itemsFrom}
+use Rattle.rules.specs.Tree.{zeros}
+use Rattle.rules.specs.Calls.{itemFrom, trimmed, itemsFrom}
 use Rattle.rules.specs.declared.State.{State as Raw}
 use Rattle.rules.proofs.Acceptance.{bind-some}
 use Rattle.state.proofs.Marks.{from-none}
 use Rattle.item_search.specs.declared.ItemRecord.{ItemRecord}
 use Rattle.item_search.specs.declared.Search.{Search}
+use Rattle.item_search.specs.declared.Seen.{Seen}
 use Rattle.item_search.specs.Records.{wordsOf, placeOf}
-use Rattle.item_search.specs.Scan.{Started, Able, reached, marked, sought, turned, scan, placeFrom}
+use Rattle.item_search.specs.Scan.{Started, Able, reached, marked, sought, judged, seenTo, turned, scan, placeFrom}
 
 pub started-able : (form sheet : List ℕ) (k : ℕ) (g : Search) → Started form sheet k g → Able form sheet g
 started-able form sheet k g t z =
@@ -45,9 +47,9 @@ marked-most test i c (some y) h = go (eqb c 0) (test y)
     go false b = omega arith
 
 module _ (form sheet : List ℕ) (s : Raw) (g : Search) where
-  pub turned-most : (x : ItemRecord) (i c : ℕ) → c ≤ i + 1 → turned form sheet s g x i c ≤ i + 1 + 1
-  unfolding turned if_then_else_
-  turned-most x i c h = go (eqb (g .number) 0)
+  judged-most : (x : ItemRecord) (i c : ℕ) → c ≤ i + 1 → judged form sheet s g x i c ≤ i + 1 + 1
+  unfolding judged if_then_else_
+  judged-most x i c h = go (eqb (g .number) 0)
     where
       m : ℕ
       m = marked (λ y. reached s i && sought form g y) i c (itemFrom (sheetArea sheet) (wordsOf x))
@@ -56,11 +58,38 @@ module _ (form sheet : List ℕ) (s : Raw) (g : Search) where
       go true = marked-most _ i c _ h
       go false = omega arith
 
-  pub scan-end : (xs : List ItemRecord) (i c : ℕ) → length xs ≤ i → scan form sheet s g (drop i xs) i c ≡ c
+  module _ (x : ItemRecord) (i : ℕ) (c : Seen) where
+    pub turned-zero : zeros (wordsOf x) ≡ true → turned form sheet s g x i c ≡ c
+    unfolding turned if_then_else_
+    turned-zero e = rw e
+
+    module _ (e : zeros (wordsOf x) ≡ false) where
+      pub turned-next : c .count ≡ i → turned form sheet s g x i c ≡ seenTo (judged form sheet s g x i (c .found)) (i + 1)
+      unfolding turned if_then_else_
+      turned-next h = rw (e, eq-eqb (c .count) i h)
+
+      pub turned-hole : (c .count ≡ i → ⊥) → turned form sheet s g x i c ≡ seenTo 1 (i + 1)
+      unfolding turned if_then_else_
+      turned-hole h = rw (e, ne-eqb (c .count) i h)
+
+    abbrev Near : Seen → Type 0
+    Near d = d .found ≤ d .count + 1
+
+    pub turned-most : Near c → Near (turned form sheet s g x i c)
+    turned-most h = go (zeros (wordsOf x)) refl (eqb (c .count) i) refl
+      where
+        go : (a : Bool) → zeros (wordsOf x) ≡ a → (b : Bool) → eqb (c .count) i ≡ b → Near (turned form sheet s g x i c)
+        go true e b k = subst Near (sym (turned-zero e)) h
+        go false e true k =
+            let z = eqb-true (c .count) i k in
+            subst Near (sym (turned-next e z)) (judged-most x i (c .found) (omega arith))
+        go false e false k = subst Near (sym (turned-hole e (eqb-false (c .count) i k))) (omega arith)
+
+  pub scan-end : (xs : List ItemRecord) (i : ℕ) (c : Seen) → length xs ≤ i → scan form sheet s g (drop i xs) i c ≡ c
   unfolding scan
   scan-end xs i c h = rw (drop-of-length-le)
 
-  pub scan-step : (xs : List ItemRecord) (i c : ℕ) (d : ItemRecord) → i < length xs
+  pub scan-step : (xs : List ItemRecord) (i : ℕ) (c : Seen) (d : ItemRecord) → i < length xs
       → scan form sheet s g (drop i xs) i c ≡ scan form sheet s g (drop (i + 1) xs) (i + 1) (turned form sheet s g (getD xs i d) i c)
   unfolding scan
   scan-step xs i c d h = rw (add-one, drop-cons xs i d)
@@ -109,51 +138,168 @@ some-one : (test : Item → Bool) (i : ℕ) (y : Item) → marked test i 1 (some
 unfolding marked if_then_else_
 some-one test i y = refl
 
+-- ---- records that are all 0
+
+kind-zero : (k : ℕ) (l : List ℕ) → zeros (k ∷ l) ≡ true → k ≡ 0
+unfolding zeros all
+kind-zero k l e = go (eqb 0 k) refl e
+  where
+    go : (b : Bool) → eqb 0 k ≡ b → (b && all (eqb 0) l) ≡ true → k ≡ 0
+    go true h w = sym (eqb-true 0 k h)
+    go false h w = absurd (false≢true w)
+
+zero-none : (area : List ℕ) (x : ItemRecord) → zeros (wordsOf x) ≡ true → itemFrom area (wordsOf x) ≡ none
+unfolding itemFrom if_then_else_
+zero-none area x e = rw (kind-zero (x .kind) _ e)
+
+module _ (r : List ℕ) (rs : List (List ℕ)) where
+  trim-kept : zeros r ≡ false → trimmed (r ∷ rs) ≡ r ∷ trimmed rs
+  unfolding trimmed if_then_else_
+  trim-kept e = go (trimmed rs)
+    where
+      go : (ts : List (List ℕ)) → (elim ts [ [] ↦ if zeros r then [] else r ∷ [] | y ∷ ys ↦ r ∷ y ∷ ys ]) ≡ r ∷ ts
+      go [] = rw e
+      go (y ∷ ys) = refl
+
+  trim-last : zeros r ≡ true → trimmed rs ≡ [] → trimmed (r ∷ rs) ≡ []
+  unfolding trimmed if_then_else_
+  trim-last e h = rw (h, e)
+
+  trim-more : (y : List ℕ) (ys : List (List ℕ)) → trimmed rs ≡ y ∷ ys → trimmed (r ∷ rs) ≡ r ∷ y ∷ ys
+  unfolding trimmed
+  trim-more y ys h = rw h
+
+not-nil : {A : Type 0} (x : A) (xs : List A) → x ∷ xs ≡ [] → ⊥
+not-nil x xs e = let z : suc (length xs) ≡ 0 = ap length e in omega arith
+
 module _ (form sheet : List ℕ) (s : Raw) (g : Search) (z : g .number ≡ 0) where
-  turned-as : (x : ItemRecord) (i c : ℕ) (o : Option Item) → itemFrom (sheetArea sheet) (wordsOf x) ≡ o
-      → turned form sheet s g x i c ≡ marked (λ y. reached s i && sought form g y) i c o
-  unfolding turned if_then_else_
-  turned-as x i c o e = rw (z, turned, e)
+  abbrev area : List ℕ
+  area = sheetArea sheet
 
-  pub scan-items : (xs : List ItemRecord) (is : List Item) → itemsFrom (sheetArea sheet) (map wordsOf xs) ≡ some is
-      → (i c : ℕ) → scan form sheet s g xs i c ≡ over s (sought form g) is i c
-  unfolding scan over itemsFrom
-  scan-items [] is e i c = let y : [] ≡ is = cc in rw (← y)
-  scan-items (x ∷ xs) is e i c =
-      let f = bind-some (itemFrom (sheetArea sheet) (wordsOf x)) _ e in
-      let h = bind-some (itemsFrom (sheetArea sheet) (map wordsOf xs)) _ (f .2) in
-      let k : some (f .0 ∷ h .0) ≡ some is = h .2 in
-      let y : f .0 ∷ h .0 ≡ is = cc in
-      rw (← y) (ap (scan form sheet s g xs (suc i)) (turned-as x i c (some (f .0)) (f .1)) ∙ scan-items xs (h .0) (h .1) (suc i) _)
+  judged-as : (x : ItemRecord) (i c : ℕ) (o : Option Item) → itemFrom area (wordsOf x) ≡ o
+      → judged form sheet s g x i c ≡ marked (λ y. reached s i && sought form g y) i c o
+  unfolding judged if_then_else_
+  judged-as x i c o e = rw (z, judged, e)
 
-  scan-one : (xs : List ItemRecord) (i : ℕ) → scan form sheet s g xs i 1 ≡ 1
-  unfolding scan
-  scan-one [] i = refl
-  scan-one (x ∷ xs) i = ap (scan form sheet s g xs (suc i)) (go (itemFrom (sheetArea sheet) (wordsOf x)) refl) ∙ scan-one xs (suc i)
+  judged-one : (x : ItemRecord) (i : ℕ) → judged form sheet s g x i 1 ≡ 1
+  judged-one x i = go (itemFrom area (wordsOf x)) refl
     where
       still : (o : Option Item) → marked (λ y. reached s i && sought form g y) i 1 o ≡ 1
       still none = none-one _ i 1
       still (some y) = some-one _ i y
 
-      go : (o : Option Item) → itemFrom (sheetArea sheet) (wordsOf x) ≡ o → turned form sheet s g x i 1 ≡ 1
-      go o e = turned-as x i 1 o e ∙ still o
+      go : (o : Option Item) → itemFrom area (wordsOf x) ≡ o → judged form sheet s g x i 1 ≡ 1
+      go o e = judged-as x i 1 o e ∙ still o
 
-  pub scan-bad : (xs : List ItemRecord) → itemsFrom (sheetArea sheet) (map wordsOf xs) ≡ none
-      → (i c : ℕ) → scan form sheet s g xs i c ≡ 1
-  unfolding scan itemsFrom _>>?_
-  scan-bad [] e i c = absurd (Option·none-ne-some [] (sym e))
-  scan-bad (x ∷ xs) e i c = go (scan-bad xs) (itemFrom (sheetArea sheet) (wordsOf x)) refl
+  turned-one : (x : ItemRecord) (i : ℕ) (c : Seen) → c .found ≡ 1 → turned form sheet s g x i c .found ≡ 1
+  turned-one x i c h = go (zeros (wordsOf x)) refl (eqb (c .count) i) refl
     where
-      rest : (y : Item) (o : Option (List Item)) → itemsFrom (sheetArea sheet) (map wordsOf xs) ≡ o → (o >>? λ ys. some (y ∷ ys)) ≡ none → o ≡ none
+      go : (a : Bool) → zeros (wordsOf x) ≡ a → (b : Bool) → eqb (c .count) i ≡ b → turned form sheet s g x i c .found ≡ 1
+      go true e b k = ap (λ (d : Seen). d .found) (turned-zero form sheet s g x i c e) ∙ h
+      go false e true k =
+          ap (λ (d : Seen). d .found) (turned-next form sheet s g x i c e (eqb-true (c .count) i k))
+          ∙ ap (judged form sheet s g x i) h ∙ judged-one x i
+      go false e false k = ap (λ (d : Seen). d .found) (turned-hole form sheet s g x i c e (eqb-false (c .count) i k))
+
+  scan-one : (xs : List ItemRecord) (i : ℕ) (c : Seen) → c .found ≡ 1 → scan form sheet s g xs i c .found ≡ 1
+  unfolding scan
+  scan-one [] i c h = h
+  scan-one (x ∷ xs) i c h = scan-one xs (suc i) (turned form sheet s g x i c) (turned-one x i c h)
+
+  scan-zero : (xs : List ItemRecord) → trimmed (map wordsOf xs) ≡ [] → (i : ℕ) (c : Seen) → scan form sheet s g xs i c ≡ c
+  unfolding scan
+  scan-zero [] e i c = refl
+  scan-zero (x ∷ xs) e i c = go (scan-zero xs) (zeros (wordsOf x)) refl (trimmed (map wordsOf xs)) refl
+    where
+      go : (trimmed (map wordsOf xs) ≡ [] → (i : ℕ) (c : Seen) → scan form sheet s g xs i c ≡ c)
+          → (b : Bool) → zeros (wordsOf x) ≡ b → (ts : List (List ℕ)) → trimmed (map wordsOf xs) ≡ ts
+          → scan form sheet s g xs (suc i) (turned form sheet s g x i c) ≡ c
+      go later true h [] k = later k (suc i) _ ∙ turned-zero form sheet s g x i c h
+      go later true h (y ∷ ys) k = absurd (not-nil _ _ (sym (trim-more (wordsOf x) (map wordsOf xs) y ys k) ∙ e))
+      go later false h ts k = absurd (not-nil _ _ (sym (trim-kept (wordsOf x) (map wordsOf xs) h) ∙ e))
+
+  -- a record behind one that is all 0
+  scan-hole : (xs : List ItemRecord) (y : List ℕ) (ys : List (List ℕ)) → trimmed (map wordsOf xs) ≡ y ∷ ys
+      → (i : ℕ) (c : Seen) → c .count < i → scan form sheet s g xs i c .found ≡ 1
+  unfolding scan trimmed
+  scan-hole [] y ys e i c h = absurd (not-nil y ys (sym e))
+  scan-hole (x ∷ xs) y ys e i c h = go (scan-hole xs) (zeros (wordsOf x)) refl (trimmed (map wordsOf xs)) refl
+    where
+      go : ((y : List ℕ) (ys : List (List ℕ)) → trimmed (map wordsOf xs) ≡ y ∷ ys → (i : ℕ) (c : Seen) → c .count < i → scan form sheet s g xs i c .found ≡ 1)
+          → (b : Bool) → zeros (wordsOf x) ≡ b → (ts : List (List ℕ)) → trimmed (map wordsOf xs) ≡ ts
+          → scan form sheet s g xs (suc i) (turned form sheet s g x i c) .found ≡ 1
+      go later false k ts w = scan-one xs (suc i) _ (ap (λ (d : Seen). d .found) (turned-hole form sheet s g x i c k (λ n. omega arith)))
+      go later true k [] w = absurd (not-nil y ys (sym e ∙ trim-last (wordsOf x) (map wordsOf xs) k w))
+      go later true k (v ∷ vs) w =
+          ap (λ (d : Seen). scan form sheet s g xs (suc i) d .found) (turned-zero form sheet s g x i c k) ∙ later v vs w (suc i) c (omega arith)
+
+  -- the records are these items, or one is none
+  abbrev kept : List ItemRecord → Option (List Item)
+  kept xs = itemsFrom area (trimmed (map wordsOf xs))
+
+  kept-next : (x : ItemRecord) (xs : List ItemRecord) → zeros (wordsOf x) ≡ false
+      → kept (x ∷ xs) ≡ (itemFrom area (wordsOf x) >>? λ y. kept xs >>? λ ys. some (y ∷ ys))
+  unfolding itemsFrom
+  kept-next x xs h = ap (itemsFrom area) (trim-kept (wordsOf x) (map wordsOf xs) h)
+
+  kept-none : (x : ItemRecord) (xs : List ItemRecord) (y : List ℕ) (ys : List (List ℕ)) → zeros (wordsOf x) ≡ true
+      → trimmed (map wordsOf xs) ≡ y ∷ ys → kept (x ∷ xs) ≡ none
+  unfolding itemsFrom _>>?_
+  kept-none x xs y ys h k = ap (itemsFrom area) (trim-more (wordsOf x) (map wordsOf xs) y ys k) ∙ rw (zero-none area x h)
+
+  kept-nothing : (x : ItemRecord) (xs : List ItemRecord) → zeros (wordsOf x) ≡ true → trimmed (map wordsOf xs) ≡ [] → kept (x ∷ xs) ≡ some []
+  unfolding itemsFrom
+  kept-nothing x xs h k = ap (itemsFrom area) (trim-last (wordsOf x) (map wordsOf xs) h k)
+
+  pub scan-items : (xs : List ItemRecord) (is : List Item) → kept xs ≡ some is
+      → (i c : ℕ) → scan form sheet s g xs i (seenTo c i) ≡ seenTo (over s (sought form g) is i c) (i + length is)
+  unfolding scan over itemsFrom trimmed
+  scan-items [] is e i c = let y : [] ≡ is = cc in rw (← y, add-zero i)
+  scan-items (x ∷ xs) is e i c = go (scan-items xs) (zeros (wordsOf x)) refl (trimmed (map wordsOf xs)) refl
+    where
+      go : ((is : List Item) → kept xs ≡ some is → (i c : ℕ) → scan form sheet s g xs i (seenTo c i) ≡ seenTo (over s (sought form g) is i c) (i + length is))
+          → (b : Bool) → zeros (wordsOf x) ≡ b → (ts : List (List ℕ)) → trimmed (map wordsOf xs) ≡ ts
+          → scan form sheet s g xs (suc i) (turned form sheet s g x i (seenTo c i)) ≡ seenTo (over s (sought form g) is i c) (i + length is)
+      go later true h [] k =
+          let w : some [] ≡ some is = sym (kept-nothing x xs h k) ∙ e in
+          let y : [] ≡ is = cc in
+          scan-zero xs k (suc i) _ ∙ turned-zero form sheet s g x i (seenTo c i) h ∙ rw (← y, add-zero i)
+      go later true h (y ∷ ys) k = absurd (Option·none-ne-some is (sym (kept-none x xs y ys h k) ∙ e))
+      go later false h ts k =
+          let f = bind-some (itemFrom area (wordsOf x)) _ (sym (kept-next x xs h) ∙ e) in
+          let p = bind-some (kept xs) _ (f .2) in
+          let w : some (f .0 ∷ p .0) ≡ some is = p .2 in
+          let y : f .0 ∷ p .0 ≡ is = cc in
+          let m : judged form sheet s g x i c ≡ marked (λ t. reached s i && sought form g t) i c (some (f .0)) = judged-as x i c (some (f .0)) (f .1) in
+          let n : i + suc (length (p .0)) ≡ suc i + length (p .0) = omega arith in
+          rw (← y, n)
+          (ap (scan form sheet s g xs (suc i)) (turned-next form sheet s g x i (seenTo c i) h refl ∙ rw (add-one i, m))
+          ∙ later (p .0) (p .1) (suc i) _)
+
+  abbrev Bad : List ItemRecord → ℕ → Seen → Type 0
+  Bad xs i c = scan form sheet s g xs i c .found ≡ 1
+
+  pub scan-bad : (xs : List ItemRecord) → kept xs ≡ none → (i c : ℕ) → Bad xs i (seenTo c i)
+  unfolding scan itemsFrom trimmed _>>?_
+  scan-bad [] e i c = absurd (Option·none-ne-some [] (sym e))
+  scan-bad (x ∷ xs) e i c = go (scan-bad xs) (zeros (wordsOf x)) refl (trimmed (map wordsOf xs)) refl (itemFrom area (wordsOf x)) refl
+    where
+      rest : (y : Item) (o : Option (List Item)) → kept xs ≡ o → (o >>? λ ys. some (y ∷ ys)) ≡ none → o ≡ none
       rest y none k n = refl
       rest y (some ys) k n = absurd (Option·none-ne-some (y ∷ ys) (sym n))
 
-      go : (itemsFrom (sheetArea sheet) (map wordsOf xs) ≡ none → (i c : ℕ) → scan form sheet s g xs i c ≡ 1)
-          → (o : Option Item) → itemFrom (sheetArea sheet) (wordsOf x) ≡ o → scan form sheet s g xs (suc i) (turned form sheet s g x i c) ≡ 1
-      go later none k = ap (scan form sheet s g xs (suc i)) (turned-as x i c none k ∙ none-one _ i c) ∙ scan-one xs (suc i)
-      go later (some y) k =
-          let n : (itemsFrom (sheetArea sheet) (map wordsOf xs) >>? λ ys. some (y ∷ ys)) ≡ none = rw k at e in
-          later (rest y (itemsFrom (sheetArea sheet) (map wordsOf xs)) refl n) (suc i) _
+      go : (kept xs ≡ none → (i c : ℕ) → Bad xs i (seenTo c i))
+          → (b : Bool) → zeros (wordsOf x) ≡ b → (ts : List (List ℕ)) → trimmed (map wordsOf xs) ≡ ts
+          → (o : Option Item) → itemFrom area (wordsOf x) ≡ o → Bad xs (suc i) (turned form sheet s g x i (seenTo c i))
+      go later true h [] k o w = absurd (Option·none-ne-some [] (sym e ∙ kept-nothing x xs h k))
+      go later true h (y ∷ ys) k o w =
+          subst (Bad xs (suc i)) (sym (turned-zero form sheet s g x i (seenTo c i) h)) (scan-hole xs y ys k (suc i) (seenTo c i) (omega arith))
+      go later false h ts k none w =
+          subst (Bad xs (suc i)) (sym (turned-next form sheet s g x i (seenTo c i) h refl)) (scan-one xs (suc i) _ (judged-as x i c none w ∙ none-one _ i c))
+      go later false h ts k (some y) w =
+          let n : (kept xs >>? λ ys. some (y ∷ ys)) ≡ none = rw w at (sym (kept-next x xs h) ∙ e) in
+          subst (Bad xs (suc i)) (sym (turned-next form sheet s g x i (seenTo c i) h refl ∙ ap (seenTo (judged form sheet s g x i c)) (add-one i)))
+          (later (rest y (kept xs) refl n) (suc i) _)
 
 -- ---- as the rules search
 

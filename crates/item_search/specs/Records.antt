@@ -8,7 +8,7 @@ use Rattle.rules.specs.Outcome.{Outcome, ok, refused, refuse, _>>=_}
 use Rattle.rules.specs.Split.{Item}
 use Rattle.rules.specs.State.{Found, find}
 use Rattle.rules.specs.Take.{matchesArg}
-use Rattle.rules.specs.Calls.{formIn, sheetIn, itemsFrom, stateIn, asked, keyOf}
+use Rattle.rules.specs.Calls.{formIn, sheetIn, trimmed, itemsFrom, stateIn, asked, keyOf}
 use Rattle.rules.specs.declared.State.{State as Raw}
 use Rattle.item_search.specs.declared.ItemRecord.{ItemRecord}
 
@@ -17,13 +17,13 @@ abbrev pub wordsOf : ItemRecord → List ℕ
 wordsOf x =
     x .kind ∷ x .adjacent ∷ x .character ∷ x .«name_offset» ∷ x .«name_length» ∷ x .«text_offset» ∷ x .«text_length» ∷ []
 
--- 30: a record that is no item
+-- 30: a record that is no item, up to the last that is not all 0
 unfoldable pub itemsOr30 : Option (List Item) → Outcome (List Item)
 itemsOr30 none = refused (refuse 30)
 itemsOr30 (some is) = ok is
 
 unfoldable pub recordItems : List ℕ → List ItemRecord → Outcome (List Item)
-recordItems area xs = itemsOr30 (itemsFrom area (map wordsOf xs))
+recordItems area xs = itemsOr30 (itemsFrom area (trimmed (map wordsOf xs)))
 
 unfoldable pub placeOf : Option Found → Option ℕ
 placeOf none = none

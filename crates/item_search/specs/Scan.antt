@@ -11,6 +11,7 @@ use Rattle.rules.specs.Outcome.{Outcome, ok, refused, refuse, Refusal, _>>=_}
 use Rattle.rules.specs.Codes.{placeCode}
 use Rattle.rules.specs.Sheet.{sheetArea, sheetFault}
 use Rattle.rules.specs.Split.{Item}
+use Rattle.rules.specs.Tree.{zeros}
 use Rattle.rules.specs.State.{presentAt}
 use Rattle.rules.specs.Accept.{Accepted, accepted, checkForm}
 use Rattle.rules.specs.Take.{matchesArg}
@@ -23,6 +24,7 @@ use Rattle.answers.specs.declared.Answer.{Answer}
 use Rattle.item_search.specs.Records.{wordsOf}
 use Rattle.item_search.specs.declared.ItemRecord.{ItemRecord}
 use Rattle.item_search.specs.declared.Search.{Search}
+use Rattle.item_search.specs.declared.Seen.{Seen}
 
 -- ---- the start: 1 to 4, then 6 and 5
 abbrev pub stoppedAt : ℕ → ℕ → Search
@@ -73,14 +75,27 @@ marked test i c (some y) = if eqb c 0 then (if test y then i + 2 else 0) else c
 abbrev pub sought : List ℕ → Search → Item → Bool
 sought form g = matchesArg (keyNames form (g .key)) (g .key .adjacent)
 
-unfoldable pub turned : List ℕ → List ℕ → Raw → Search → ItemRecord → ℕ → ℕ → ℕ
-turned form sheet s g x i c =
+unfoldable pub judged : List ℕ → List ℕ → Raw → Search → ItemRecord → ℕ → ℕ → ℕ
+judged form sheet s g x i c =
     if eqb (g .number) 0
     then marked (λ y. reached s i && sought form g y) i c (itemFrom (sheetArea sheet) (wordsOf x))
     else c
 
+abbrev pub seenTo : ℕ → ℕ → Seen
+seenTo c n = record { found = c; count = n }
+
+abbrev pub unseen : Seen
+unseen = seenTo 0 0
+
+-- one that is all 0 is left out, and behind such a one none is an item
+unfoldable pub turned : List ℕ → List ℕ → Raw → Search → ItemRecord → ℕ → Seen → Seen
+turned form sheet s g x i c =
+    if zeros (wordsOf x)
+    then c
+    else (if eqb (c .count) i then seenTo (judged form sheet s g x i (c .found)) (i + 1) else seenTo 1 (i + 1))
+
 -- all records from place i on
-unfoldable pub scan : List ℕ → List ℕ → Raw → Search → List ItemRecord → ℕ → ℕ → ℕ
+unfoldable pub scan : List ℕ → List ℕ → Raw → Search → List ItemRecord → ℕ → Seen → Seen
 scan form sheet s g [] i c = c
 scan form sheet s g (x ∷ xs) i c = scan form sheet s g xs (suc i) (turned form sheet s g x i c)
 
@@ -94,6 +109,6 @@ ended s n g c =
     then refused (refuse 30)
     else (stateIn n s >>= λ _. if eqb (g .key .kind) 0 then refused (refuse 28) else ok (placeFrom c))
 
-pub record Finishes (s : Raw) (n : ℕ) (g : Search) (c : ℕ) (r : Answer) : Type 0 where
-  pub good : g .number ≡ 0 → plainAnswer placeOrNone (ended s n g c) ≡ some r
+pub record Finishes (s : Raw) (g : Search) (c : Seen) (r : Answer) : Type 0 where
+  pub good : g .number ≡ 0 → plainAnswer placeOrNone (ended s (c .count) g (c .found)) ≡ some r
   pub bad : (g .number ≡ 0 → ⊥) → r ≡ answerWith (g .number) (g .place) (coded 0 0 0)

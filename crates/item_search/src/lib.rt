@@ -3,11 +3,11 @@
 // no such node.
 ghost use mathlib.Core.Path.{_≡_};
 ghost use mathlib.Core.Option.{some};
-ghost use Prim.Native.Nat.{_+_, _≤_};
+ghost use Prim.Native.Nat.{_+_, _≤_, _<_};
 ghost use lib.ListN.{replicate};
 ghost use Rattle.answers.specs.Answers.{coded, placeOrNone, answerWith, plainAnswer};
 ghost use Rattle.item_search.specs.Records.{wordsOf, callFind};
-ghost use Rattle.item_search.specs.Scan.{stoppedAt, Started, Reaches, Able, turned, Finishes};
+ghost use Rattle.item_search.specs.Scan.{stoppedAt, Started, Reaches, Able, judged, unseen, turned, Finishes};
 use answers::Answer;
 use form_calls::Key;
 use rules::State;
@@ -31,6 +31,13 @@ struct Search {
     area: usize,
     key: Key,
     codes: [u32; 128],
+}
+
+// The records so far: how many there are up to the last that is not all 0, and the first of them that is looked for: its
+// place plus 2, or 0 for none yet, or 1 where one of them is no item.
+struct Seen {
+    found: usize,
+    count: usize,
 }
 
 fn wide(x: u32) -> usize
@@ -119,8 +126,14 @@ fn is_reached(s: State, i: usize) -> bool
     s.marks[i] != 1
 }
 
+fn nothing_seen() -> Seen
+    ensures { λ r. ⌜ r ≡ unseen ⌝ }
+{
+    Seen { found: 0, count: 0 }
+}
+
 // One record: 1 where it is no item, else what was found before it, or its place plus 2 if it is the first that has a name.
-fn turn(
+fn judge(
     form: &[u8],
     sheet: &[u8],
     item: ItemRecord,
@@ -130,7 +143,7 @@ fn turn(
     found: usize,
 ) -> usize
     requires { ⌜ Able (now form) (now sheet) search ⌝ }
-    ensures { λ r. ⌜ r ≡ turned (now (form .entry)) (now (sheet .entry)) s search item i found ⌝ }
+    ensures { λ r. ⌜ r ≡ judged (now (form .entry)) (now (sheet .entry)) s search item i found ⌝ }
 {
     if search.number != 0 {
         return found;
@@ -159,6 +172,36 @@ fn turn(
         return i + 2;
     }
     0
+}
+
+// The next record: one that is all 0 is left out, and behind such a one none is an item.
+fn turn(
+    form: &[u8],
+    sheet: &[u8],
+    item: ItemRecord,
+    i: usize,
+    s: State,
+    search: Search,
+    seen: Seen,
+) -> Seen
+    requires { ⌜ Able (now form) (now sheet) search × (i + 1 < 18446744073709551616) ⌝ }
+    ensures { λ r. ⌜ r ≡ turned (now (form .entry)) (now (sheet .entry)) s search item i seen ⌝ }
+{
+    let words = words_of(item);
+    if table::all_zero(&words) {
+        return seen;
+    }
+    if seen.count != i {
+        return Seen {
+            found: 1,
+            count: i + 1,
+        };
+    }
+    let found = judge(form, sheet, item, i, s, search, seen.found);
+    Seen {
+        found,
+        count: i + 1,
+    }
 }
 
 fn refused(number: u32, place: u32) -> Answer
@@ -192,27 +235,27 @@ fn narrow(x: usize) -> u32
     x as u32
 }
 
-// After `count` records: refusals 30, 29 and 28, or what was found.
-fn finish(s: State, count: usize, search: Search, found: usize) -> Answer
-    requires { ⌜ found ≤ count + 1 ⌝ }
-    ensures { λ r. ⌜ Finishes s count search found r ⌝ }
+// After all records: refusals 30, 29 and 28, or what was found.
+fn finish(s: State, search: Search, seen: Seen) -> Answer
+    requires { ⌜ seen .found ≤ seen .count + 1 ⌝ }
+    ensures { λ r. ⌜ Finishes s search seen r ⌝ }
 {
     if search.number != 0 {
         return refused(search.number, search.place);
     }
-    if found == 1 {
+    if seen.found == 1 {
         return refused(30, 0);
     }
-    if !state::good(s, count) {
+    if !state::good(s, seen.count) {
         return refused(29, 0);
     }
     if search.key.kind == 0 {
         return refused(28, 0);
     }
-    if found == 0 {
+    if seen.found == 0 {
         return answered(0, 0);
     }
-    answered(1, narrow(found - 2))
+    answered(1, narrow(seen.found - 2))
 }
 
 // The first present item in scope that has one of the names of a flag or an argument; an adjacent argument's only where the
@@ -221,11 +264,11 @@ pub fn find(form: &[u8], sheet: &[u8], items: &[ItemRecord], s: State, node: usi
     ensures { λ r. ⌜ plainAnswer placeOrNone (callFind (now (form .entry)) (now (sheet .entry)) (now (items .entry)) s node) ≡ some r ⌝ }
 {
     let search = started(form, sheet, node);
-    let mut found = 0;
+    let mut seen = nothing_seen();
     let mut i = 0;
     while i < items.len() {
-        found = turn(form, sheet, items[i], i, s, search, found);
+        seen = turn(form, sheet, items[i], i, s, search, seen);
         i += 1;
     }
-    finish(s, i, search, found)
+    finish(s, search, seen)
 }

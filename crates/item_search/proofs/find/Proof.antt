@@ -1,7 +1,7 @@
 -- `item_search::find` meets its contract: a walk of its MIR, by hand, with a loop. Each turn looks into the slice of records,
 -- copies one out, shuts it again, and passes the record by value to `turn`. The slices of bytes are Copy: a copy of what each
 -- owns is passed to a callee, and one kept. All that the proof knows of the callees is that they meet their contracts.
---     At i c      the loop's invariant: i's local is i and found's is c; the temporaries are room
+--     At i c      the loop's invariant: i's local is i and seen's is c; the temporaries are room
 --     Upto        the variant: i, at most the length, from which the scan goes on at c as it does from the start
 --     ends        the code after the loop
 --     over, more  the turn that finds the end, and any other
@@ -60,8 +60,9 @@ use Rattle.answers.specs.declared.Answer.{Answer}
 use Rattle.answers.specs.Answers.{placeOrNone, plainAnswer}
 use Rattle.item_search.specs.declared.ItemRecord.{ItemRecord}
 use Rattle.item_search.specs.declared.Search.{Search}
+use Rattle.item_search.specs.declared.Seen.{Seen}
 use Rattle.item_search.specs.Records.{callFind}
-use Rattle.item_search.specs.Scan.{Started, turned, scan, Finishes}
+use Rattle.item_search.specs.Scan.{Started, unseen, turned, scan, Finishes}
 use Rattle.item_search.proofs.Scan.{started-able, turned-most, scan-end, scan-step}
 use Rattle.item_search.proofs.Laws.{found-by}
 use Rattle.rules.proofs.State as TS
@@ -72,10 +73,16 @@ use Rattle.item_search.proofs.ItemRecord as TI
 use Rattle.item_search.proofs.ItemRecord.Laws as TI′
 use Rattle.item_search.proofs.Search as TG
 use Rattle.item_search.proofs.Search.Laws as TG′
+use Rattle.item_search.proofs.Seen as TN
+use Rattle.item_search.proofs.Seen.Laws as TN′
 use Rattle.item_search.proofs.started as started
 use Rattle.item_search.proofs.started.Symbol as started-def
 use Rattle.item_search.proofs.started.Symbol.{name as #item-search·started}
 use Rattle.item_search.proofs.started.Met as started-thm
+use Rattle.item_search.proofs.nothing_seen as nothing-seen
+use Rattle.item_search.proofs.nothing_seen.Symbol as nothing-seen-def
+use Rattle.item_search.proofs.nothing_seen.Symbol.{name as #item-search·nothing-seen}
+use Rattle.item_search.proofs.nothing_seen.Met as nothing-seen-thm
 use Rattle.item_search.proofs.turn as turn
 use Rattle.item_search.proofs.turn.Symbol as turn-def
 use Rattle.item_search.proofs.turn.Symbol.{name as #item-search·turn}
@@ -99,6 +106,9 @@ S = TS.the-row
 abbrev G : RattleType
 G = TG.the-row
 
+abbrev N : RattleType
+N = TN.the-row
+
 abbrev valsI : ItemRecord → List Val
 valsI = LL.vals TI.the-type TI′.the-laws
 
@@ -110,6 +120,9 @@ valS h = LL.tuple-val TS.the-type TS′.the-laws (TS.the-type .to h)
 
 abbrev valG : Search → Val
 valG h = LL.tuple-val TG.the-type TG′.the-laws (TG.the-type .to h)
+
+abbrev valN : Seen → Val
+valN c = LL.tuple-val TN.the-type TN′.the-laws (TN.the-type .to c)
 
 abbrev Bytes : Type 0
 Bytes = RefT (List ℕ)
@@ -123,6 +136,9 @@ Arg = Bytes × (Bytes × (RefT (List ItemRecord) × (State × (ℕ × Unit {0}))
 abbrev stayed : Stays (find.ended .signature .params) (find.ended .kept)
 stayed =
     (stay-none-slice (0 ∷ []) tt (plain (λ _. u8)) yes, (stay-none-slice (1 ∷ []) tt (plain (λ _. u8)) yes, (stay-none-slice (2 ∷ []) tt (plain (λ _. R)) yes, (stay-none (λ _. S) yes, (stay-none (λ _. usize) yes, tt)))))
+
+seen-is : (c : Seen) (v : Val) → Is N c (v ∷ []) → Is N c (valN c ∷ [])
+seen-is c v is = subst (λ (vs : List Val). Is N c vs) (LL.tells TN.the-type TN′.the-laws c _ is) is
 
 -- what `getD` gives past the end
 abbrev zeroes : ItemRecord
@@ -145,6 +161,9 @@ module _ {M : Type 1} (𝓤 : URA M) (H : Heap 𝓤) (A : Atoms 𝓤) (at-mem : 
   abbrev Start : Contract 𝓤
   Start = tripleOf 𝓤 H A started.signature (started.spec 𝓤 H A at-mem run)
 
+  abbrev Unseen : Contract 𝓤
+  Unseen = tripleOf 𝓤 H A nothing-seen.signature (nothing-seen.spec 𝓤 H A at-mem run)
+
   abbrev Turn : Contract 𝓤
   Turn = tripleOf 𝓤 H A turn.signature (turn.spec 𝓤 H A at-mem run)
 
@@ -155,12 +174,15 @@ module _ {M : Type 1} (𝓤 : URA M) (H : Heap 𝓤) (A : Atoms 𝓤) (at-mem : 
   started-of : (κ₁ κ₂ : Lft) (f s : Bytes) (n : ℕ) (g : Search) → ent 𝓤 (ensured 𝓤 H A started.ended (started.clauses 𝓤 H A at-mem run) (κ₁, (κ₂, tt)) (f, (s, (n, tt))) tt g) (fact 𝓤 (Started (f .now) (s .now) n g))
   started-of κ₁ κ₂ f s n g = exE 𝓤 _ (λ ws. snd∗ 𝓤 (sem 𝓤 H A (lasts started.ended (κ₁, (κ₂, tt)) (f, (s, (n, tt))) ws)) (fact 𝓤 (Started (f .now) (s .now) n g)))
 
-  turned-of : (κ₁ κ₂ : Lft) (f s : Bytes) (y : ItemRecord) (i : ℕ) (h : State) (g : Search) (c r : ℕ)
+  unseen-of : (c : Seen) → ent 𝓤 (ensured 𝓤 H A nothing-seen.ended (nothing-seen.clauses 𝓤 H A at-mem run) tt tt tt c) (fact 𝓤 (c ≡ unseen))
+  unseen-of c = exE 𝓤 _ (λ ws. snd∗ 𝓤 (sem 𝓤 H A (lasts nothing-seen.ended tt tt ws)) (fact 𝓤 (c ≡ unseen)))
+
+  turned-of : (κ₁ κ₂ : Lft) (f s : Bytes) (y : ItemRecord) (i : ℕ) (h : State) (g : Search) (c r : Seen)
       → ent 𝓤 (ensured 𝓤 H A turn.ended (turn.clauses 𝓤 H A at-mem run) (κ₁, (κ₂, tt)) (f, (s, (y, (i, (h, (g, (c, tt))))))) tt r) (fact 𝓤 (r ≡ turned (f .now) (s .now) h g y i c))
   turned-of κ₁ κ₂ f s y i h g c r = exE 𝓤 _ (λ ws. snd∗ 𝓤 (sem 𝓤 H A (lasts turn.ended (κ₁, (κ₂, tt)) (f, (s, (y, (i, (h, (g, (c, tt))))))) ws)) (fact 𝓤 (r ≡ turned (f .now) (s .now) h g y i c)))
 
-  finished-of : (h : State) (i : ℕ) (g : Search) (c : ℕ) (a : Answer) → ent 𝓤 (ensured 𝓤 H A finish.ended (finish.clauses 𝓤 H A at-mem run) tt (h, (i, (g, (c, tt)))) tt a) (fact 𝓤 (Finishes h i g c a))
-  finished-of h i g c a = exE 𝓤 _ (λ ws. snd∗ 𝓤 (sem 𝓤 H A (lasts finish.ended tt (h, (i, (g, (c, tt)))) ws)) (fact 𝓤 (Finishes h i g c a)))
+  finished-of : (h : State) (g : Search) (c : Seen) (a : Answer) → ent 𝓤 (ensured 𝓤 H A finish.ended (finish.clauses 𝓤 H A at-mem run) tt (h, (g, (c, tt))) tt a) (fact 𝓤 (Finishes h g c a))
+  finished-of h g c a = exE 𝓤 _ (λ ws. snd∗ 𝓤 (sem 𝓤 H A (lasts finish.ended tt (h, (g, (c, tt))) ws)) (fact 𝓤 (Finishes h g c a)))
 
 module _ {M : Type 1} (𝓤 : URA M) (H : Heap 𝓤) (A : Atoms 𝓤) (W : Given 𝓤 H A) (at-mem : Memory → SProp 𝓤) (run : Routine → Fun 𝓤) (κ₁ κ₂ κ₃ : Lft) (bounds : AllOutlive 3 (find.signature .outlives) (κ₁, (κ₂, (κ₃, tt)))) (q₁ q₂ q₃ : Share)
     (b₁ o₁ : ℕ) (γ₁ : GName) (y₁ : List ℕ) (b₂ o₂ : ℕ) (γ₂ : GName) (y₂ : List ℕ) (b o : ℕ) (γ : GName) (ys : List ItemRecord) (h : State) (k : ℕ)
@@ -214,35 +236,41 @@ module _ {M : Type 1} (𝓤 : URA M) (H : Heap 𝓤) (A : Atoms 𝓤) (W : Given
       qed W (Tokens ∷ ‵ Own₁ ∷ ‵ Own₂ ∷ []) ∵ nothing ! $ owned ! usize (Is usize) (uint-makes 𝓤 H A W w64) k _ (refl, gk) $ fjoin ! $
       move ! (3 ∷ 0 ∷ []) $ fjoin ! $ move ! (2 ∷ 0 ∷ []) $ fjoin ! $ move ! (1 ∷ 0 ∷ []) $ join ! $ frame ! $ done !
 
+  abbrev to-unseen : Unseen 𝓤 H A at-mem run .Ghost
+  to-unseen = ((tt, tt, tt, tt, tt), tt)
+
+  goes-unseen : ent 𝓤 (sem 𝓤 H A ftrue) (Unseen 𝓤 H A at-mem run .pre to-unseen)
+  goes-unseen = qed W (‵ ftrue ∷ []) ∵ nothing ! $ join ! $ frame ! $ done !
+
   -- ---- after the start
   module _ (g : Search) (gg : Is G g (valG g ∷ [])) (st : Started y₁ y₂ k g) where
-    abbrev to-turn : ItemRecord → ℕ → ℕ → Turn 𝓤 H A at-mem run .Ghost
+    abbrev to-turn : ItemRecord → ℕ → Seen → Turn 𝓤 H A at-mem run .Ghost
     to-turn y i c =
-        (((κ₁, (κ₂, tt)), (q₁, (q₂, tt)), tt, (f, (s, (y, (i, (h, (g, (c, tt))))))), (valOf f ∷ [], (valOf s ∷ [], (valI y ∷ [], (vint w64 i ∷ [], (valS h ∷ [], (valG g ∷ [], (vint w64 c ∷ [], tt)))))))), tt)
+        (((κ₁, (κ₂, tt)), (q₁, (q₂, tt)), tt, (f, (s, (y, (i, (h, (g, (c, tt))))))), (valOf f ∷ [], (valOf s ∷ [], (valI y ∷ [], (vint w64 i ∷ [], (valS h ∷ [], (valG g ∷ [], (valN c ∷ [], tt)))))))), tt)
 
-    goes-turn : (y : ItemRecord) (i c : ℕ) → Is R y (valI y ∷ []) → i < 2 ^ 64 → c < 2 ^ 64 → ent 𝓤 (⋆ 𝓤 H A (Tokens ∷ ‵ Own₁ ∷ ‵ Own₂ ∷ [])) (Turn 𝓤 H A at-mem run .pre (to-turn y i c))
-    goes-turn y i c gy gi gc =
-        qed W (Tokens ∷ ‵ Own₁ ∷ ‵ Own₂ ∷ []) ∵ says ! (started-able y₁ y₂ k g st) $ nothing ! $ owned ! usize (Is usize) (uint-makes 𝓤 H A W w64) c _ (refl, gc) $ fjoin ! $
+    goes-turn : (y : ItemRecord) (i : ℕ) (c : Seen) → Is R y (valI y ∷ []) → i < 2 ^ 64 → i + 1 < 2 ^ 64 → Is N c (valN c ∷ []) → ent 𝓤 (⋆ 𝓤 H A (Tokens ∷ ‵ Own₁ ∷ ‵ Own₂ ∷ [])) (Turn 𝓤 H A at-mem run .pre (to-turn y i c))
+    goes-turn y i c gy gi gj gc =
+        qed W (Tokens ∷ ‵ Own₁ ∷ ‵ Own₂ ∷ []) ∵ says ! (started-able y₁ y₂ k g st, gj) $ nothing ! $ owned ! N (Is N) (LL.makes TN.the-type TN′.the-plain 𝓤 H A) c _ gc $ fjoin ! $
         owned ! G (Is G) (LL.makes TG.the-type TG′.the-plain 𝓤 H A) g _ gg $ fjoin ! $ owned ! S (Is S) (LL.makes TS.the-type TS′.the-plain 𝓤 H A) h _ gs $ fjoin ! $
         owned ! usize (Is usize) (uint-makes 𝓤 H A W w64) i _ (refl, gi) $ fjoin ! $ owned ! R (Is R) (LL.makes TI.the-type TI′.the-plain 𝓤 H A) y _ gy $ fjoin ! $
         move ! (3 ∷ 0 ∷ []) $ fjoin ! $ move ! (2 ∷ 0 ∷ []) $ fjoin ! $ move ! (1 ∷ 0 ∷ []) $ done !
 
-    abbrev to-finish : ℕ → ℕ → Finish 𝓤 H A at-mem run .Ghost
-    to-finish i c = ((tt, tt, tt, (h, (i, (g, (c, tt)))), (valS h ∷ [], (vint w64 i ∷ [], (valG g ∷ [], (vint w64 c ∷ [], tt))))), tt)
+    abbrev to-finish : Seen → Finish 𝓤 H A at-mem run .Ghost
+    to-finish c = ((tt, tt, tt, (h, (g, (c, tt))), (valS h ∷ [], (valG g ∷ [], (valN c ∷ [], tt)))), tt)
 
-    goes-finish : (i c : ℕ) → i < 2 ^ 64 → c < 2 ^ 64 → c ≤ i + 1 → ent 𝓤 (sem 𝓤 H A ftrue) (Finish 𝓤 H A at-mem run .pre (to-finish i c))
-    goes-finish i c gi gc m =
-        qed W (‵ ftrue ∷ []) ∵ says ! m $ owned ! usize (Is usize) (uint-makes 𝓤 H A W w64) c _ (refl, gc) $ fjoin ! $ owned ! G (Is G) (LL.makes TG.the-type TG′.the-plain 𝓤 H A) g _ gg $ fjoin ! $
-        owned ! usize (Is usize) (uint-makes 𝓤 H A W w64) i _ (refl, gi) $ fjoin ! $ owned ! S (Is S) (LL.makes TS.the-type TS′.the-plain 𝓤 H A) h _ gs $ fjoin ! $ nothing ! $ done !
+    goes-finish : (c : Seen) → Is N c (valN c ∷ []) → c .found ≤ c .count + 1 → ent 𝓤 (sem 𝓤 H A ftrue) (Finish 𝓤 H A at-mem run .pre (to-finish c))
+    goes-finish c gc m =
+        qed W (‵ ftrue ∷ []) ∵ says ! m $ owned ! N (Is N) (LL.makes TN.the-type TN′.the-plain 𝓤 H A) c _ gc $ fjoin ! $ owned ! G (Is G) (LL.makes TG.the-type TG′.the-plain 𝓤 H A) g _ gg $ fjoin ! $
+        owned ! S (Is S) (LL.makes TS.the-type TS′.the-plain 𝓤 H A) h _ gs $ fjoin ! $ nothing ! $ done !
 
-    -- what is known before a turn: i and found
+    -- what is known before a turn: i and what was seen
     record Upto : Type 0 where
       pub i : ℕ
-      pub c : ℕ
+      pub c : Seen
       pub most : i ≤ n
-      pub small : c ≤ i + 1
-      pub fits : c < 2 ^ 64
-      pub same : scan y₁ y₂ h g ys 0 0 ≡ scan y₁ y₂ h g (drop i ys) i c
+      pub small : c .found ≤ c .count + 1
+      pub fits : Is N c (valN c ∷ [])
+      pub same : scan y₁ y₂ h g ys 0 unseen ≡ scan y₁ y₂ h g (drop i ys) i c
 
     abbrev Nearer : Upto → Upto → Type 0
     Nearer j i = n - j .i < n - i .i
@@ -259,14 +287,14 @@ module _ {M : Type 1} (𝓤 : URA M) (H : Heap 𝓤) (A : Atoms 𝓤) (W : Given
       Λ = 𝓣 .Λ
 
       abbrev En : Env 𝓤 H
-      En = (TA′.mir, l₀) ∷ (slice₁, l₁) ∷ (slice₂, l₂) ∷ (slice₃, l₃) ∷ (TS′.mir, l₄) ∷ (word, l₅) ∷ (TG′.mir, l₆) ∷ (word, l₇) ∷ (word, l₈) ∷ (word, l₉) ∷ (tyBool, l₁₀) ∷ (tyPtr, l₁₁) ∷ (TI′.mir, l₁₂) ∷ []
+      En = (TA′.mir, l₀) ∷ (slice₁, l₁) ∷ (slice₂, l₂) ∷ (slice₃, l₃) ∷ (TS′.mir, l₄) ∷ (word, l₅) ∷ (TG′.mir, l₆) ∷ (TN′.mir, l₇) ∷ (word, l₈) ∷ (word, l₉) ∷ (tyBool, l₁₀) ∷ (tyPtr, l₁₁) ∷ (TI′.mir, l₁₂) ∷ []
 
       abbrev Shr : Fml
       Shr = fshr-bor κ₃ (λ q′. arr-parts (shares R) n .part q′ ys b o)
 
-      abbrev At : ℕ → ℕ → List (Held 𝓤)
+      abbrev At : ℕ → Seen → List (Held 𝓤)
       At i c = ‵ (froom TI′.mir l₁₂ 0) ∷ ‵ (fdies TI′.mir l₁₂) ∷ ‵ (froom tyPtr l₁₁ 0) ∷ ‵ (fdies tyPtr l₁₁) ∷ ‵ (froom tyBool l₁₀ 0) ∷ ‵ (fdies tyBool l₁₀) ∷ ‵ (froom word l₉ 0) ∷ ‵ (fdies word l₉)
-          ∷ ‵ (fat fullShare word l₈ 0 (vint w64 i)) ∷ ‵ (fdies word l₈) ∷ ‵ (fat fullShare word l₇ 0 (vint w64 c)) ∷ ‵ (fdies word l₇) ∷ ‵ (fat fullShare TG′.mir l₆ 0 (valG g)) ∷ ‵ (fdies TG′.mir l₆)
+          ∷ ‵ (fat fullShare word l₈ 0 (vint w64 i)) ∷ ‵ (fdies word l₈) ∷ ‵ (fat fullShare TN′.mir l₇ 0 (valN c)) ∷ ‵ (fdies TN′.mir l₇) ∷ ‵ (fat fullShare TG′.mir l₆ 0 (valG g)) ∷ ‵ (fdies TG′.mir l₆)
           ∷ ‵ (fat fullShare word l₅ 0 (vint w64 k)) ∷ ‵ (fdies word l₅) ∷ ‵ (fat fullShare TS′.mir l₄ 0 (valS h)) ∷ ‵ (fdies TS′.mir l₄) ∷ ‵ (fat fullShare slice₃ l₃ 0 (sliceVal (b, o) n)) ∷ ‵ (fdies slice₃ l₃)
           ∷ ‵ (fat fullShare slice₂ l₂ 0 (valOf s)) ∷ ‵ (fdies slice₂ l₂) ∷ ‵ (fat fullShare slice₁ l₁ 0 (valOf f)) ∷ ‵ (fdies slice₁ l₁) ∷ ‵ (froom TA′.mir l₀ 0) ∷ ‵ (fdies TA′.mir l₀)
           ∷ ‵ (flft κ₃ q₃) ∷ Tokens ∷ ‵ Own₁ ∷ ‵ Own₂ ∷ ‵ Own₃ ∷ ‵ Shr ∷ []
@@ -283,11 +311,11 @@ module _ {M : Type 1} (𝓤 : URA M) (H : Heap 𝓤) (A : Atoms 𝓤) (W : Given
 
       ends : (u : Upto) → n ≤ u .i → Sq W (I u) (runs C Λ En code′.t-5 (atRet En Post))
       ends u past =
-          nothing ! $ use1 W (raw (Finish 𝓤 H A at-mem run .pre (to-finish i c))) (goes-finish i c (fits-up u) (u .fits) (u .small)) $
-          calls-at ! (fmOf 𝓤 H (W .laws) 𝓣) (Finish 𝓤 H A at-mem run) known-finish (to-finish i c)
-          (and-then ! (load ! (from ! (stop !)) (look ! 17 refl)) (and-then ! (load ! (from ! (stop !)) (look ! 9 refl)) (and-then ! (load ! (from ! (stop !)) (look ! 13 refl)) (and-then ! (load ! (from ! (stop !)) (look ! 11 refl)) (no-more !))))) (λ v.
-          use1 W (later (some (λ (a : Answer). (‵ ftrue ⊛ ‵ (TA.the-row .own a (v ∷ []))) ⊛ raw (ensured 𝓤 H A finish.ended (finish.clauses 𝓤 H A at-mem run) tt (h, (i, (g, (c, tt)))) tt a)))) (id⊢ 𝓤 _) $ await ! tt $ picks ! (λ a.
-          split ! $ move ! (1 ∷ []) $ use1 W (raw (fact 𝓤 (Finishes h i g c a))) (finished-of 𝓤 H A at-mem run h i g c a) $ heard ! (Finishes h i g c a) (λ e. split ! $ drops ! $
+          nothing ! $ use1 W (raw (Finish 𝓤 H A at-mem run .pre (to-finish c))) (goes-finish c (u .fits) (u .small)) $
+          calls-at ! (fmOf 𝓤 H (W .laws) 𝓣) (Finish 𝓤 H A at-mem run) known-finish (to-finish c)
+          (and-then ! (load ! (from ! (stop !)) (look ! 17 refl)) (and-then ! (load ! (from ! (stop !)) (look ! 13 refl)) (and-then ! (load ! (from ! (stop !)) (look ! 11 refl)) (no-more !)))) (λ v.
+          use1 W (later (some (λ (a : Answer). (‵ ftrue ⊛ ‵ (TA.the-row .own a (v ∷ []))) ⊛ raw (ensured 𝓤 H A finish.ended (finish.clauses 𝓤 H A at-mem run) tt (h, (g, (c, tt))) tt a)))) (id⊢ 𝓤 _) $ await ! tt $ picks ! (λ a.
+          split ! $ move ! (1 ∷ []) $ use1 W (raw (fact 𝓤 (Finishes h g c a))) (finished-of 𝓤 H A at-mem run h g c a) $ heard ! (Finishes h g c a) (λ e. split ! $ drops ! $
           peeks ! TA.the-row (Is TA.the-row) (shows 𝓤 H A TA.the-row) a (v ∷ []) (λ ia. drops ! $
           land ! (from ! (stop !)) (init ! 24 refl (LL.lawful TA.the-type TA′.the-laws 𝓤 H A W .typed a _ ia .0)) $
           returns ! (look ! 24 refl) $ forget ! 8 refl $ forget ! 10 refl $ forget ! 12 refl $ forget ! 14 refl $ forget ! 16 refl $ forget ! 18 refl $ forget ! 20 refl $ forget ! 22 refl $ forget ! 24 refl $
@@ -298,14 +326,11 @@ module _ {M : Type 1} (𝓤 : URA M) (H : Heap 𝓤) (A : Atoms 𝓤) (W : Given
           i : ℕ
           i = u .i
 
-          c : ℕ
+          c : Seen
           c = u .c
 
-          all : i ≡ n
-          all = omega (arith, u .most, past)
-
-          answer : (a : Answer) → Finishes h i g c a → plainAnswer placeOrNone (callFind y₁ y₂ ys h k) ≡ only-some a
-          answer a e = found-by y₁ y₂ ys h k g st c (sym (u .same ∙ scan-end y₁ y₂ h g ys i c past)) a (subst (λ (m : ℕ). Finishes h m g c a) all e)
+          answer : (a : Answer) → Finishes h g c a → plainAnswer placeOrNone (callFind y₁ y₂ ys h k) ≡ only-some a
+          answer a e = found-by y₁ y₂ ys h k g st c (sym (u .same ∙ scan-end y₁ y₂ h g ys i c past)) a e
 
       -- the turn that finds the end
       over : (u : Upto) → ltb (u .i) n ≡ false → Sq W (I u) (runs C Λ En code′.turn-1 (anyQ (Turned u)))
@@ -337,25 +362,25 @@ module _ {M : Type 1} (𝓤 : URA M) (H : Heap 𝓤) (A : Atoms 𝓤) (W : Given
           -- [κ₃'s token; Shr; _12; …; the tokens; Own₁; Own₂; Own₃]
           move ! (29 ∷ []) $ use1 W (‵ Own₁ ⊛ ‵ Own₁) (shr-slice-copy 𝓤 H A W (named 0) κ₁ u8 .twice f (valOf f ∷ [])) $ split ! $
           move ! (31 ∷ []) $ use1 W (‵ Own₂ ⊛ ‵ Own₂) (shr-slice-copy 𝓤 H A W (named 1) κ₂ u8 .twice s (valOf s ∷ [])) $ split ! $
-          move ! (32 ∷ 2 ∷ 0 ∷ []) $ group ! 3 $ use1 W (raw (Turn 𝓤 H A at-mem run .pre (to-turn y i c))) (goes-turn y i c gy (fits-up u) (u .fits)) $
+          move ! (32 ∷ 2 ∷ 0 ∷ []) $ group ! 3 $ use1 W (raw (Turn 𝓤 H A at-mem run .pre (to-turn y i c))) (goes-turn y i c gy (fits-up u) next-fits (u .fits)) $
           -- [what `turn` asks; Own₂; Own₁; κ₃'s token; Shr; _12; …; _11; …; _10; …; _9; …; _8; …; _7; …; _6; …; _5; …; _4; …; _3; …; _2; …; _1; …; _0; …; Own₃]
           calls-at ! (fmOf 𝓤 H (W .laws) 𝓣) (Turn 𝓤 H A at-mem run) known-turn (to-turn y i c)
           (and-then ! (load ! (from ! (stop !)) (look ! 27 refl)) (and-then ! (load ! (from ! (stop !)) (look ! 25 refl)) (and-then ! (load ! (from ! (stop !)) (look ! 5 refl)) (and-then ! (load ! (from ! (stop !)) (look ! 13 refl)) (and-then ! (load ! (from ! (stop !)) (look ! 21 refl)) (and-then ! (load ! (from ! (stop !)) (look ! 17 refl)) (and-then ! (load ! (from ! (stop !)) (look ! 15 refl)) (no-more !)))))))) (λ v.
-          use1 W (later (some (λ (r : ℕ). (Tokens ⊛ ‵ (usize .own r (v ∷ []))) ⊛ raw (ensured 𝓤 H A turn.ended (turn.clauses 𝓤 H A at-mem run) (κ₁, (κ₂, tt)) (f, (s, (y, (i, (h, (g, (c, tt))))))) tt r)))) (id⊢ 𝓤 _) $ await ! tt $ picks ! (λ r.
+          use1 W (later (some (λ (r : Seen). (Tokens ⊛ ‵ (N .own r (v ∷ []))) ⊛ raw (ensured 𝓤 H A turn.ended (turn.clauses 𝓤 H A at-mem run) (κ₁, (κ₂, tt)) (f, (s, (y, (i, (h, (g, (c, tt))))))) tt r)))) (id⊢ 𝓤 _) $ await ! tt $ picks ! (λ r.
           split ! $ move ! (1 ∷ []) $ use1 W (raw (fact 𝓤 (r ≡ turned y₁ y₂ h g y i c))) (turned-of 𝓤 H A at-mem run κ₁ κ₂ f s y i h g c r) $ heard ! (r ≡ turned y₁ y₂ h g y i c) (λ e. split ! $
-          move ! (1 ∷ []) $ peeks ! usize (Is usize) (shows 𝓤 H A usize) r (v ∷ []) (λ is. drops ! $
+          move ! (1 ∷ []) $ peeks ! N (Is N) (shows 𝓤 H A N) r (v ∷ []) (λ is. drops ! $
           -- [the tokens; Own₂; Own₁; κ₃'s token; Shr; _12; …; Own₃]
-          land ! (from ! (stop !)) (store ! 15 refl (uint-lawful 𝓤 H A W w64 .typed r _ is .0)) $
-          rewrite ! 15 (λ (z : Val). ‵ (fat fullShare word l₇ 0 z)) (ap only (is .0)) refl $
+          land ! (from ! (stop !)) (store ! 15 refl (LL.lawful TN.the-type TN′.the-laws 𝓤 H A W .typed r _ is .0)) $
+          rewrite ! 15 (λ (z : Val). ‵ (fat fullShare TN′.mir l₇ 0 z)) (ap only (LL.tells TN.the-type TN′.the-laws r _ is)) refl $
           assigns-last ! (bin ! (load ! (from ! (stop !)) (look ! 13 refl)) (lit ! tt) (record { fits = next-fits })) (from ! (stop !)) (store ! 13 refl (tt, record { fits = next-fits })) $
           forget ! 5 refl $ forget ! 7 refl $ forget ! 9 refl $ forget ! 11 refl $
           keep ! (5 ∷ 6 ∷ 7 ∷ 8 ∷ 9 ∷ 10 ∷ 11 ∷ 12 ∷ 13 ∷ 14 ∷ 15 ∷ 16 ∷ 17 ∷ 18 ∷ 19 ∷ 20 ∷ 21 ∷ 22 ∷ 23 ∷ 24 ∷ 25 ∷ 26 ∷ 27 ∷ 28 ∷ 29 ∷ 30 ∷ 3 ∷ 0 ∷ 2 ∷ 1 ∷ 31 ∷ 4 ∷ []) $
-          again ! Nearer I u (next r (is .1) e) (add-one-dec n i l)))))))
+          again ! Nearer I u (next r (seen-is r v is) e) (add-one-dec n i l)))))))
         where
           i : ℕ
           i = u .i
 
-          c : ℕ
+          c : Seen
           c = u .c
 
           l : i < n
@@ -370,12 +395,12 @@ module _ {M : Type 1} (𝓤 : URA M) (H : Heap 𝓤) (A : Atoms 𝓤) (W : Given
           next-fits : i + 1 < 2 ^ 64
           next-fits = lt-of-le-of-lt (add-one-le l) (gn .0)
 
-          next : (r : ℕ) → r < 2 ^ 64 → r ≡ turned y₁ y₂ h g y i c → Upto
+          next : (r : Seen) → Is N r (valN r ∷ []) → r ≡ turned y₁ y₂ h g y i c → Upto
           next r fits e = record {
             i = i + 1;
             c = r;
             most = add-one-le l;
-            small = subst (λ (m : ℕ). m ≤ i + 1 + 1) (sym e) (turned-most y₁ y₂ h g y i c (u .small));
+            small = subst (λ (d : Seen). d .found ≤ d .count + 1) (sym e) (turned-most y₁ y₂ h g y i c (u .small));
             fits = fits;
             same = u .same ∙ scan-step y₁ y₂ h g ys i c zeroes l ∙ ap (scan y₁ y₂ h g (drop (i + 1) ys) (i + 1)) (sym e);
           }
@@ -388,15 +413,15 @@ module _ {M : Type 1} (𝓤 : URA M) (H : Heap 𝓤) (A : Atoms 𝓤) (W : Given
           by-test false e = over u e
 
       -- the loop, and what follows it
-      looped : Sq W (At 0 0) (runs C Λ En code′.t-4 (atRet En Post))
-      looped = first ! $ blocks ! $ loops ! 𝓣 Nearer Nearer-wf I turns (record { i = 0; c = 0; most = zero-le; small = zero-le; fits = lit< tt; same = refl })
+      looped : Is N unseen (valN unseen ∷ []) → Sq W (At 0 unseen) (runs C Λ En code′.t-4 (atRet En Post))
+      looped fits = first ! $ blocks ! $ loops ! 𝓣 Nearer Nearer-wf I turns (record { i = 0; c = unseen; most = zero-le; small = zero-le; fits = fits; same = refl })
 
   search-is : (g : Search) (v : Val) → Is G g (v ∷ []) → Is G g (valG g ∷ [])
   search-is g v is = subst (λ (vs : List Val). Is G g vs) (LL.tells TG.the-type TG′.the-laws g _ is) is
 
-  walk : (𝓣 : Tables 𝓤 H) → Triple 𝓤 (𝓣 .C #item-search·started) (Start 𝓤 H A at-mem run) → Triple 𝓤 (𝓣 .C #item-search·turn) (Turn 𝓤 H A at-mem run) → Triple 𝓤 (𝓣 .C #item-search·finish) (Finish 𝓤 H A at-mem run)
+  walk : (𝓣 : Tables 𝓤 H) → Triple 𝓤 (𝓣 .C #item-search·started) (Start 𝓤 H A at-mem run) → Triple 𝓤 (𝓣 .C #item-search·nothing-seen) (Unseen 𝓤 H A at-mem run) → Triple 𝓤 (𝓣 .C #item-search·turn) (Turn 𝓤 H A at-mem run) → Triple 𝓤 (𝓣 .C #item-search·finish) (Finish 𝓤 H A at-mem run)
       → ent 𝓤 (onEntry 𝓤 H A find.signature (κ₁, (κ₂, (κ₃, tt))) (q₁, (q₂, (q₃, tt))) x at) (WpFn 𝓤 H (𝓣 .C) (𝓣 .Λ) code.function (valOf f ∷ valOf s ∷ sliceVal (b, o) n ∷ valS h ∷ vint w64 k ∷ []) Post)
-  walk 𝓣 known-started known-turn known-finish =
+  walk 𝓣 known-started known-unseen known-turn known-finish =
       qed W ((‵ (flft κ₁ q₁) ⊛ ‵ (flft κ₂ q₂) ⊛ ‵ (flft κ₃ q₃) ⊛ ‵ ftrue) ∷ ‵ (owns (ShrSlice (named 0) κ₁ u8 ∷ ShrSlice (named 1) κ₂ u8 ∷ ShrSlice (named 2) κ₃ R ∷ S ∷ usize ∷ []) x at) ∷ []) ∵
       enter ! (𝓣 .C) (𝓣 .Λ) code.function (valOf f ∷ valOf s ∷ sliceVal (b, o) n ∷ valS h ∷ vint w64 k ∷ []) _ $
       alloc1 ! (λ l₀. alloc1 ! (λ l₁. alloc1 ! (λ l₂. alloc1 ! (λ l₃. alloc1 ! (λ l₄. alloc1 ! (λ l₅. alloc1 ! (λ l₆. alloc1 ! (λ l₇. alloc1 ! (λ l₈. alloc1 ! (λ l₉. alloc1 ! (λ l₁₀. alloc1 ! (λ l₁₁. alloc1 ! (λ l₁₂. alloc0 ! $ params1 ! $
@@ -421,12 +446,19 @@ module _ {M : Type 1} (𝓤 : URA M) (H : Heap 𝓤) (A : Atoms 𝓤) (W : Given
       -- [the tokens; Own₂; Own₁; κ₃'s token; Shr; Own₃; room for _12; …]
       land ! (from ! (stop !)) (init ! 18 refl (LL.lawful TG.the-type TG′.the-laws 𝓤 H A W .typed g _ is .0)) $
       rewrite ! 18 (λ (z : Val). ‵ (fat fullShare TG′.mir l₆ 0 z)) (ap only (LL.tells TG.the-type TG′.the-laws g _ is)) refl $
-      assigns ! (of-opd ! (lit ! tt)) (from ! (stop !)) (init ! 16 refl (tt, record { fits = lit< tt })) $
+      nothing ! $ use1 W (raw (Unseen 𝓤 H A at-mem run .pre to-unseen)) goes-unseen $
+      calls-at ! (fmOf 𝓤 H (W .laws) 𝓣) (Unseen 𝓤 H A at-mem run) known-unseen to-unseen (no-more !) (λ w.
+      use1 W (later (some (λ (c : Seen). (‵ ftrue ⊛ ‵ (N .own c (w ∷ []))) ⊛ raw (ensured 𝓤 H A nothing-seen.ended (nothing-seen.clauses 𝓤 H A at-mem run) tt tt tt c)))) (id⊢ 𝓤 _) $ await ! tt $ picks ! (λ c.
+      split ! $ move ! (1 ∷ []) $ use1 W (raw (fact 𝓤 (c ≡ unseen))) (unseen-of 𝓤 H A at-mem run c) $ heard ! (c ≡ unseen) (λ e. split ! $ drops ! $
+      peeks ! N (Is N) (shows 𝓤 H A N) c (w ∷ []) (λ ic. drops ! $
+      land ! (from ! (stop !)) (init ! 16 refl (LL.lawful TN.the-type TN′.the-laws 𝓤 H A W .typed c _ ic .0)) $
+      rewrite ! 16 (λ (z : Val). ‵ (fat fullShare TN′.mir l₇ 0 z)) (ap only (LL.tells TN.the-type TN′.the-laws c _ ic) ∙ ap valN e) refl $
       assigns ! (of-opd ! (lit ! tt)) (from ! (stop !)) (init ! 14 refl (tt, record { fits = lit< tt })) $
       keep ! (6 ∷ 7 ∷ 8 ∷ 9 ∷ 10 ∷ 11 ∷ 12 ∷ 13 ∷ 14 ∷ 15 ∷ 16 ∷ 17 ∷ 18 ∷ 19 ∷ 20 ∷ 21 ∷ 22 ∷ 23 ∷ 24 ∷ 25 ∷ 26 ∷ 27 ∷ 28 ∷ 29 ∷ 30 ∷ 31 ∷ 3 ∷ 0 ∷ 2 ∷ 1 ∷ 5 ∷ 4 ∷ []) $
-      looped g (search-is g v is) st 𝓣 known-turn known-finish l₀ l₁ l₂ l₃ l₄ l₅ l₆ l₇ l₈ l₉ l₁₀ l₁₁ l₁₂)))))))))))))))))
+      looped g (search-is g v is) st 𝓣 known-turn known-finish l₀ l₁ l₂ l₃ l₄ l₅ l₆ l₇ l₈ l₉ l₁₀ l₁₁ l₁₂ (subst (λ (d : Seen). Is N d (valN d ∷ [])) e (seen-is c w ic)))))))))))))))))))))))
 
 module _ {M : Type 1} (𝓤 : URA M) (H : Heap 𝓤) (A : Atoms 𝓤) (W : Given 𝓤 H A) (at-mem : Memory → SProp 𝓤) (run : Routine → Fun 𝓤) (𝓣 : Tables 𝓤 H) (known-started : Triple 𝓤 (𝓣 .C #item-search·started) (Start 𝓤 H A at-mem run))
+    (known-unseen : Triple 𝓤 (𝓣 .C #item-search·nothing-seen) (Unseen 𝓤 H A at-mem run))
     (known-turn : Triple 𝓤 (𝓣 .C #item-search·turn) (Turn 𝓤 H A at-mem run)) (known-finish : Triple 𝓤 (𝓣 .C #item-search·finish) (Finish 𝓤 H A at-mem run)) where
   find-walks : Walks 𝓤 H A find.ended stayed (WpFn 𝓤 H (𝓣 .C) (𝓣 .Λ) code.function) (find.clauses 𝓤 H A at-mem run)
   find-walks = walked 𝓤 H A find.ended stayed (find.clauses 𝓤 H A at-mem run) (WpFn 𝓤 H (𝓣 .C) (𝓣 .Λ) code.function)
@@ -435,7 +467,7 @@ module _ {M : Type 1} (𝓤 : URA M) (H : Heap 𝓤) (A : Atoms 𝓤) (W : Given
       (λ κs qs bounds a _ are. via 𝓤 _ (fst∗ 𝓤 _ (emp 𝓤))
       (walk 𝓤 H A W at-mem run (κs .0) (κs .1 .0) (κs .1 .1 .0) bounds (qs .0) (qs .1 .0) (qs .1 .1 .0)
       (a .0 .ptr .0) (a .0 .ptr .1) (a .0 .name) (a .0 .now) (a .1 .0 .ptr .0) (a .1 .0 .ptr .1) (a .1 .0 .name) (a .1 .0 .now) (a .1 .1 .0 .ptr .0) (a .1 .1 .0 .ptr .1) (a .1 .1 .0 .name) (a .1 .1 .0 .now) (a .1 .1 .1 .0) (a .1 .1 .1 .1 .0)
-      (are .0 .0 .1) (are .1 .0 .0 .1) (are .1 .1 .0 .0 .1) (are .1 .1 .1 .0) (are .1 .1 .1 .1 .0 .1) 𝓣 known-started known-turn known-finish))
+      (are .0 .0 .1) (are .1 .0 .0 .1) (are .1 .1 .0 .0 .1) (are .1 .1 .1 .0) (are .1 .1 .1 .1 .0 .1) 𝓣 known-started known-unseen known-turn known-finish))
 
   goes : AllGo 𝓤 H A W 3 (find.signature .params) (find.ended .kept) stayed
   goes = (goes-none-slice 𝓤 H A W 3 (0 ∷ []) tt (plain (λ _. u8)) yes, (goes-none-slice 𝓤 H A W 3 (1 ∷ []) tt (plain (λ _. u8)) yes, (goes-none-slice 𝓤 H A W 3 (2 ∷ []) tt (plain (λ _. R)) yes, (goes-none 𝓤 H A W 3 (λ _. S) yes (λ κs x f. refl), (goes-none 𝓤 H A W 3 (λ _. usize) yes (λ κs x f. refl), tt)))))
@@ -450,5 +482,6 @@ find-spec 𝓤 H 𝓜 𝓖 𝓡 =
     (tables 𝓤 H 𝓜 𝓡 code.env .C) (tables 𝓤 H 𝓜 𝓡 code.env .Λ) #item-search·find code.function (code.unfolded 𝓤 H 𝓜 𝓡)
     (find-meets 𝓤 H (𝓖 .A) (givenOf 𝓤 H 𝓜 𝓖) (𝓜 .mem) (𝓡 .run) (tablesOf 𝓤 H 𝓜 (tables 𝓤 H 𝓜 𝓡 code.env))
     (cited 𝓤 H (Start 𝓤 H (𝓖 .A) (𝓜 .mem) (𝓡 .run)) 𝓜 𝓡 code.env #item-search·started started-def.routine code.calls-item-search·started (started-thm.met 𝓤 H 𝓜 𝓖 𝓡))
+    (cited 𝓤 H (Unseen 𝓤 H (𝓖 .A) (𝓜 .mem) (𝓡 .run)) 𝓜 𝓡 code.env #item-search·nothing-seen nothing-seen-def.routine code.calls-item-search·nothing-seen (nothing-seen-thm.met 𝓤 H 𝓜 𝓖 𝓡))
     (cited 𝓤 H (Turn 𝓤 H (𝓖 .A) (𝓜 .mem) (𝓡 .run)) 𝓜 𝓡 code.env #item-search·turn turn-def.routine code.calls-item-search·turn (turn-thm.met 𝓤 H 𝓜 𝓖 𝓡))
     (cited 𝓤 H (Finish 𝓤 H (𝓖 .A) (𝓜 .mem) (𝓡 .run)) 𝓜 𝓡 code.env #item-search·finish finish-def.routine code.calls-item-search·finish (finish-thm.met 𝓤 H 𝓜 𝓖 𝓡)))

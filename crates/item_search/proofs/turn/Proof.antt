@@ -1,63 +1,46 @@
--- Whether the record is an item, then the place, then the names. Assumes nothing.
-use native.Mathlib.Omega.{arith}
+-- A record that is all 0, a hole, then the record itself. Assumes nothing.
 use borrow.Author.Needs.{needs}
-use Rattle.item_search.proofs.Ends.{turn-stopped, turn-bad, turn-kept, turn-unreached, turn-near, turn-names, turn-item, turn-found, turn-other}
+use Rattle.item_search.proofs.Ends.{turn-zero, turn-hole, turn-next}
 use Rattle.item_search.proofs.turn.Statement.{statement}
 use Rattle.item_search.proofs.turn.Tie as tie
-
-returns : tie.Need-returns
-returns c = search turn-stopped
 
 words-of-requires : tie.Need-words-of-requires
 words-of-requires c κs = search needs
 
-slice-aggregate-record-good : tie.Need-slice-aggregate-record-good
-slice-aggregate-record-good c = search needs
+slice-aggregate-all-zero : tie.Need-slice-aggregate-all-zero
+slice-aggregate-all-zero c = search needs
 
-record-good-requires : tie.Need-record-good-requires
-record-good-requires c κs = search needs
+all-zero-requires : tie.Need-all-zero-requires
+all-zero-requires c κs = search needs
+
+returns : tie.Need-returns
+returns c = search turn-zero
+
+add-t15 : tie.Need-add-t15
+add-t15 c = search needs
 
 returns-2 : tie.Need-returns-2
-returns-2 c = search turn-bad
+returns-2 c = search turn-hole
+
+judge-requires : tie.Need-judge-requires
+judge-requires c κs = search needs
+
+add-t16 : tie.Need-add-t16
+add-t16 c = search needs
 
 returns-3 : tie.Need-returns-3
-returns-3 c = search turn-kept
-
-is-reached-requires : tie.Need-is-reached-requires
-is-reached-requires c κs = search needs
-
-returns-4 : tie.Need-returns-4
-returns-4 c = search turn-unreached
-
-slice-aggregate-matches : tie.Need-slice-aggregate-matches
-slice-aggregate-matches c = search needs
-
-matches-requires : tie.Need-matches-requires
-matches-requires c κs = (turn-names _ _ _ _ _ _ _ (c .before .before .before .before .before .before .before .before .before .before .before .before .if1 .left) (c .before .before .before .before .before .before .before .before .before .before .before .before .before .before .before .pre) _ (c .before .before .before .before .before .before .before .before .before .before .before .words-of .ensures) _ (c .before .before .before .before .before .before .before .before .before .record-good .ensures) (c .before .before .before .before .before .before .before .before .if2 .left) (c .before .before .before .before .before .before .before .if3 .left) _ (c .before .before .before .before .before .before .is-reached .ensures) (c .before .before .before .before .before .if4 .left), turn-item _ _ _ _ _ _ _ (c .before .before .before .before .before .before .before .before .before .before .before .before .if1 .left) (c .before .before .before .before .before .before .before .before .before .before .before .before .before .before .before .pre) _ (c .before .before .before .before .before .before .before .before .before .before .before .words-of .ensures) _ (c .before .before .before .before .before .before .before .before .before .record-good .ensures) (c .before .before .before .before .before .before .before .before .if2 .left) (c .before .before .before .before .before .before .before .if3 .left) _ (c .before .before .before .before .before .before .is-reached .ensures) (c .before .before .before .before .before .if4 .left))
-
-add-result : tie.Need-add-result
-add-result c = record { fits = omega (arith, turn-near _ _ _ _ _ _ _ (c .before .before .before .before .before .before .before .before .before .before .before .before .before .before .if1 .left) (c .before .before .before .before .before .before .before .before .before .before .before .before .before .before .before .before .before .pre) _ (c .before .before .before .before .before .before .before .before .before .before .before .before .before .words-of .ensures) _ (c .before .before .before .before .before .before .before .before .before .before .before .record-good .ensures) (c .before .before .before .before .before .before .before .before .before .before .if2 .left) (c .before .before .before .before .before .before .before .before .before .if3 .left) _ (c .before .before .before .before .before .before .before .before .is-reached .ensures) (c .before .before .before .before .before .before .before .if4 .left)) }
-
-returns-5 : tie.Need-returns-5
-returns-5 c = turn-found _ _ _ _ _ _ _ (c .before .before .before .before .before .before .before .before .before .before .before .before .before .before .if1 .left) (c .before .before .before .before .before .before .before .before .before .before .before .before .before .before .before .before .before .pre) _ (c .before .before .before .before .before .before .before .before .before .before .before .before .before .words-of .ensures) _ (c .before .before .before .before .before .before .before .before .before .before .before .record-good .ensures) (c .before .before .before .before .before .before .before .before .before .before .if2 .left) (c .before .before .before .before .before .before .before .before .before .if3 .left) _ (c .before .before .before .before .before .before .before .before .is-reached .ensures) (c .before .before .before .before .before .before .before .if4 .left) _ (c .before .matches .ensures) (c .if5 .taken)
-
-returns-6 : tie.Need-returns-6
-returns-6 c = turn-other _ _ _ _ _ _ _ (c .before .before .before .before .before .before .before .before .before .before .before .before .before .before .if1 .left) (c .before .before .before .before .before .before .before .before .before .before .before .before .before .before .before .before .before .pre) _ (c .before .before .before .before .before .before .before .before .before .before .before .before .before .words-of .ensures) _ (c .before .before .before .before .before .before .before .before .before .before .before .record-good .ensures) (c .before .before .before .before .before .before .before .before .before .before .if2 .left) (c .before .before .before .before .before .before .before .before .before .if3 .left) _ (c .before .before .before .before .before .before .before .before .is-reached .ensures) (c .before .before .before .before .before .before .before .if4 .left) _ (c .before .matches .ensures) (c .if5 .left)
+returns-3 c = search turn-next
 
 pub turn-spec : {M : Type 1} → statement M
 turn-spec =
     tie.close
     (tie.spec
-    returns
     words-of-requires
-    slice-aggregate-record-good
-    record-good-requires
+    slice-aggregate-all-zero
+    all-zero-requires
+    returns
+    add-t15
     returns-2
-    returns-3
-    is-reached-requires
-    returns-4
-    slice-aggregate-matches
-    matches-requires
-    add-result
-    returns-5
-    returns-6)
+    judge-requires
+    add-t16
+    returns-3)
