@@ -311,6 +311,9 @@ SilverpoiseAnswer silverpoise_adjacent_scope(SilverpoiseState state, Silverpoise
 SilverpoiseAnswer silverpoise_adjacently_available_from(SilverpoiseState state, size_t from);
 
 // ---- A sheet, items that are only read, and a state; refused with 6, 5, 7, 30, 29, 28 ----
+//
+// The items are all whole records of the slice up to the last that is not all 0, here and wherever items are only read.
+// Lend no more than the slice of one line: what stands behind it would be read too (30, or 29 for more than 256 items).
 
 // The item at a place, if the place is in scope and present.
 SilverpoiseGot silverpoise_get(const uint8_t *sheet, size_t sheet_count, const uint32_t *items, size_t item_count,
@@ -326,6 +329,7 @@ SilverpoiseStateAnswer silverpoise_take_positional_word(const uint8_t *sheet, si
                                                         size_t item_count, SilverpoiseState state);
 
 // The nearest earlier place with the same character or name as the Short or Long at a place. found 1 or 0; first: that place.
+// There is no state, so the items may be more than 256.
 SilverpoiseAnswer silverpoise_only_once(const uint8_t *sheet, size_t sheet_count, const uint32_t *items, size_t item_count,
                                         size_t place);
 
@@ -359,8 +363,8 @@ SilverpoiseAnswer silverpoise_take_flag_in_place(SilverpoiseState *state, const 
                                                  const uint8_t *sheet, size_t sheet_count, const uint32_t *items,
                                                  size_t item_count, size_t node);
 
-// The first present item in scope that matches a flag or argument. `item_count` is that of the structs. found 1 or 0; first:
-// the place. Refused: 1 to 4, 6, 5, 30, 29, 28.
+// The first present item in scope that matches a flag or argument. `item_count` is that of the structs, of which those behind
+// the last that is not all 0 are left out. found 1 or 0; first: the place. Refused: 1 to 4, 6, 5, 30, 29, 28.
 SilverpoiseAnswer silverpoise_find(const uint8_t *form, size_t form_count, const uint8_t *sheet, size_t sheet_count,
                                    const SilverpoiseItemRecord *items, size_t item_count, SilverpoiseState state,
                                    size_t node);
