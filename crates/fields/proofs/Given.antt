@@ -62,7 +62,7 @@ codes-trees f below (x ∷ xs) ts e d c =
     let tree : treeCode t ≡ codeAt f (length below) = sym (tree-some f below x t h) ∙ sym (code-by f (length below) below c x here) in
     codes-trees f (below ++ (t ∷ [])) xs ts g next (rw long (grown f (length below) below t c tree))
 
-module _ (b : List ℕ) (k : ℕ) (m : List ℕ) (d : Done (readForm b) k m) (n : ℕ) (en : n ≡ getD m k 0) where
+module _ (b : List ℕ) (k : ℕ) (m₀ m : List ℕ) (d : Done (readForm b) k m₀ m) (n : ℕ) (en : n ≡ getD m k 0) where
   pub kind-there :
       (a : Accepted) (t : Tree) (κ : Kind)
       → checkForm b ≡ accepted a

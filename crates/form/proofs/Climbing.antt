@@ -1,12 +1,19 @@
--- The loop over the nodes: the trees of the nodes below, and their codes.
-use mathlib.Core.Bool.{true}
+-- The nodes: the loop that works their codes out, and the lowest at fault against the rules' trees.
+use mathlib.Core.Bool.{Bool, true, false, not}
 use mathlib.Core.List.{List, [], _∷_, _++_, map}
+use mathlib.Core.Logic.{⊎-elim, _≢_}
 use mathlib.Core.Option.{Option, some, none}
 use mathlib.Core.Path.{_≡_, refl, sym, _∙_, ap}
-use Prim.Native.Nat.{ℕ, suc, _+_, _≤_, _<_}
+use Prim.Native.Nat.{ℕ, zero, suc, _+_, _≤_, _<_}
 use native.Mathlib.Numerals.{add-one}
+use native.Mathlib.Omega.{arith}
+use lib.Dec.{eqb}
 use lib.ListN.{length, getD, getElem?, drop, replicate, length-map, drop-of-length-le}
-use Rattle.rules.specs.Base.{isSome}
+use lib.Seq.{ext-getD}
+use borrow.Author.Tests.{eq-eqb, ne-eqb, eqb-true, eqb-false}
+use borrow.Author.Count.{below-more}
+use Rattle.utf8.specs.Utf8.{if_then_else_}
+use Rattle.rules.specs.Base.{isSome, numbers, firstFault}
 use Rattle.rules.specs.Form.{Node, Form}
 use Rattle.rules.specs.Codes.{checkCode}
 use Rattle.rules.specs.Tree.{Tree, kindOf, treeOf}
@@ -14,9 +21,12 @@ use Rattle.rules.specs.Accept.{refusedAt, treesFrom}
 use Rattle.rules.specs.declared.Refused.{Refused}
 use Rattle.rules.proofs.Acceptance.{Made, flagMade, argumentMade, positionalMade, optionalMade, manyMade, someMade, countMade, lastMade, choiceMade, fallbackMade, guardMade, inside-same, tree-made, lookup-some}
 use Rattle.kinds.specs.Known.{codeBy, codes, codeAt, Sound, Done}
-use Rattle.kinds.proofs.Steps.{drop-there}
-use Rattle.kinds.proofs.Table.{codes-length, empty-sound}
+use Rattle.names.specs.Names.{faultOr}
+use Rattle.names.proofs.Faults.{fault-here, fault-nowhere, fault-same}
+use Rattle.kinds.proofs.Steps.{lookup-none, drop-there}
+use Rattle.kinds.proofs.Table.{codes-length, codes-at, same-or, all-zero, empty-sound}
 use Rattle.kinds.proofs.Trees.{treeCode, codeOf, tree-code, real-code}
+use Rattle.form.proofs.Counting.{fault-some, fault-none}
 
 made-kind : (f : Form) (ts : List Tree) (k : ℕ) (x : Node) (t : Tree) → Made f ts k x t → isSome (kindOf t) ≡ true
 unfolding isSome kindOf
@@ -74,50 +84,102 @@ pub code-by : (f : Form) (k : ℕ) (ts : List Tree) → codes f k ≡ map treeCo
 unfolding codeAt codeBy
 code-by f k ts b x e = rw (e, codeBy, b) (sym (tree-code f ts x))
 
--- the trees of the nodes below k, and a table that is right
-pub record Climbed (f : Form) (k : ℕ) (m : List ℕ) : Type 0 where
+-- ---- the loop that fills the table: it is right, and has the codes of the nodes from k on
+pub record Filled (f : Form) (k : ℕ) (m : List ℕ) : Type 0 where
   pub sound : Sound f m
-  pub trees : List Tree
-  pub built : codes f k ≡ map treeCode trees
-  pub same : treesFrom f [] (f .nodes) ≡ treesFrom f trees (drop k (f .nodes))
+  pub all : (j : ℕ) → k ≤ j → getD m j 0 ≡ codeAt f j
 
-pub climbed-first : (f : Form) (m : List ℕ) → m ≡ replicate 64 0 → Climbed f 0 m
-unfolding codes
-climbed-first f m e = rw e (record { sound = empty-sound f; trees = []; built = refl; same = refl })
+pub filled-first : (f : Form) (n : ℕ) (m : List ℕ) → m ≡ replicate 64 0 → length (f .nodes) ≡ n → Filled f n m
+unfolding codeAt codeBy
+filled-first f n m e l = rw e (record {
+  sound = empty-sound f;
+  all = λ j h. all-zero 64 j ∙ rw (lookup-none (f .nodes) j (omega arith), codeBy);
+})
 
-module _ (f : Form) (k : ℕ) (m : List ℕ) (c : Climbed f k m) where
-  count : length (c .trees) ≡ k
-  count = sym (length-map (c .trees) treeCode) ∙ sym (ap length (c .built)) ∙ codes-length f k
+module _ (f : Form) (k n : ℕ) (e : k ≡ n + 1) (m : List ℕ) (c : Filled f k m) where
+  -- node n has its code, and those above keep theirs
+  down : (m′ : List ℕ) → Sound f m′ → getD m′ n 0 ≡ codeAt f n → ((j : ℕ) → k ≤ j → getD m′ j 0 ≡ codeAt f j) → Filled f n m′
+  down m′ s here above = record {
+    sound = s;
+    all = λ j h. ⊎-elim (λ (z : j ≡ n). ap (λ (j : ℕ). getD m′ j 0) z ∙ here ∙ ap (codeAt f) (sym z)) (λ (z : j ≢ n). above j (omega (arith, e, h, z))) (same-or j n);
+  }
 
-  pub climbed-last : (r : Refused) → length (f .nodes) ≤ k → r ≡ record { number = 0; place = 0 } → r ≡ checkCode (treesFrom f [] (f .nodes))
-  unfolding treesFrom
-  climbed-last r h e = e ∙ rw (c .same, drop-of-length-le (f .nodes) h)
+  pub filled-known : (m′ : List ℕ) → m′ ≡ m → (getD m n 0 ≡ 0 → ⊥) → Filled f n m′
+  filled-known m′ z ne = rw z (down m (c .sound) (c .sound .right n ne) (c .all))
 
-  module _ (h : k < length (f .nodes)) (m′ : List ℕ) (d : Done f k m′) where
-    node : (x : Node) × (getElem? (f .nodes) k ≡ some x)
-    node = lookup-some (f .nodes) k h
+  pub filled-asked : (m′ m″ : List ℕ) → m″ ≡ m′ → Done f n m m′ → Filled f n m″
+  filled-asked m′ m″ z d = rw z (down m′ (d .sound) (d .here) (λ j h. stays j (c .all j h)))
+    where
+      stays : (j : ℕ) → getD m j 0 ≡ codeAt f j → getD m′ j 0 ≡ codeAt f j
+      stays j h = ⊎-elim
+          (λ (z : getD m′ j 0 ≡ 0). ⊎-elim (λ (y : getD m j 0 ≡ 0). z ∙ sym y ∙ h) (λ (ne : getD m j 0 ≢ 0). d .kept .known j ne ∙ h) (same-or (getD m j 0) 0))
+          (λ (ne : getD m′ j 0 ≢ 0). d .sound .right j ne)
+          (same-or (getD m′ j 0) 0)
 
-    step-from : (x : Node) → getElem? (f .nodes) k ≡ some x → treesFrom f [] (f .nodes) ≡ treesFrom f (c .trees) (x ∷ drop (suc k) (f .nodes))
-    step-from x e = c .same ∙ rw (drop-there (f .nodes) k x e)
+pub filled-last : (f : Form) (k : ℕ) (m : List ℕ) → Filled f k m → k ≤ 0 → m ≡ codes f 64
+filled-last f k m c h =
+    ext-getD 0 m (codes f 64) (c .sound .long ∙ sym (codes-length f 64))
+    (λ j l. c .all j (omega arith) ∙ sym (codes-at f 64 j (omega (arith, c .sound .long))))
 
-    pub climbed-bad : (r : Refused) → getD m′ k 0 ≡ 32 → r ≡ record { number = 3; place = k + 1 } → r ≡ checkCode (treesFrom f [] (f .nodes))
-    climbed-bad r z e =
-        let (x, s) = node in
-        let code : codeOf (treeOf f (c .trees) x) ≡ 32 = sym (code-by f k (c .trees) (c .built) x s) ∙ sym (d .here) ∙ z in
-        e ∙ rw (add-one k) (sym (ap checkCode (step-from x s ∙ bad-tree f (c .trees) x (drop (suc k) (f .nodes)) code) ∙ rw count))
+-- ---- the loop that looks for the lowest node at fault
+module _ (c : List ℕ) (n : ℕ) where
+  abbrev pub goodIn : ℕ → Bool
+  goodIn k = not (eqb (getD c k 0) 32)
 
-    pub climbed-next : (getD m′ k 0 ≡ 32 → ⊥) → Climbed f (k + 1) m′
-    climbed-next z =
-        let (x, s) = node in
-        let code : codeOf (treeOf f (c .trees) x) ≡ codeAt f k = sym (code-by f k (c .trees) (c .built) x s) in
-        let (t, r) = good-tree f (c .trees) x (λ w. z (d .here ∙ sym code ∙ w)) in
-        let tree : treeCode t ≡ codeAt f k = sym (tree-some f (c .trees) x t r) ∙ code in
-        record {
-          sound = d .sound;
-          trees = c .trees ++ (t ∷ []);
-          built = rw (add-one k) (next-codes t tree);
-          same = rw (add-one k) (step-from x s ∙ next-tree f (c .trees) x (drop (suc k) (f .nodes)) t r);
-        }
-      where
-        next-codes : (t : Tree) → treeCode t ≡ codeAt f k → codes f (suc k) ≡ map treeCode (c .trees ++ (t ∷ []))
-        next-codes t e = grown f k (c .trees) t (c .built) e
+  pub codes-here : (k : ℕ) → k < n → ((j : ℕ) → j < k → goodIn j ≡ true) → getD c k 0 ≡ 32 → k ≡ faultOr n (firstFault goodIn 0 (numbers n 0))
+  codes-here k l h e = rw (fault-here goodIn n k l h (rw (eq-eqb (getD c k 0) 32 e)))
+
+  pub codes-next : (k : ℕ) → ((j : ℕ) → j < k → goodIn j ≡ true) → (getD c k 0 ≡ 32 → ⊥) → (j : ℕ) → j < k + 1 → goodIn j ≡ true
+  codes-next k h e = below-more (λ (j : ℕ). goodIn j ≡ true) k h (rw (ne-eqb (getD c k 0) 32 e))
+
+  pub codes-nowhere : (k : ℕ) → n ≤ k → ((j : ℕ) → j < k → goodIn j ≡ true) → n ≡ faultOr n (firstFault goodIn 0 (numbers n 0))
+  codes-nowhere k l h = rw (fault-nowhere goodIn n k l h)
+
+-- ---- the lowest node at fault is the first that has no tree
+abbrev verdict : Option ℕ → Refused
+verdict none = record { number = 0; place = 0 }
+verdict (some i) = record { number = 3; place = suc i }
+
+module _ (f : Form) where
+  abbrev good : ℕ → Bool
+  good k = not (eqb (codeAt f k) 32)
+
+  abbrev Climbs : ℕ → ℕ → List Tree → Type 0
+  Climbs n k ts = codes f k ≡ map treeCode ts → checkCode (treesFrom f ts (drop k (f .nodes))) ≡ verdict (firstFault good k (numbers n k))
+
+  count : (k : ℕ) (ts : List Tree) → codes f k ≡ map treeCode ts → length ts ≡ k
+  count k ts b = sym (length-map ts treeCode) ∙ sym (ap length b) ∙ codes-length f k
+
+  climb-node : (n k : ℕ) (ts : List Tree) (x : Node) → getElem? (f .nodes) k ≡ some x → ((us : List Tree) → Climbs n (suc k) us) → Climbs (suc n) k ts
+  unfolding firstFault numbers if_then_else_
+  climb-node n k ts x e later b = rw (drop-there (f .nodes) k x e) (go (eqb (codeAt f k) 32) refl)
+    where
+      code : codeAt f k ≡ codeOf (treeOf f ts x)
+      code = code-by f k ts b x e
+
+      go : (t : Bool) → eqb (codeAt f k) 32 ≡ t → checkCode (treesFrom f ts (x ∷ drop (suc k) (f .nodes))) ≡ verdict (firstFault good k (numbers (suc n) k))
+      go true z = rw z (ap checkCode (bad-tree f ts x (drop (suc k) (f .nodes)) (sym code ∙ eqb-true (codeAt f k) 32 z)) ∙ rw (count k ts b))
+      go false z =
+          let (t, r) = good-tree f ts x (λ w. eqb-false (codeAt f k) 32 z (code ∙ w)) in
+          let tree : treeCode t ≡ codeAt f k = sym (tree-some f ts x t r) ∙ sym code in
+          rw (z, next-tree f ts x (drop (suc k) (f .nodes)) t r) (later (ts ++ (t ∷ [])) (grown f k ts t b tree))
+
+  climb : (n k : ℕ) → k + n ≡ length (f .nodes) → (ts : List Tree) → Climbs n k ts
+  unfolding treesFrom firstFault numbers
+  climb zero k l ts b = rw (drop-of-length-le (f .nodes) {i = k} (omega arith))
+  climb (suc n) k l ts b =
+      let (x, e) = lookup-some (f .nodes) k (omega arith) in
+      climb-node n k ts x e (climb n (suc k) (omega arith)) b
+
+  module _ (n : ℕ) (l : length (f .nodes) ≡ n) (few : n ≤ 64) (c : List ℕ) (e : c ≡ codes f 64) (i : ℕ) (s : i ≡ faultOr n (firstFault (goodIn c n) 0 (numbers n 0))) (r : Refused) where
+    judged : (o : Option ℕ) → firstFault (goodIn c n) 0 (numbers n 0) ≡ o → checkCode (treesFrom f [] (f .nodes)) ≡ verdict o
+    unfolding codes
+    judged o h =
+        climb n 0 (omega arith) [] refl
+        ∙ ap verdict (sym (fault-same (goodIn c n) good n 0 (λ k a b. rw (e, codes-at f 64 k (omega arith)))) ∙ h)
+
+    pub nodes-bad : i < n → r ≡ record { number = 3; place = i + 1 } → r ≡ checkCode (treesFrom f [] (f .nodes))
+    nodes-bad h z = z ∙ rw (add-one i) (sym (judged (some i) (fault-some (goodIn c n) n i s h)))
+
+    pub nodes-good : n ≤ i → r ≡ record { number = 0; place = 0 } → r ≡ checkCode (treesFrom f [] (f .nodes))
+    nodes-good h z = z ∙ sym (judged none (fault-none (goodIn c n) n i s h))

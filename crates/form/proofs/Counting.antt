@@ -1,7 +1,7 @@
 -- How often each node is used: the table of the code against the rules' count.
 use mathlib.Core.Bool.{Bool, true, false, _&&_, and-eq-true-iff, false≢true}
 use mathlib.Core.List.{List, [], _∷_, _++_}
-use mathlib.Core.Logic.{⊎-elim, _⊎_, inl, inr, _≢_}
+use mathlib.Core.Logic.{⊎-elim, _≢_}
 use mathlib.Core.Option.{Option, some, none}
 use mathlib.Core.Path.{_≡_, refl, sym, _∙_, ap}
 use Prim.Native.Nat.{ℕ, suc, _+_, _≤_, _<_, min}
@@ -23,6 +23,7 @@ use Rattle.names.proofs.Faults.{fault-here, fault-nowhere, fault-inside, fault-
 use Rattle.layout.specs.declared.Node as layout
 use Rattle.layout.specs.Layout.{nodeOf}
 use Rattle.kinds.proofs.Steps.{lookup-none, drop-there}
+use Rattle.kinds.proofs.Table.{same-or}
 use Rattle.form.specs.Uses.{added, tally, FieldsCounted}
 
 -- ---- one more use
@@ -113,13 +114,6 @@ unfolding uses
 uses-tally f c d g e r s = s ∙ rw (r, e) (sym (tally-append (replicate 64 0) (f .fields) (concatMap childrenOf (f .nodes))))
 
 -- ---- the table holds what the rules count, up to 2
-same-or : (j i : ℕ) → (j ≡ i) ⊎ (j ≢ i)
-same-or j i = by-test (eqb j i) refl
-  where
-    by-test : (b : Bool) → eqb j i ≡ b → (j ≡ i) ⊎ (j ≢ i)
-    by-test true e = inl (eqb-true j i e)
-    by-test false e = inr (eqb-false j i e)
-
 added-length : (c : List ℕ) (k : ℕ) → length (added c k) ≡ length c
 unfolding added if_then_else_
 added-length c k = go (ltb k 64 && ltb (getD c k 0) 2) refl
@@ -172,6 +166,25 @@ once-at ks j h = go (eqb (occurrences j ks) 1) refl
     go true e = eq-eqb (getD (tally (replicate 64 0) ks) j 0) 1 (omega (arith, held, eqb-true (occurrences j ks) 1 e))
     go false e = ne-eqb (getD (tally (replicate 64 0) ks) j 0) 1 (λ (z : getD (tally (replicate 64 0) ks) j 0 ≡ 1). eqb-false (occurrences j ks) 1 e (omega (arith, held)))
 
+-- ---- a fault that was looked for among n
+module _ (p : ℕ → Bool) (n i : ℕ) (r : i ≡ faultOr n (firstFault p 0 (numbers n 0))) where
+  by-option : (o : Option ℕ) → firstFault p 0 (numbers n 0) ≡ o → i ≡ faultOr n o
+  by-option o k = rw k at r
+
+  pub fault-some : i < n → firstFault p 0 (numbers n 0) ≡ some i
+  fault-some l = go (firstFault p 0 (numbers n 0)) refl
+    where
+      go : (o : Option ℕ) → firstFault p 0 (numbers n 0) ≡ o → o ≡ some i
+      go none k = absurd (omega (arith, by-option none k))
+      go (some j) k = ap some (sym (by-option (some j) k))
+
+  pub fault-none : n ≤ i → firstFault p 0 (numbers n 0) ≡ none
+  fault-none l = go (firstFault p 0 (numbers n 0)) refl
+    where
+      go : (o : Option ℕ) → firstFault p 0 (numbers n 0) ≡ o → o ≡ none
+      go none k = refl
+      go (some j) k = absurd (omega (arith, by-option (some j) k, fault-inside p n 0 j k .1))
+
 -- ---- the lowest node that is not used once
 module _ (c : List ℕ) (n : ℕ) where
   abbrev pub onceIn : ℕ → Bool
@@ -192,22 +205,11 @@ module _ (f : Form) (n : ℕ) (h : n ≤ 64) (c : List ℕ) (e : c ≡ tally (re
   uses-same = fault-same (onceIn c n) (usedOnce f) n 0 (λ k a b. rw e (once-at (uses f) k (omega arith)))
 
   module _ (i : ℕ) (r : i ≡ faultOr n (firstFault (onceIn c n) 0 (numbers n 0))) where
-    by-option : (o : Option ℕ) → firstFault (onceIn c n) 0 (numbers n 0) ≡ o → i ≡ faultOr n o
-    by-option o k = rw k at r
-
     pub some-fault : i < n → firstFault (usedOnce f) 0 (numbers n 0) ≡ some i
-    some-fault l = go (firstFault (onceIn c n) 0 (numbers n 0)) refl
-      where
-        go : (o : Option ℕ) → firstFault (onceIn c n) 0 (numbers n 0) ≡ o → firstFault (usedOnce f) 0 (numbers n 0) ≡ some i
-        go none k = absurd (omega (arith, by-option none k))
-        go (some j) k = sym uses-same ∙ k ∙ ap some (sym (by-option (some j) k))
+    some-fault l = sym uses-same ∙ fault-some (onceIn c n) n i r l
 
     pub no-fault-used : n ≤ i → firstFault (usedOnce f) 0 (numbers n 0) ≡ none
-    no-fault-used l = go (firstFault (onceIn c n) 0 (numbers n 0)) refl
-      where
-        go : (o : Option ℕ) → firstFault (onceIn c n) 0 (numbers n 0) ≡ o → firstFault (usedOnce f) 0 (numbers n 0) ≡ none
-        go none k = sym uses-same ∙ k
-        go (some j) k = absurd (omega (arith, by-option (some j) k, fault-inside (onceIn c n) n 0 j k .1))
+    no-fault-used l = sym uses-same ∙ fault-none (onceIn c n) n i r l
 
 -- ---- the trees of the fields
 module _ (ts : List Tree) (n : ℕ) (long : length ts ≡ n) where

@@ -1,6 +1,6 @@
 // The form check.
 ghost use mathlib.Core.Path.{_≡_};
-ghost use mathlib.Core.Bool.{true};
+ghost use mathlib.Core.Bool.{true, not};
 ghost use mathlib.Core.List.{List, []};
 ghost use Prim.Native.Nat.{_≤_};
 ghost use lib.Dec.{eqb};
@@ -12,6 +12,7 @@ ghost use Rattle.rules.specs.Tree.{Tree};
 ghost use Rattle.rules.specs.Accept.{lengthGood, treesFrom, childrenOf, checkUse, checkForm};
 ghost use Rattle.names.specs.Names.{faultOr};
 ghost use Rattle.layout.specs.Layout.{nodeOf};
+ghost use Rattle.kinds.specs.Known.{codes};
 ghost use Rattle.form.specs.Uses.{added, tally, FieldsCounted, recordsFault};
 
 fn refused(number: u32, place: usize) -> rules::Refused
@@ -24,20 +25,48 @@ fn refused(number: u32, place: usize) -> rules::Refused
     }
 }
 
+// The codes of all nodes. The highest is asked for first, and works out those beneath it; every node is asked for, used or not,
+// unless its code is known by then.
+fn all_codes(b: &[u8]) -> [u8; 64]
+    requires { ⌜ lengthGood (now b) ≡ true ⌝ }
+    ensures { λ r. ⌜ r ≡ codes (readForm (now (b .entry))) 64 ⌝ }
+{
+    let mut codes = kinds::empty();
+    let mut k = layout::node_count(b);
+    while 0 < k {
+        k -= 1;
+        if codes[k] == 0 {
+            kinds::fill(b, k, &mut codes);
+        }
+    }
+    codes
+}
+
+// The lowest of n nodes that is at fault by its code, or n.
+fn codes_fault(codes: &[u8; 64], n: usize) -> usize
+    requires { ⌜ n ≤ 64 ⌝ }
+    ensures { λ r. ⌜ r ≡ faultOr n (firstFault (λ k. not (eqb (getD (now (codes .entry)) k 0) 32)) 0 (numbers n 0)) ⌝ }
+{
+    let mut k = 0;
+    while k < n {
+        if codes[k] == 32 {
+            return k;
+        }
+        k += 1;
+    }
+    n
+}
+
 // The lowest node at fault.
 fn check_nodes(b: &[u8]) -> rules::Refused
     requires { ⌜ lengthGood (now b) ≡ true ⌝ }
     ensures { λ r. ⌜ r ≡ checkCode (treesFrom (readForm (now (b .entry))) [] (readForm (now (b .entry)) .nodes)) ⌝ }
 {
     let n = layout::node_count(b);
-    let mut codes = kinds::empty();
-    let mut k = 0;
-    while k < n {
-        kinds::fill(b, k, &mut codes);
-        if codes[k] == 32 {
-            return refused(3, k + 1);
-        }
-        k += 1;
+    let codes = all_codes(b);
+    let fault = codes_fault(&codes, n);
+    if fault < n {
+        return refused(3, fault + 1);
     }
     refused(0, 0)
 }

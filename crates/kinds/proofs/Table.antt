@@ -14,7 +14,7 @@ use borrow.Author.Tests.{eqb-true, eqb-false, le-leb, lt-leb}
 use Rattle.utf8.specs.Utf8.{if_then_else_}
 use Rattle.rules.specs.Form.{Node, Form}
 use Rattle.kinds.specs.Kinds.{leafCode, innerCode, childQ}
-use Rattle.kinds.specs.Known.{ruled, codeBy, codes, codeAt, Sound, Done}
+use Rattle.kinds.specs.Known.{ruled, codeBy, codes, codeAt, Sound, Kept, Done}
 
 pub codes-length : (f : Form) (n : ℕ) → length (codes f n) ≡ n
 unfolding codes
@@ -34,24 +34,34 @@ codes-at f (suc n) j h =
     last : (j n : ℕ) → j < suc n → (j ≡ n) ⊎ (j < n)
     last j n h = eq-or-lt-of-le (omega arith)
 
--- a child whose code was worked out, or was known
-pub worked : (f : Form) (p : ℕ) (m m′ : List ℕ) → m ≡ m′ → Done f p m′ → Done f p m
-worked f p m m′ e d = rw e d
+pub kept-same : (m : List ℕ) → Kept m m
+kept-same m = record { known = λ j ne. refl }
 
-pub found : (f : Form) (p : ℕ) (m m′ : List ℕ) → m ≡ m′ → Sound f m′ → (getD m′ p 0 ≡ 0 → ⊥) → Done f p m
-found f p m m′ e s n = rw e (record { here = s .right p n; sound = s })
+-- a child whose code was worked out, or was known
+pub worked : (f : Form) (p : ℕ) (m₀ m m′ : List ℕ) → m ≡ m′ → Done f p m₀ m′ → Done f p m₀ m
+worked f p m₀ m m′ e d = rw e d
+
+pub found : (f : Form) (p : ℕ) (m m′ : List ℕ) → m ≡ m′ → Sound f m′ → (getD m′ p 0 ≡ 0 → ⊥) → Done f p m′ m
+found f p m m′ e s n = rw e (record { here = s .right p n; sound = s; kept = kept-same m′ })
 
 -- what is known of the table and of a child's code k, which is 0 where there is no child
-pub record Known (f : Form) (i p : ℕ) (m : List ℕ) (k : ℕ) : Type 0 where
+pub record Known (f : Form) (i p : ℕ) (m₀ m : List ℕ) (k : ℕ) : Type 0 where
   pub sound : Sound f m
+  pub kept : Kept m₀ m
   pub code : k ≡ getD (codes f i) p 0
 
-pub child : (f : Form) (i p : ℕ) (m m′ : List ℕ) (k : ℕ) → m ≡ m′ → p < i → Done f p m′ → k ≡ getD m′ p 0 → Known f i p m k
-child f i p m m′ k em h d e = rw em (record { sound = d .sound; code = e ∙ d .here ∙ sym (codes-at f i p h) })
+pub child : (f : Form) (i p : ℕ) (m₀ m m′ : List ℕ) (k : ℕ) → m ≡ m′ → p < i → Done f p m₀ m′ → k ≡ getD m′ p 0 → Known f i p m₀ m k
+child f i p m₀ m m′ k em h d e = rw em (record { sound = d .sound; kept = d .kept; code = e ∙ d .here ∙ sym (codes-at f i p h) })
 
-pub no-child : (f : Form) (i p : ℕ) (m m′ : List ℕ) (k : ℕ) → m ≡ m′ → i ≤ p → Sound f m′ → k ≡ 0 → Known f i p m k
-no-child f i p m m′ k em h s e =
-    rw em (record { sound = s; code = e ∙ sym (List·getD-eq-default (codes f i) 0 (omega (arith, codes-length f i))) })
+pub no-child : (f : Form) (i p : ℕ) (m m′ : List ℕ) (k : ℕ) → m ≡ m′ → i ≤ p → Sound f m′ → k ≡ 0 → Known f i p m′ m k
+no-child f i p m m′ k em h s e = rw em (record {
+  sound = s;
+  kept = kept-same m′;
+  code = e ∙ sym (List·getD-eq-default (codes f i) 0 (omega (arith, codes-length f i)));
+})
+
+pub kept-twice : (l m n : List ℕ) → Kept l m → Kept m n → Kept l n
+kept-twice l m n a b = record { known = λ j ne. b .known j (λ z. ne (sym (a .known j ne) ∙ z)) ∙ a .known j ne }
 
 -- the code of a leaf, and that of any other node from its children's
 module _ (f : Form) (i : ℕ) (x : Node) (e : getElem? (f .nodes) i ≡ some x) where
@@ -69,33 +79,37 @@ module _ (f : Form) (i : ℕ) (x : Node) (e : getElem? (f .nodes) i ≡ some x) 
   unfolding codeAt codeBy ruled if_then_else_
   inner-is q c d h eq ec ed = rw (e, codeBy, lt-leb (x .kind) 3 h, ec, ed, eq)
 
-same-or : (j i : ℕ) → (j ≡ i) ⊎ (j ≢ i)
+pub same-or : (j i : ℕ) → (j ≡ i) ⊎ (j ≢ i)
 same-or j i = by-test (eqb j i) refl
   where
     by-test : (b : Bool) → eqb j i ≡ b → (j ≡ i) ⊎ (j ≢ i)
     by-test true e = inl (eqb-true j i e)
     by-test false e = inr (eqb-false j i e)
 
-pub stored : (f : Form) (m : List ℕ) (i k : ℕ) → i < 64 → Sound f m → k ≡ codeAt f i → Done f i (set m i k)
-stored f m i k h s e = record {
+pub stored : (f : Form) (m₀ m : List ℕ) (i k : ℕ) → i < 64 → Sound f m₀ → Kept m₀ m → Sound f m → k ≡ codeAt f i → Done f i m₀ (set m i k)
+stored f m₀ m i k h s₀ a s e = record {
   here = here;
   sound = record {
     long = length-set m i k ∙ s .long;
-    right = λ j ne. ⊎-elim (λ s. ap (λ (j : ℕ). getD (set m i k) j 0) s ∙ here ∙ ap (codeAt f) (sym s)) (λ n. other j n ne) (same-or j i);
+    right = λ j ne. ⊎-elim (λ s. own j s) (λ n. other j n ne) (same-or j i);
   };
+  kept = record { known = λ j ne. ⊎-elim (λ s. own j s ∙ sym (s₀ .right j ne)) (λ n. getD-set-other m i j k 0 n ∙ a .known j ne) (same-or j i) };
 }
   where
     here : getD (set m i k) i 0 ≡ codeAt f i
     here = getD-set-same m i k 0 (omega (arith, s .long)) ∙ e
 
+    own : (j : ℕ) → j ≡ i → getD (set m i k) j 0 ≡ codeAt f j
+    own j s = ap (λ (j : ℕ). getD (set m i k) j 0) s ∙ here ∙ ap (codeAt f) (sym s)
+
     other : (j : ℕ) → j ≢ i → (getD (set m i k) j 0 ≡ 0 → ⊥) → getD (set m i k) j 0 ≡ codeAt f j
     other j n ne = getD-set-other m i j k 0 n ∙ s .right j (λ z. ne (getD-set-other m i j k 0 n ∙ z))
 
 -- an empty table is sound
+pub all-zero : (n j : ℕ) → _≡_ {A = ℕ} (getD (replicate n 0) j 0) 0
+all-zero zero j = refl
+all-zero (suc n) zero = refl
+all-zero (suc n) (suc j) = all-zero n j
+
 pub empty-sound : (f : Form) → Sound f (replicate 64 0)
 empty-sound f = record { long = length-replicate {A = ℕ} 64 0; right = λ j ne. absurd (ne (all-zero 64 j)) }
-  where
-    all-zero : (n j : ℕ) → _≡_ {A = ℕ} (getD (replicate n 0) j 0) 0
-    all-zero zero j = refl
-    all-zero (suc n) zero = refl
-    all-zero (suc n) (suc j) = all-zero n j

@@ -11,12 +11,12 @@ use Rattle.rules.specs.Form.{Node, Form, nodeCount, readForm}
 use Rattle.rules.specs.Accept.{lengthGood}
 use Rattle.kinds.specs.Kinds.{leafCode, innerCode, childQ}
 
--- the code of node n, from those of the nodes below it
+-- the code of node n, from those of the nodes below it; 0 where there is no such node
 unfoldable pub ruled : Form → List ℕ → Node → ℕ
 ruled f cs x = if leb (x .kind) 3 then leafCode f x else innerCode f x (getD cs (x .p) 0) (getD cs (childQ x) 0)
 
 unfoldable pub codeBy : Form → List ℕ → ℕ → ℕ
-codeBy f cs n = elim (getElem? (f .nodes) n) [ none ↦ 32 | some x ↦ ruled f cs x ]
+codeBy f cs n = elim (getElem? (f .nodes) n) [ none ↦ 0 | some x ↦ ruled f cs x ]
 
 -- the codes of the nodes below n
 unfoldable pub codes : Form → ℕ → List ℕ
@@ -31,9 +31,15 @@ pub record Sound (f : Form) (m : List ℕ) : Type 0 where
   pub long : length m ≡ 64
   pub right : (j : ℕ) → (getD m j 0 ≡ 0 → ⊥) → getD m j 0 ≡ codeAt f j
 
-pub record Done (f : Form) (i : ℕ) (m : List ℕ) : Type 0 where
+-- no code that was known has changed
+pub record Kept (before m : List ℕ) : Type 0 where
+  pub known : (j : ℕ) → (getD before j 0 ≡ 0 → ⊥) → getD m j 0 ≡ getD before j 0
+
+-- the table after node i was asked for. Left open is which nodes beneath it are known as well: whoever needs one asks for it
+pub record Done (f : Form) (i : ℕ) (before m : List ℕ) : Type 0 where
   pub here : getD m i 0 ≡ codeAt f i
   pub sound : Sound f m
+  pub kept : Kept before m
 
 pub record Filling (b : List ℕ) (k : ℕ) (m : List ℕ) : Type 0 where
   pub good : lengthGood b ≡ true

@@ -312,7 +312,7 @@ pub fn empty() -> [u8; 64]
 // its code is known: once however often it is used.
 pub fn fill(b: &[u8], k: usize, codes: &mut [u8; 64])
     requires { ⌜ Filling (now b) k (now codes) ⌝ }
-    ensures { λ _. ⌜ Done (readForm (now (b .entry))) k (now (codes .exit)) ⌝ }
+    ensures { λ _. ⌜ Done (readForm (now (b .entry))) k (now (codes .entry)) (now (codes .exit)) ⌝ }
 {
     let x = layout::node_at(b, k);
     if x.kind <= 3 {

@@ -21,7 +21,7 @@ cast-result : tie.Need-cast-result
 cast-result c = search needs
 
 returns : tie.Need-returns
-returns c = kind-there _ _ _ (c .fill .ensures) _ refl
+returns c = kind-there _ _ _ _ (c .fill .ensures) _ refl
 
 pub kind-spec : {M : Type 1} → statement M
 kind-spec = tie.close (tie.spec empty-requires fill-requires array-read-c cast-result returns)

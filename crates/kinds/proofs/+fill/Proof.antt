@@ -6,7 +6,7 @@ use borrow.Author.Needs.{needs}
 use Rattle.rules.specs.Form.{readForm}
 use Rattle.kinds.specs.Known.{Done}
 use Rattle.layout.proofs.Sizes.{sized}
-use Rattle.kinds.proofs.Table.{Known, worked, found, child, no-child, leaf-is, inner-is, stored}
+use Rattle.kinds.proofs.Table.{Known, worked, found, child, no-child, kept-same, kept-twice, leaf-is, inner-is, stored}
 use Prim.Native.Nat.{ℕ, _<_}
 use borrow.Fn.Kinds.{In}
 use borrow.Fn.PlainCycle.{Measures, is, falls, and}
@@ -35,33 +35,33 @@ calls t = (node-at-reads.Asked, node-at-reads.Learnt, leaf-code-reads.Asked, lea
 -- what is known where the arms of each `if` meet
 joined3 :
     (t : ℕ) (c : fill-lts.Joined3 (calls t) (fill-at t) fill.Post)
-    → Done (readForm (c .before .before .before .before .before .before .before .args .b .now)) (c .before .before .before .before .before .node-at .result .p) (c .if3 .codes)
+    → Done (readForm (c .before .before .before .before .before .before .before .args .b .now)) (c .before .before .before .before .before .node-at .result .p) (c .before .before .before .before .before .before .before .args .codes .now) (c .if3 .codes)
 joined3 t c = ⊎-elim
-    (λ w. worked _ _ _ _ (w .3) (w .2 .ensures))
+    (λ w. worked _ _ _ _ _ (w .3) (w .2 .ensures))
     (λ w. found _ _ _ _ (w .1) (c .before .before .before .before .before .before .before .pre .1 .sound) (w .0 .left))
     (c .if3 .came)
 
 joined2 :
     (t : ℕ) (c : fill-lts.Joined2 (calls t) (fill-at t) fill.Post)
-    → Known (readForm (c .before .before .before .before .before .args .b .now)) (c .before .before .before .before .before .args .k) (c .before .before .before .node-at .result .p) (c .if2 .codes) (c .if2 .c)
+    → Known (readForm (c .before .before .before .before .before .args .b .now)) (c .before .before .before .before .before .args .k) (c .before .before .before .node-at .result .p) (c .before .before .before .before .before .args .codes .now) (c .if2 .codes) (c .if2 .c)
 joined2 t c = ⊎-elim
-    (λ w. child _ _ _ _ _ _ (w .4) (w .0 .taken) (joined3 t record { before = record { before = record { before = c .before; if2 = w .0 }; if32 = w .1 }; if3 = w .2 }) (w .5))
+    (λ w. child _ _ _ _ _ _ _ (w .4) (w .0 .taken) (joined3 t record { before = record { before = record { before = c .before; if2 = w .0 }; if32 = w .1 }; if3 = w .2 }) (w .5))
     (λ w. no-child _ _ _ _ _ _ (w .1) (w .0 .left) (c .before .before .before .before .before .pre .1 .sound) (w .2))
     (c .if2 .came)
 
 joined5 :
     (t : ℕ) (c : fill-lts.Joined5 (calls t) (fill-at t) fill.Post)
-    → Done (readForm (c .before .before .before .before .before .before .before .before .before .args .b .now)) (c .before .before .before .child-q .result) (c .if5 .codes)
+    → Done (readForm (c .before .before .before .before .before .before .before .before .before .args .b .now)) (c .before .before .before .child-q .result) (c .before .before .before .before .if2 .codes) (c .if5 .codes)
 joined5 t c = ⊎-elim
-    (λ w. worked _ _ _ _ (w .3) (w .2 .ensures))
+    (λ w. worked _ _ _ _ _ (w .3) (w .2 .ensures))
     (λ w. found _ _ _ _ (w .1) (joined2 t (c .before .before .before .before) .sound) (w .0 .left))
     (c .if5 .came)
 
 joined4 :
     (t : ℕ) (c : fill-lts.Joined4 (calls t) (fill-at t) fill.Post)
-    → Known (readForm (c .before .before .before .before .before .before .before .args .b .now)) (c .before .before .before .before .before .before .before .args .k) (c .before .child-q .result) (c .if4 .codes) (c .if4 .d)
+    → Known (readForm (c .before .before .before .before .before .before .before .args .b .now)) (c .before .before .before .before .before .before .before .args .k) (c .before .child-q .result) (c .before .before .if2 .codes) (c .if4 .codes) (c .if4 .d)
 joined4 t c = ⊎-elim
-    (λ w. child _ _ _ _ _ _ (w .4) (w .0 .taken) (joined5 t record { before = record { before = record { before = c .before; if4 = w .0 }; if52 = w .1 }; if5 = w .2 }) (w .5))
+    (λ w. child _ _ _ _ _ _ _ (w .4) (w .0 .taken) (joined5 t record { before = record { before = record { before = c .before; if4 = w .0 }; if52 = w .1 }; if5 = w .2 }) (w .5))
     (λ w. no-child _ _ _ _ _ _ (w .1) (w .0 .left) (joined2 t (c .before .before) .sound) (w .2))
     (c .if4 .came)
 
@@ -76,7 +76,8 @@ fill-element-write-codes t c = omega (arith, sized _ (c .before .before .before 
 
 fill-returns : (t : ℕ) → fill-lts.Need-returns (calls t) (fill-at t) fill.Post
 fill-returns t c =
-    stored _ _ _ _ (omega (arith, sized _ (c .before .before .before .before .before .pre .1 .good))) (c .before .before .before .before .before .pre .1 .sound)
+    stored _ _ _ _ _ (omega (arith, sized _ (c .before .before .before .before .before .pre .1 .good))) (c .before .before .before .before .before .pre .1 .sound) (kept-same _)
+    (c .before .before .before .before .before .pre .1 .sound)
     (c .leaf-code .ensures ∙ leaf-is _ _ _ (c .before .before .before .node-at .ensures) (c .before .if1 .taken))
 
 fill-element-copy-out-if3 : (t : ℕ) → fill-lts.Need-element-copy-out-if3 (calls t) (fill-at t) fill.Post
@@ -110,7 +111,8 @@ fill-returns-2 : (t : ℕ) → fill-lts.Need-returns-2 (calls t) (fill-at t) fil
 fill-returns-2 t c =
     let first = joined2 t (c .before .before .before) in
     let second = joined4 t (c .before) in
-    stored _ _ _ _ (omega (arith, sized _ (c .before .before .before .before .before .before .before .before .pre .1 .good))) (second .sound)
+    stored _ _ _ _ _ (omega (arith, sized _ (c .before .before .before .before .before .before .before .before .pre .1 .good))) (c .before .before .before .before .before .before .before .before .pre .1 .sound)
+    (kept-twice _ _ _ (first .kept) (second .kept)) (second .sound)
     (c .inner-code .ensures ∙ inner-is _ _ _ (c .before .before .before .before .before .before .node-at .ensures) _ _ _ (c .before .before .before .before .if1 .left) (c .before .before .child-q .ensures) (first .code) (second .code))
 
 pub +fill-spec : {M : Type 1} → statement M
