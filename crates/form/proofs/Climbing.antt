@@ -4,12 +4,12 @@ use mathlib.Core.List.{List, [], _∷_, _++_, map}
 use mathlib.Core.Logic.{⊎-elim, _≢_}
 use mathlib.Core.Option.{Option, some, none}
 use mathlib.Core.Path.{_≡_, refl, sym, _∙_, ap}
-use Prim.Native.Nat.{ℕ, zero, suc, _+_, _≤_, _<_}
+use Prim.Native.Nat.{ℕ, zero, suc, _+_, _≤_, _<_, max}
 use native.Mathlib.Numerals.{add-one}
 use native.Mathlib.Omega.{arith}
 use lib.Dec.{eqb}
 use lib.ListN.{length, getD, getElem?, drop, replicate, length-map, drop-of-length-le}
-use lib.Seq.{ext-getD}
+use lib.Seq.{drop-cons, ext-getD}
 use borrow.Author.Tests.{eq-eqb, ne-eqb, eqb-true, eqb-false}
 use borrow.Author.Count.{below-more}
 use Rattle.utf8.specs.Utf8.{if_then_else_}
@@ -26,6 +26,7 @@ use Rattle.names.proofs.Faults.{fault-here, fault-nowhere, fault-same}
 use Rattle.kinds.proofs.Steps.{lookup-none, drop-there}
 use Rattle.kinds.proofs.Table.{codes-length, codes-at, same-or, all-zero, empty-sound}
 use Rattle.kinds.proofs.Trees.{treeCode, codeOf, tree-code, real-code}
+use Rattle.form.specs.Uses.{greatest}
 use Rattle.form.proofs.Counting.{fault-some, fault-none}
 
 made-kind : (f : Form) (ts : List Tree) (k : ℕ) (x : Node) (t : Tree) → Made f ts k x t → isSome (kindOf t) ≡ true
@@ -121,6 +122,21 @@ filled-last f k m c h =
     ext-getD 0 m (codes f 64) (c .sound .long ∙ sym (codes-length f 64))
     (λ j l. c .all j (omega arith) ∙ sym (codes-at f 64 j (omega (arith, c .sound .long))))
 
+-- ---- the loop that looks for the greatest code
+pub greatest-step : (l : List ℕ) (k : ℕ) → k < length l → greatest (drop k l) ≡ max (getD l k 0) (greatest (drop (k + 1) l))
+unfolding greatest
+greatest-step l k h = rw (drop-cons l k 0 h, add-one k)
+
+pub greatest-end : (l : List ℕ) (k : ℕ) → length l ≤ k → greatest (drop k l) ≡ 0
+unfolding greatest
+greatest-end l k h = rw (drop-of-length-le l {i = k} h)
+
+greatest-bounds : (l : List ℕ) (k : ℕ) → getD l k 0 ≤ greatest l
+unfolding greatest
+greatest-bounds [] k = omega arith
+greatest-bounds (x ∷ l) zero = omega arith
+greatest-bounds (x ∷ l) (suc k) = let h = greatest-bounds l k in omega arith
+
 -- ---- the loop that looks for the lowest node at fault
 module _ (c : List ℕ) (n : ℕ) where
   abbrev pub goodIn : ℕ → Bool
@@ -171,15 +187,19 @@ module _ (f : Form) where
       let (x, e) = lookup-some (f .nodes) k (omega arith) in
       climb-node n k ts x e (climb n (suc k) (omega arith)) b
 
-  module _ (n : ℕ) (l : length (f .nodes) ≡ n) (few : n ≤ 64) (c : List ℕ) (e : c ≡ codes f 64) (i : ℕ) (s : i ≡ faultOr n (firstFault (goodIn c n) 0 (numbers n 0))) (r : Refused) where
+  module _ (n : ℕ) (l : length (f .nodes) ≡ n) (few : n ≤ 64) (c : List ℕ) (e : c ≡ codes f 64) (r : Refused) where
     judged : (o : Option ℕ) → firstFault (goodIn c n) 0 (numbers n 0) ≡ o → checkCode (treesFrom f [] (f .nodes)) ≡ verdict o
     unfolding codes
     judged o h =
         climb n 0 (omega arith) [] refl
         ∙ ap verdict (sym (fault-same (goodIn c n) good n 0 (λ k a b. rw (e, codes-at f 64 k (omega arith)))) ∙ h)
 
-    pub nodes-bad : i < n → r ≡ record { number = 3; place = i + 1 } → r ≡ checkCode (treesFrom f [] (f .nodes))
-    nodes-bad h z = z ∙ rw (add-one i) (sym (judged (some i) (fault-some (goodIn c n) n i s h)))
+    pub nodes-small : (m : ℕ) → m ≡ greatest c → m < 32 → r ≡ record { number = 0; place = 0 } → r ≡ checkCode (treesFrom f [] (f .nodes))
+    nodes-small m g h z = z ∙ sym (judged none (fault-nowhere (goodIn c n) n n (omega arith) (λ k a. rw (ne-eqb (getD c k 0) 32 (λ w. omega (arith, w, greatest-bounds c k))))))
 
-    pub nodes-good : n ≤ i → r ≡ record { number = 0; place = 0 } → r ≡ checkCode (treesFrom f [] (f .nodes))
-    nodes-good h z = z ∙ sym (judged none (fault-none (goodIn c n) n i s h))
+    module _ (i : ℕ) (s : i ≡ faultOr n (firstFault (goodIn c n) 0 (numbers n 0))) where
+      pub nodes-bad : i < n → r ≡ record { number = 3; place = i + 1 } → r ≡ checkCode (treesFrom f [] (f .nodes))
+      nodes-bad h z = z ∙ rw (add-one i) (sym (judged (some i) (fault-some (goodIn c n) n i s h)))
+
+      pub nodes-good : n ≤ i → r ≡ record { number = 0; place = 0 } → r ≡ checkCode (treesFrom f [] (f .nodes))
+      nodes-good h z = z ∙ sym (judged none (fault-none (goodIn c n) n i s h))

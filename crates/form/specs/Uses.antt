@@ -1,14 +1,18 @@
--- How often each node is used, and the lowest name record at fault.
+-- The greatest code, how often each node is used, and the lowest name record at fault.
 use mathlib.Core.Bool.{Bool, true, _&&_}
 use mathlib.Core.List.{List, [], _∷_}
 use mathlib.Core.Path.{_≡_}
-use Prim.Native.Nat.{ℕ, _+_}
+use Prim.Native.Nat.{ℕ, _+_, max}
 use lib.Dec.{ltb}
 use lib.ListN.{length, getD, set}
 use Rattle.utf8.specs.Utf8.{if_then_else_}
 use Rattle.rules.specs.Base.{all, firstFault}
 use Rattle.rules.specs.Form.{Form, nameGood}
 use Rattle.names.specs.Names.{faultOr}
+
+unfoldable pub greatest : List ℕ → ℕ
+greatest [] = 0
+greatest (x ∷ xs) = max x (greatest xs)
 
 -- one more use of node k, up to 2; there are at most 64 nodes
 unfoldable pub added : List ℕ → ℕ → List ℕ

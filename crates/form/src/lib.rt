@@ -2,7 +2,7 @@
 ghost use mathlib.Core.Path.{_≡_};
 ghost use mathlib.Core.Bool.{true, not};
 ghost use mathlib.Core.List.{List, []};
-ghost use Prim.Native.Nat.{_≤_};
+ghost use Prim.Native.Nat.{_≤_, _<_};
 ghost use lib.Dec.{eqb};
 ghost use lib.ListN.{length, getD, replicate};
 ghost use Rattle.rules.specs.Base.{numbers, concatMap, firstFault};
@@ -13,7 +13,7 @@ ghost use Rattle.rules.specs.Accept.{lengthGood, treesFrom, childrenOf, checkUs
 ghost use Rattle.names.specs.Names.{faultOr};
 ghost use Rattle.layout.specs.Layout.{nodeOf};
 ghost use Rattle.kinds.specs.Known.{codes};
-ghost use Rattle.form.specs.Uses.{added, tally, FieldsCounted, recordsFault};
+ghost use Rattle.form.specs.Uses.{greatest, added, tally, FieldsCounted, recordsFault};
 
 fn refused(number: u32, place: usize) -> rules::Refused
     requires { ⌜ place ≤ 128 ⌝ }
@@ -25,21 +25,35 @@ fn refused(number: u32, place: usize) -> rules::Refused
     }
 }
 
-// The codes of all nodes. The highest is asked for first, and works out those beneath it; every node is asked for, used or not,
-// unless its code is known by then.
-fn all_codes(b: &[u8]) -> [u8; 64]
-    requires { ⌜ lengthGood (now b) ≡ true ⌝ }
-    ensures { λ r. ⌜ r ≡ codes (readForm (now (b .entry))) 64 ⌝ }
+// Puts the codes of all nodes into an empty table. The highest is asked for first, and works out those beneath it; every node is
+// asked for, used or not, unless its code is known by then.
+fn fill_all(b: &[u8], table: &mut [u8; 64])
+    requires { ⌜ (lengthGood (now b) ≡ true) × (now table ≡ replicate 64 0) ⌝ }
+    ensures { λ _. ⌜ now (table .exit) ≡ codes (readForm (now (b .entry))) 64 ⌝ }
 {
-    let mut codes = kinds::empty();
     let mut k = layout::node_count(b);
     while 0 < k {
         k -= 1;
-        if codes[k] == 0 {
-            kinds::fill(b, k, &mut codes);
+        if table[k] == 0 {
+            kinds::fill(b, k, table);
         }
     }
-    codes
+}
+
+// The greatest code. It looks at every one, so that the compiler can take many at a time.
+fn greatest(codes: &[u8; 64]) -> u8
+    requires { ⌜ length (now codes) ≡ 64 ⌝ }
+    ensures { λ r. ⌜ r ≡ greatest (now (codes .entry)) ⌝ }
+{
+    let mut most: u8 = 0;
+    let mut k = 0;
+    while k < 64 {
+        if most < codes[k] {
+            most = codes[k];
+        }
+        k += 1;
+    }
+    most
 }
 
 // The lowest of n nodes that is at fault by its code, or n.
@@ -63,7 +77,11 @@ fn check_nodes(b: &[u8]) -> rules::Refused
     ensures { λ r. ⌜ r ≡ checkCode (treesFrom (readForm (now (b .entry))) [] (readForm (now (b .entry)) .nodes)) ⌝ }
 {
     let n = layout::node_count(b);
-    let codes = all_codes(b);
+    let mut codes = kinds::empty();
+    fill_all(b, &mut codes);
+    if greatest(&codes) < 32 {
+        return refused(0, 0); // none is at fault
+    }
     let fault = codes_fault(&codes, n);
     if fault < n {
         return refused(3, fault + 1);
@@ -73,18 +91,17 @@ fn check_nodes(b: &[u8]) -> rules::Refused
 
 // One more use of node k: 0, 1, or 2 for more.
 fn add(counts: &mut [u8; 64], k: usize)
+    requires { ⌜ k < 64 ⌝ }
     ensures { λ _. ⌜ now (counts .exit) ≡ added (now (counts .entry)) k ⌝ }
 {
-    if k < 64 {
-        if counts[k] < 2 {
-            counts[k] += 1;
-        }
+    if counts[k] < 2 {
+        counts[k] += 1;
     }
 }
 
 // Counts the uses of the fields. No if a field is none of n nodes: the counts are then of no use.
 fn count_fields(b: &[u8], n: usize, counts: &mut [u8; 64]) -> bool
-    requires { ⌜ lengthGood (now b) ≡ true ⌝ }
+    requires { ⌜ (lengthGood (now b) ≡ true) × (n ≤ 64) ⌝ }
     ensures { λ r. ⌜ FieldsCounted n (readForm (now (b .entry)) .fields) (now (counts .entry)) (now (counts .exit)) r ⌝ }
 {
     let f = layout::field_count(b);
@@ -106,8 +123,13 @@ fn add_children(x: layout::Node, counts: &mut [u8; 64])
     if x.kind <= 3 {
         return;
     }
-    add(counts, x.p);
-    if x.kind == 9 {
+    if x.p < 64 {
+        add(counts, x.p);
+    }
+    if x.kind != 9 {
+        return;
+    }
+    if x.q < 64 {
         add(counts, x.q);
     }
 }

@@ -10,7 +10,7 @@ use native.Mathlib.Omega.{arith}
 use lib.Dec.{eqb}
 use lib.ListN.{length, getD, getElem?, set, replicate, length-append, length-set, length-replicate, List·getD-append, List·getD-eq-default}
 use lib.Seq.{getD-at, getD-set-same, getD-set-other}
-use borrow.Author.Tests.{eqb-true, eqb-false, le-leb, lt-leb}
+use borrow.Author.Tests.{eq-eqb, ne-eqb, eqb-true, eqb-false, le-leb, lt-leb}
 use Rattle.utf8.specs.Utf8.{if_then_else_}
 use Rattle.rules.specs.Form.{Node, Form}
 use Rattle.kinds.specs.Kinds.{leafCode, innerCode, childQ}
@@ -59,6 +59,16 @@ no-child f i p m m′ k em h s e = rw em (record {
   kept = kept-same m′;
   code = e ∙ sym (List·getD-eq-default (codes f i) 0 (omega (arith, codes-length f i)));
 })
+
+-- only a choice has a second child
+module _ (f : Form) (i : ℕ) (m m′ : List ℕ) (k : ℕ) (x : Node) where
+  pub second-child : x .kind ≡ 9 → Known f i (x .q) m m′ k → Known f i (childQ x) m m′ k
+  unfolding childQ if_then_else_
+  second-child h z = rw (eq-eqb (x .kind) 9 h) z
+
+  pub no-second : (x .kind ≡ 9 → ⊥) → i ≤ 64 → m′ ≡ m → Sound f m → k ≡ 0 → Known f i (childQ x) m m′ k
+  unfolding childQ if_then_else_
+  no-second h l e s z = rw (ne-eqb (x .kind) 9 h) (no-child f i 64 m′ m k e l s z)
 
 pub kept-twice : (l m n : List ℕ) → Kept l m → Kept m n → Kept l n
 kept-twice l m n a b = record { known = λ j ne. b .known j (λ z. ne (sym (a .known j ne) ∙ z)) ∙ a .known j ne }

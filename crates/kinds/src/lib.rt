@@ -9,7 +9,7 @@ ghost use Rattle.rules.specs.Form.{readForm};
 ghost use Rattle.rules.specs.Tree.{zeros, namesOf};
 ghost use Rattle.rules.specs.Accept.{lengthGood};
 ghost use Rattle.layout.specs.Layout.{nodeOf};
-ghost use Rattle.kinds.specs.Kinds.{namedGood, flagCode, argumentCode, positionalCode, leafCode, childGood, optionalCode, repeatCode, wrapCode, choiceCode, textName, fallbackCode, guardCode, innerCode, childQ};
+ghost use Rattle.kinds.specs.Kinds.{namedGood, flagCode, argumentCode, positionalCode, leafCode, childGood, optionalCode, repeatCode, wrapCode, choiceCode, textName, fallbackCode, guardCode, innerCode};
 ghost use Rattle.kinds.specs.Known.{Done, Filling};
 
 // Whether numbers that a node does not use are 0; a caller puts 0 for those that are used.
@@ -291,16 +291,6 @@ fn inner_code(b: &[u8], x: layout::Node, c: u8, d: u8) -> u8
     32
 }
 
-// The number of a choice's second child; 64, which no node has, where there is none.
-fn child_q(x: layout::Node) -> usize
-    ensures { λ r. ⌜ r ≡ childQ (nodeOf x) ⌝ }
-{
-    if x.kind == 9 {
-        return x.q;
-    }
-    64
-}
-
 // A table of codes in which none is known: 0 is no code.
 pub fn empty() -> [u8; 64]
     ensures { λ r. ⌜ r ≡ replicate 64 0 ⌝ }
@@ -327,13 +317,15 @@ pub fn fill(b: &[u8], k: usize, codes: &mut [u8; 64])
         }
         c = codes[p];
     }
-    let q = child_q(x);
     let mut d: u8 = 0;
-    if q < k {
-        if codes[q] == 0 {
-            fill(b, q, codes);
+    if x.kind == 9 {
+        let q = x.q;
+        if q < k {
+            if codes[q] == 0 {
+                fill(b, q, codes);
+            }
+            d = codes[q];
         }
-        d = codes[q];
     }
     codes[k] = inner_code(b, x, c, d);
 }

@@ -1,11 +1,11 @@
 -- At most 2 is counted. Assumes nothing.
 use borrow.Author.Needs.{needs}
-use Rattle.form.proofs.Counting.{added-more, added-full, added-outside}
+use Rattle.form.proofs.Counting.{added-more, added-full}
 use Rattle.form.proofs.add.Statement.{statement}
 use Rattle.form.proofs.add.Tie as tie
 
-element-copy-out-if2 : tie.Need-element-copy-out-if2
-element-copy-out-if2 c = search needs
+element-copy-out-if1 : tie.Need-element-copy-out-if1
+element-copy-out-if1 c = search needs
 
 element-copy-out-counts : tie.Need-element-copy-out-counts
 element-copy-out-counts c = search needs
@@ -22,17 +22,13 @@ returns c = search added-more
 returns-2 : tie.Need-returns-2
 returns-2 c = search added-full
 
-returns-3 : tie.Need-returns-3
-returns-3 c = search added-outside
-
 pub add-spec : {M : Type 1} → statement M
 add-spec =
     tie.close
     (tie.spec
-    element-copy-out-if2
+    element-copy-out-if1
     element-copy-out-counts
     add-counts
     element-write-counts
     returns
-    returns-2
-    returns-3)
+    returns-2)

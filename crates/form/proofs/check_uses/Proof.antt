@@ -13,7 +13,7 @@ none-requires : tie.Need-none-requires
 none-requires c κs = search needs
 
 count-fields-requires : tie.Need-count-fields-requires
-count-fields-requires c κs = search needs
+count-fields-requires c κs = (c .before .before .before .before .pre, omega (arith, c .before .before .node-count .ensures, sized _ (c .before .before .before .before .pre)))
 
 refused-requires : tie.Need-refused-requires
 refused-requires c κs = search needs

@@ -16,22 +16,22 @@ abbrev μ-loop : tie.MeasureT-loop
 μ-loop b n counts₀ f i₀ counts i = f - i
 
 field-count-requires : tie.Need-field-count-requires Inv-loop μ-loop
-field-count-requires c κs = sized _ (c .before .pre) .counts .long
+field-count-requires c κs = sized _ (c .before .pre .0) .counts .long
 
 loop-holds : tie.Need-loop-holds Inv-loop μ-loop
 loop-holds c = record { nodes = refl; counts = refl }
 
 field-at-requires : tie.Need-field-at-requires Inv-loop μ-loop
-field-at-requires c κs = (c .before .before .before .before .pre, omega (arith, c .before .before .field-count .ensures))
+field-at-requires c κs = (c .before .before .before .before .pre .0, omega (arith, c .before .before .field-count .ensures))
 
 returns : tie.Need-returns Inv-loop μ-loop
 returns c = fields-bad _ _ _ _ _ (c .before .before .before .loop .inv) _ (c .before .field-at .ensures) (c .if1 .taken)
 
 add-requires : tie.Need-add-requires Inv-loop μ-loop
-add-requires c κs = search needs
+add-requires c κs = omega (arith, c .before .if1 .left, c .before .before .before .before .before .before .before .pre .1)
 
 add-i : tie.Need-add-i Inv-loop μ-loop
-add-i c = omega (arith, c .before .before .before .before .before .before .field-count .ensures, sized _ (c .before .before .before .before .before .before .before .before .pre))
+add-i c = omega (arith, c .before .before .before .before .before .before .field-count .ensures, sized _ (c .before .before .before .before .before .before .before .before .pre .0))
 
 loop-less : tie.Need-loop-less Inv-loop μ-loop
 loop-less c = omega arith
