@@ -371,11 +371,6 @@ module _ (b : List ℕ) (n : ℕ) (u : Bool) (f : (t : Tree) → treeAt b n ≡ 
     keeps-by t q = rw (← f t q, e, c)
 
     module _ (y : LaidOut) (h : getElem? (readForm b .nodes) n ≡ some (nodeOf y)) where
-      pub guard-inside : y .kind ≡ 11 → HasTree b n → y .p < nodeCount b
-      guard-inside k g =
-          let q = guard-tree b n (g .tree) (g .node) (nodeOf y) h k in
-          node-inside b (y .p) (q .child) (q .node)
-
       pub keeps-guard : y .kind ≡ 11 → (r : Bool) → ((t : Tree) → treeAt b (y .p) ≡ some t → r ≡ keepsLeaf t)
           → (t : Tree) → treeAt b n ≡ some t → r ≡ keepsMarks catch t
       unfolding keepsUnder

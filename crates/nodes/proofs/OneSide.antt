@@ -1,20 +1,22 @@
 -- Where no marks are put back: a refusal that leaves them, and a choice of which one side is missing.
-use mathlib.Core.Bool.{Bool, true}
+use mathlib.Core.Bool.{Bool, true, false, not, _&&_}
 use mathlib.Core.List.{List}
 use mathlib.Core.Option.{some}
-use mathlib.Core.Path.{_≡_}
+use mathlib.Core.Path.{_≡_, refl, sym, _∙_, ap}
 use Prim.Native.Nat.{ℕ, _+_, _^_, _<_}
 use native.Mathlib.Omega.{arith}
-use lib.ListN.{getElem?}
-use borrow.Author.Tests.{ne-eqb}
+use lib.Dec.{eqb}
+use lib.ListN.{getD, getElem?}
+use borrow.Author.Tests.{eq-eqb, ne-eqb}
 use Rattle.rules.specs.Form.{readForm}
 use Rattle.rules.specs.Sheet.{sheetArea}
 use Rattle.rules.specs.Value.{BaseValue, word}
-use Rattle.rules.specs.Tree.{Tree, Choice, Fallback}
+use Rattle.rules.specs.Tree.{Tree, Flag, Argument, Positional, Optional, Many, Some, Count, Last, Choice, Fallback, Guard}
 use Rattle.layout.specs.Layout.{nodeOf}
 use Rattle.layout.specs.declared.Node.{Node}
 use Rattle.layout.proofs.Sizes.{sized}
 use Rattle.state.specs.declared.Numbers.{Numbers}
+use Rattle.known.specs.Bits.{bitAt}
 use Rattle.outcome.specs.declared.Ran.{Ran}
 use Rattle.outcome.specs.Told.{Evaluates, answered}
 use Rattle.outcome.proofs.Repeats.{told-state}
@@ -24,8 +26,9 @@ use Rattle.results.specs.Made.{missingOf, Unchanged, Returned, FallbackOf, Side
 use Rattle.results.specs.declared.Chosen.{Chosen}
 use Rattle.nodes.specs.Children.{Falls, Both}
 use Rattle.nodes.specs.Marks.{undoes}
-use Rattle.nodes.specs.OneSide.{Searchable, Misses, Stays, Alone}
-use Rattle.nodes.proofs.Given.{Says, form-long, node-below, flag-node, argument-node}
+use Rattle.nodes.specs.OneSide.{Searchable, missesBy, staysBy, aloneBy, Misses, Stays, Alone}
+use Rattle.nodes.proofs.Trees.{kindNumber, form-good, node-inside, flag-tree, argument-tree, tree-number}
+use Rattle.nodes.proofs.Given.{Says, flag-node, argument-node}
 use Rattle.nodes.proofs.Steps.{child-tries, child-told, fallback-given, fallback-ends, choice-sides, choice-ends}
 use Rattle.nodes.proofs.Undone.{state-kept, undone-by}
 
@@ -33,9 +36,50 @@ use Rattle.nodes.proofs.Undone.{state-kept, undone-by}
 -- a form has at most 64 nodes
 pub searchable-low : (b known : List ℕ) (n : ℕ) → Searchable b known n → n < 64
 searchable-low b known n l =
-    let few = sized b (l .sized) .counts .nodes in
-    let below = l .inside in
+    let few = sized b (form-good b n (l .stands .tree) (l .stands .node)) .counts .nodes in
+    let below = node-inside b n (l .stands .tree) (l .stands .node) in
     omega arith
+
+-- what the test answers, by the tree
+no-name : (known : List ℕ) (n : ℕ) (t : Tree) → (kindNumber t ≡ 1 → ⊥) → (kindNumber t ≡ 2 → ⊥) → false ≡ missesBy known n t
+unfolding kindNumber missesBy
+no-name known n (Flag i names switch) a c = absurd (a refl)
+no-name known n (Argument i names b adjacent) a c = absurd (c refl)
+no-name known n (Positional i q b) a c = refl
+no-name known n (Optional x t) a c = refl
+no-name known n (Many x t) a c = refl
+no-name known n (Some x t) a c = refl
+no-name known n (Count t) a c = refl
+no-name known n (Last t) a c = refl
+no-name known n (Choice t u) a c = refl
+no-name known n (Fallback v t) a c = refl
+no-name known n (Guard l h t) a c = refl
+
+module _ (b known : List ℕ) (n : ℕ) (y : Node) (h : getElem? (readForm b .nodes) n ≡ some (nodeOf y)) where
+  absent : Bool
+  absent = not (bitAt (getD known 256 0) n)
+
+  pub misses-switch : y .kind ≡ 1 → y .r ≡ 1 → (t : Tree) → treeAt b n ≡ some t → false ≡ missesBy known n t
+  unfolding missesBy absent
+  misses-switch k q t e =
+      let s : false ≡ (not (eqb (y .r) 1) && absent) = rw (eq-eqb (y .r) 1 q) in
+      s ∙ ap (missesBy known n) (flag-tree b n t e (nodeOf y) h k .same)
+
+  module _ (r : Bool) (f : r ≡ not (bitAt (getD known 256 0) n)) where
+    pub misses-flag : y .kind ≡ 1 → (y .r ≡ 1 → ⊥) → (t : Tree) → treeAt b n ≡ some t → r ≡ missesBy known n t
+    unfolding missesBy absent
+    misses-flag k q t e =
+        let s : absent ≡ (not (eqb (y .r) 1) && absent) = rw (ne-eqb (y .r) 1 q) in
+        f ∙ s ∙ ap (missesBy known n) (flag-tree b n t e (nodeOf y) h k .same)
+
+    pub misses-argument : y .kind ≡ 2 → (t : Tree) → treeAt b n ≡ some t → r ≡ missesBy known n t
+    unfolding missesBy
+    misses-argument k t e = f ∙ ap (missesBy known n) (argument-tree b n t e (nodeOf y) h k .same)
+
+  pub misses-none : (y .kind ≡ 1 → ⊥) → (y .kind ≡ 2 → ⊥) → (t : Tree) → treeAt b n ≡ some t → false ≡ missesBy known n t
+  misses-none a c t e =
+      let k = sym (tree-number b n t e (nodeOf y) h) in
+      no-name known n t (λ q. a (k ∙ q)) (λ q. c (k ∙ q))
 
 module _ (b known : List ℕ) (n : ℕ) (y : Node) (h : getElem? (readForm b .nodes) n ≡ some (nodeOf y)) (r : Bool) (f : r ≡ true → Missing known n) (e : r ≡ true) where
   pub flag-misses : y .kind ≡ 1 → (y .r ≡ 1 → ⊥) → Misses b known n
@@ -53,6 +97,26 @@ module _ (b known : List ℕ) (n : ℕ) (y : Node) (h : getElem? (readForm b .no
   }
 
 -- ---- a node whose refusals leave the marks
+module _ (b known : List ℕ) (n : ℕ) (u : Bool) (f : (t : Tree) → treeAt b n ≡ some t → u ≡ undoes t) where
+  pub stays-undone : u ≡ true → (t : Tree) → treeAt b n ≡ some t → true ≡ staysBy known n t
+  unfolding staysBy
+  stays-undone z t e = rw (← f t e, z)
+
+  pub stays-missing : u ≡ false → (r : Bool) → ((t : Tree) → treeAt b n ≡ some t → r ≡ missesBy known n t)
+      → (t : Tree) → treeAt b n ≡ some t → r ≡ staysBy known n t
+  unfolding staysBy
+  stays-missing z r g t e = rw (← f t e, z) (g t e)
+
+module _ (b known : List ℕ) (i j : ℕ) (u : Bool) (f : (t : Tree) → treeAt b i ≡ some t → u ≡ staysBy known i t) where
+  pub alone-other : u ≡ true → (r : Bool) → ((t : Tree) → treeAt b j ≡ some t → r ≡ missesBy known j t)
+      → (t v : Tree) → treeAt b i ≡ some t → treeAt b j ≡ some v → r ≡ aloneBy known i t j v
+  unfolding aloneBy
+  alone-other z r g t v e h = rw (← f t e, z) (g v h)
+
+  pub alone-not : u ≡ false → (t v : Tree) → treeAt b i ≡ some t → treeAt b j ≡ some v → false ≡ aloneBy known i t j v
+  unfolding aloneBy
+  alone-not z t v e h = rw (← f t e, z)
+
 pub undone-stays : (b known : List ℕ) (n : ℕ) (u : Bool) → ((t : Tree) → treeAt b n ≡ some t → u ≡ undoes t) → u ≡ true → Stays b known n
 undone-stays b known n u f e = record { kept = λ s words m p mark z m′ ran said. undone-by b known s words m p mark n z m′ ran said u f e }
 
@@ -81,8 +145,7 @@ module _ (b known s words m : List ℕ) (p : Numbers) (mark k n : ℕ) (z : Fall
 -- ---- the choice
 pub searchable : (b known s words m : List ℕ) (p : Numbers) (mark n : ℕ) → Scalar b known s words m p mark n → Searchable b known n
 searchable b known s words m p mark n z = record {
-  sized = form-long b known s words m p mark n z;
-  inside = node-below b known s words m p mark n z;
+  stands = record { tree = z .stands .tree; node = z .stands .node };
   long = z .stands .knows .long;
 }
 

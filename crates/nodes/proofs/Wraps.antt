@@ -1,18 +1,18 @@
 -- The leaf beneath a repeat's child: it stands, it may search from where the child may, and the child makes its result of the leaf's.
-use mathlib.Core.Bool.{Bool, true}
+use mathlib.Core.Bool.{Bool, true, false, not}
 use mathlib.Core.List.{List}
 use mathlib.Core.Logic.{_⊎_, ⊎-elim}
 use mathlib.Core.Option.{some, Option·some-injective}
-use mathlib.Core.Path.{_≡_, sym, _∙_, ap, subst}
+use mathlib.Core.Path.{_≡_, refl, sym, _∙_, ap, subst}
 use Prim.Native.Nat.{ℕ, _≤_, _<_}
 use native.Mathlib.Omega.{arith}
-use lib.Dec.{eqb}
+use lib.Dec.{leb, eqb}
 use lib.ListN.{getElem?}
 use Rattle.rules.specs.Value.{number}
-use Rattle.rules.specs.Form.{Node, nodeCount, readForm}
+use Rattle.utf8.specs.Utf8.{if_then_else_}
+use Rattle.rules.specs.Form.{Node, readForm}
 use Rattle.rules.specs.Sheet.{sheetArea}
-use Rattle.rules.specs.Tree.{Tree, Optional, Guard, kindOf}
-use Rattle.rules.specs.Accept.{lengthGood}
+use Rattle.rules.specs.Tree.{Tree, Flag, Argument, Positional, Optional, Many, Some, Count, Last, Choice, Fallback, Guard, kindOf}
 use Rattle.rules.proofs.KindLaws.{base-kind}
 use Rattle.layout.specs.Layout.{nodeOf}
 use Rattle.layout.specs.declared.Node.{Node as LaidOut}
@@ -21,9 +21,9 @@ use Rattle.outcome.specs.declared.Ran.{Ran}
 use Rattle.outcome.specs.Nodes.{treeAt, Scalar}
 use Rattle.results.specs.Made.{Given, Undone, OptionalOf, GuardOf}
 use Rattle.results.specs.declared.Optioned.{Optioned}
-use Rattle.nodes.specs.Children.{Wraps, Hint, Turns, Spares, Beneath, Searched, LeafRan, Says, HandsOn}
-use Rattle.nodes.specs.Marks.{HasTree}
-use Rattle.nodes.proofs.Trees.{Single, form-good, node-inside, optional-tree, guard-tree}
+use Rattle.nodes.specs.Children.{Wraps, Hint, Turns, Spares, Beneath, startsBelow, leafBelow, Searched, LeafRan, Says, HandsOn}
+use Rattle.nodes.specs.Marks.{keepsMarks, isLeaf, HasTree}
+use Rattle.nodes.proofs.Trees.{Single, kindNumber, optional-tree, guard-tree, tree-number}
 use Rattle.nodes.proofs.Words.{scalar-short}
 use Rattle.nodes.proofs.Given.{optional-less, optional-ready, optional-says, guard-less, guard-ready, guard-says}
 use Rattle.nodes.proofs.Steps.{base-len, optional-given, optional-ends, guard-ends}
@@ -31,17 +31,89 @@ use Rattle.nodes.proofs.Absent.{absent-same}
 
 -- ---- the child of a guard or an optional is a node of the form
 module _ (b : List ℕ) (n : ℕ) (t : Tree) (e : treeAt b n ≡ some t) (x : LaidOut) (h : getElem? (readForm b .nodes) n ≡ some (nodeOf x)) where
-  single-inside : {make : Tree → Tree} {i : ℕ} → Single make b n i t → (lengthGood b ≡ true) × (i < nodeCount b)
-  single-inside {make} {i} q = (form-good b n t e, node-inside b i (q .child) (q .node))
-
-  pub guard-inside : x .kind ≡ 11 → (lengthGood b ≡ true) × (x .p < nodeCount b)
-  guard-inside k = single-inside (guard-tree b n t e (nodeOf x) h k)
+  pub guard-child : x .kind ≡ 11 → HasTree b (x .p)
+  guard-child k = let q = guard-tree b n t e (nodeOf x) h k in record { tree = q .child; node = q .node }
 
   pub optional-child : x .kind ≡ 4 → HasTree b (x .p)
   optional-child k = let q = optional-tree b n t e (nodeOf x) h k in record { tree = q .child; node = q .node }
 
-  pub optional-inside : x .kind ≡ 4 → (lengthGood b ≡ true) × (x .p < nodeCount b)
-  optional-inside k = single-inside (optional-tree b n t e (nodeOf x) h k)
+-- ---- the node that a turn evaluates first
+leaf-number : (t : Tree) → leb (kindNumber t) 3 ≡ isLeaf t
+unfolding kindNumber isLeaf
+leaf-number (Flag n names switch) = refl
+leaf-number (Argument n names b adjacent) = refl
+leaf-number (Positional n q b) = refl
+leaf-number (Optional c t) = refl
+leaf-number (Many c t) = refl
+leaf-number (Some c t) = refl
+leaf-number (Count t) = refl
+leaf-number (Last t) = refl
+leaf-number (Choice t u) = refl
+leaf-number (Fallback v t) = refl
+leaf-number (Guard l h t) = refl
+
+not-below : (t : Tree) → (kindNumber t ≡ 11 → ⊥) → (kindNumber t ≡ 4 → ⊥) → startsBelow t ≡ false
+unfolding kindNumber startsBelow
+not-below (Flag n names switch) g o = refl
+not-below (Argument n names b adjacent) g o = refl
+not-below (Positional n q b) g o = refl
+not-below (Optional c t) g o = absurd (o refl)
+not-below (Many c t) g o = refl
+not-below (Some c t) g o = refl
+not-below (Count t) g o = refl
+not-below (Last t) g o = refl
+not-below (Choice t u) g o = refl
+not-below (Fallback v t) g o = refl
+not-below (Guard l h t) g o = absurd (g refl)
+
+module _ (b : List ℕ) (n : ℕ) (x : LaidOut) (h : getElem? (readForm b .nodes) n ≡ some (nodeOf x)) (t : Tree) (e : treeAt b n ≡ some t) where
+  pub is-leaf-by : leb (x .kind) 3 ≡ isLeaf t
+  is-leaf-by = rw (← tree-number b n t e (nodeOf x) h) (leaf-number t)
+
+  below-yes : startsBelow t ≡ true → x .p ≡ leafBelow b n t
+  unfolding leafBelow if_then_else_
+  below-yes z = rw (h, leafBelow, z)
+
+  below-no : startsBelow t ≡ false → n ≡ leafBelow b n t
+  unfolding leafBelow if_then_else_
+  below-no z = rw (h, leafBelow, z)
+
+  module _ (leaf : Bool) (f : (c : Tree) → treeAt b (x .p) ≡ some c → leaf ≡ isLeaf c) where
+    starts-guard : x .kind ≡ 11 → startsBelow t ≡ leaf
+    unfolding startsBelow
+    starts-guard k =
+        let q = guard-tree b n t e (nodeOf x) h k in
+        sym (ap startsBelow (q .same)) ∙ sym (f (q .child) (q .node))
+
+    pub guard-leaf : x .kind ≡ 11 → leaf ≡ true → x .p ≡ leafBelow b n t
+    guard-leaf k z = below-yes (starts-guard k ∙ z)
+
+    pub guard-other : x .kind ≡ 11 → leaf ≡ false → n ≡ leafBelow b n t
+    guard-other k z = below-no (starts-guard k ∙ z)
+
+    pub optional-other : x .kind ≡ 4 → leaf ≡ false → n ≡ leafBelow b n t
+    unfolding startsBelow
+    optional-other k z =
+        let q = optional-tree b n t e (nodeOf x) h k in
+        below-no (sym (ap startsBelow (q .same)) ∙ rw (← f (q .child) (q .node), z))
+
+    module _ (keeps : Bool) (g : (c : Tree) → treeAt b (x .p) ≡ some c → keeps ≡ keepsMarks (eqb (x .r) 1) c) (k : x .kind ≡ 4) (z : leaf ≡ true) where
+      starts-optional : startsBelow t ≡ not keeps
+      unfolding startsBelow
+      starts-optional =
+          let q = optional-tree b n t e (nodeOf x) h k in
+          sym (ap startsBelow (q .same)) ∙ rw (← f (q .child) (q .node), z, ← g (q .child) (q .node))
+
+      pub optional-leaf : keeps ≡ false → x .p ≡ leafBelow b n t
+      optional-leaf w = below-yes (starts-optional ∙ ap not w)
+
+      pub optional-kept : keeps ≡ true → n ≡ leafBelow b n t
+      optional-kept w = below-no (starts-optional ∙ ap not w)
+
+  pub no-leaf : (x .kind ≡ 11 → ⊥) → (x .kind ≡ 4 → ⊥) → n ≡ leafBelow b n t
+  no-leaf g o =
+      let k = sym (tree-number b n t e (nodeOf x) h) in
+      below-no (not-below t (λ q. g (k ∙ q)) (λ q. o (k ∙ q)))
 
 -- ---- the node beneath, as the code reads its child
 laid : Node → LaidOut

@@ -1,12 +1,13 @@
 -- What a node and its children are to be before a run, and what a node answers.
-use mathlib.Core.Bool.{Bool, false}
+use mathlib.Core.Bool.{Bool, false, not, _&&_}
 use mathlib.Core.List.{List}
 use mathlib.Core.Logic.{_⊎_}
-use mathlib.Core.Option.{some}
+use mathlib.Core.Option.{some, none}
 use mathlib.Core.Path.{_≡_}
 use Prim.Native.Nat.{ℕ, _<_}
 use lib.Dec.{eqb}
 use lib.ListN.{getElem?}
+use Rattle.utf8.specs.Utf8.{if_then_else_}
 use Rattle.rules.specs.Value.{BaseValue}
 use Rattle.rules.specs.Form.{readForm}
 use Rattle.rules.specs.Sheet.{sheetArea}
@@ -20,7 +21,7 @@ use Rattle.take.specs.Takes.{Skips}
 use Rattle.outcome.specs.Told.{Evaluates}
 use Rattle.outcome.specs.Nodes.{treeAt, Scalar}
 use Rattle.outcome.specs.declared.Ran.{Ran}
-use Rattle.nodes.specs.Marks.{keepsMarks}
+use Rattle.nodes.specs.Marks.{keepsMarks, isLeaf}
 
 -- ---- a node with one child: the child stands, and the node over it is sound
 pub record Wraps (make : Tree → Tree) (b known s words m : List ℕ) (p : Numbers) (mark child : ℕ) : Type 0 where
@@ -74,7 +75,25 @@ pub record Beneath (b : List ℕ) (child leaf : ℕ) : Type 0 where
   pub place : leaf ≡ own .p
   pub kind : (own .kind ≡ 11) ⊎ ((own .kind ≡ 4) × Spares (eqb (own .r) 1) b leaf)
 
--- the node that a turn evaluates first: the child, or the one beneath it
+-- whether a turn evaluates first the node beneath a child: a leaf, where the child is a guard or an optional with no marks to put back
+unfoldable pub startsBelow : Tree → Bool
+startsBelow (Flag n names switch) = false
+startsBelow (Argument n names b adjacent) = false
+startsBelow (Positional n q b) = false
+startsBelow (Optional c t) = isLeaf t && not (keepsMarks c t)
+startsBelow (Many c t) = false
+startsBelow (Some c t) = false
+startsBelow (Count t) = false
+startsBelow (Last t) = false
+startsBelow (Choice t u) = false
+startsBelow (Fallback v t) = false
+startsBelow (Guard l h t) = isLeaf t
+
+-- the number of the node that a turn evaluates first, where t is the tree of the child
+unfoldable pub leafBelow : List ℕ → ℕ → Tree → ℕ
+leafBelow b child t = elim (getElem? (readForm b .nodes) child) [ none ↦ child | some x ↦ if startsBelow t then x .p else child ]
+
+-- what follows of it: it is the child, or the node beneath it
 abbrev pub Searched : List ℕ → ℕ → ℕ → Type 0
 Searched b child leaf = (leaf ≡ child) ⊎ Beneath b child leaf
 

@@ -67,6 +67,20 @@ keepsUnder (Guard l h t) = keepsLeaf t
 unfoldable pub keepsMarks : Bool → Tree → Bool
 keepsMarks catch t = if undoes t then false else (if catch then true else keepsUnder t)
 
+-- a flag, an argument or a positional
+unfoldable pub isLeaf : Tree → Bool
+isLeaf (Flag n names switch) = true
+isLeaf (Argument n names b adjacent) = true
+isLeaf (Positional n q b) = true
+isLeaf (Optional c t) = false
+isLeaf (Many c t) = false
+isLeaf (Some c t) = false
+isLeaf (Count t) = false
+isLeaf (Last t) = false
+isLeaf (Choice t u) = false
+isLeaf (Fallback v t) = false
+isLeaf (Guard l h t) = false
+
 -- a node that has a tree
 pub record HasTree (b : List ℕ) (n : ℕ) : Type 0 where
   pub tree : Tree

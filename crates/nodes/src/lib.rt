@@ -2,20 +2,17 @@
 ghost use mathlib.Core.Path.{_≡_};
 ghost use mathlib.Core.Bool.{true};
 ghost use mathlib.Core.Option.{some};
-ghost use Prim.Native.Nat.{_<_};
-ghost use Rattle.rules.specs.Form.{nodeCount};
-ghost use Rattle.rules.specs.Accept.{lengthGood};
 ghost use Rattle.rules.specs.Tree.{Tree};
 ghost use Rattle.outcome.specs.Nodes.{treeAt};
-ghost use Rattle.nodes.specs.Marks.{undoes, keepsLeaf, keepsMarks, HasTree};
-ghost use Rattle.nodes.specs.Children.{Searched, LeafRan, HandsOn};
-ghost use Rattle.nodes.specs.OneSide.{Searchable, Misses, Stays, Alone};
+ghost use Rattle.nodes.specs.Marks.{undoes, keepsLeaf, keepsMarks, isLeaf, HasTree};
+ghost use Rattle.nodes.specs.Children.{leafBelow, Searched, LeafRan, HandsOn};
+ghost use Rattle.nodes.specs.OneSide.{Searchable, missesBy, staysBy, aloneBy, Misses, Stays, Alone};
 use outcome::Ran;
 use state::Numbers;
 
 // Whether a refusal of this node leaves the state as it was, whatever the refusal.
 fn undoes(form: &[u8], node: usize) -> bool
-    requires { ⌜ (lengthGood (now form) ≡ true) × (node < nodeCount (now form)) ⌝ }
+    requires { ⌜ HasTree (now form) node ⌝ }
     ensures { λ r. ⌜ ((t : Tree) → treeAt (now (form .entry)) node ≡ some t → r ≡ undoes t) ⌝ }
 {
     let x = layout::node_at(form, node);
@@ -31,7 +28,7 @@ fn undoes(form: &[u8], node: usize) -> bool
 
 // Whether a leaf that is absent may have used something, where no refusal is caught.
 fn keeps_leaf(form: &[u8], node: usize) -> bool
-    requires { ⌜ (lengthGood (now form) ≡ true) × (node < nodeCount (now form)) ⌝ }
+    requires { ⌜ HasTree (now form) node ⌝ }
     ensures { λ r. ⌜ ((t : Tree) → treeAt (now (form .entry)) node ≡ some t → r ≡ keepsLeaf t) ⌝ }
 {
     let x = layout::node_at(form, node);
@@ -65,6 +62,7 @@ pub fn keeps_marks(form: &[u8], child: usize, catch: bool) -> bool
 // Whether a node is a required flag or an argument, and no item has its names.
 fn is_missing(form: &[u8], known: &[u64], node: usize) -> bool
     requires { ⌜ Searchable (now form) (now known) node ⌝ }
+    ensures { λ r. ⌜ ((t : Tree) → treeAt (now (form .entry)) node ≡ some t → r ≡ missesBy (now (known .entry)) node t) ⌝ }
     ensures { λ r. ⌜ (r ≡ true → Misses (now (form .entry)) (now (known .entry)) node) ⌝ }
 {
     let x = layout::node_at(form, node);
@@ -83,6 +81,7 @@ fn is_missing(form: &[u8], known: &[u64], node: usize) -> bool
 // Whether a refusal of a node leaves the state as it was: it undoes its refusals, or no item has its names.
 pub fn stays(form: &[u8], known: &[u64], node: usize) -> bool
     requires { ⌜ Searchable (now form) (now known) node ⌝ }
+    ensures { λ r. ⌜ ((t : Tree) → treeAt (now (form .entry)) node ≡ some t → r ≡ staysBy (now (known .entry)) node t) ⌝ }
     ensures { λ r. ⌜ (r ≡ true → Stays (now (form .entry)) (now (known .entry)) node) ⌝ }
 {
     if undoes(form, node) {
@@ -94,6 +93,7 @@ pub fn stays(form: &[u8], known: &[u64], node: usize) -> bool
 // Whether a refusal of a node leaves the state as it was, and the other side of its choice is missing: then no copies are needed.
 pub fn alone(form: &[u8], known: &[u64], node: usize, other: usize) -> bool
     requires { ⌜ Searchable (now form) (now known) node × Searchable (now form) (now known) other ⌝ }
+    ensures { λ r. ⌜ ((t u : Tree) → treeAt (now (form .entry)) node ≡ some t → treeAt (now (form .entry)) other ≡ some u → r ≡ aloneBy (now (known .entry)) node t other u) ⌝ }
     ensures { λ r. ⌜ (r ≡ true → Alone (now (form .entry)) (now (known .entry)) node other) ⌝ }
 {
     if stays(form, known, node) {
@@ -104,7 +104,8 @@ pub fn alone(form: &[u8], known: &[u64], node: usize, other: usize) -> bool
 
 // Whether a node is a flag, an argument or a positional.
 fn is_leaf(form: &[u8], node: usize) -> bool
-    requires { ⌜ (lengthGood (now form) ≡ true) × (node < nodeCount (now form)) ⌝ }
+    requires { ⌜ HasTree (now form) node ⌝ }
+    ensures { λ r. ⌜ ((t : Tree) → treeAt (now (form .entry)) node ≡ some t → r ≡ isLeaf t) ⌝ }
 {
     let x = layout::node_at(form, node);
     x.kind <= 3
@@ -114,16 +115,26 @@ fn is_leaf(form: &[u8], node: usize) -> bool
 // Of any other child it is the child itself.
 pub fn leaf_below(form: &[u8], child: usize) -> usize
     requires { ⌜ ((t : Tree) × (treeAt (now form) child ≡ some t)) ⌝ }
+    ensures { λ r. ⌜ ((t : Tree) → treeAt (now (form .entry)) child ≡ some t → r ≡ leafBelow (now (form .entry)) child t) ⌝ }
     ensures { λ r. ⌜ Searched (now (form .entry)) child r ⌝ }
 {
     let x = layout::node_at(form, child);
-    if x.kind == 11 && is_leaf(form, x.p) {
-        return x.p;
+    if x.kind == 11 {
+        if is_leaf(form, x.p) {
+            return x.p;
+        }
+        return child;
     }
-    if x.kind == 4 && is_leaf(form, x.p) && !keeps_marks(form, x.p, x.r == 1) {
-        return x.p;
+    if x.kind != 4 {
+        return child;
     }
-    child
+    if !is_leaf(form, x.p) {
+        return child;
+    }
+    if keeps_marks(form, x.p, x.r == 1) {
+        return child;
+    }
+    x.p
 }
 
 // What the child makes of the result of the leaf beneath it.

@@ -1,10 +1,10 @@
 // The evaluation of leaves: flags, arguments and positionals. Each is one try, and is told the mark of what it uses. One that is
 // told where to search from answers the same: its caller knows that no earlier place is the one that is sought.
 ghost use mathlib.Core.Path.{_≡_};
-ghost use mathlib.Core.Bool.{Bool, true, false};
+ghost use mathlib.Core.Bool.{Bool, true, false, not};
 ghost use mathlib.Core.List.{List};
 ghost use Prim.Native.Nat.{ℕ, _≤_, _<_, min};
-ghost use lib.ListN.{length};
+ghost use lib.ListN.{length, getD};
 ghost use Rattle.utf8.specs.Utf8.{if_then_else_};
 ghost use Rattle.rules.specs.Sheet.{sheetArea, sheetFault};
 ghost use Rattle.rules.specs.Value.{text, number};
@@ -14,9 +14,10 @@ ghost use Rattle.rules.specs.Take.{isOperand, matchesArg};
 ghost use Rattle.rules.specs.Eval.{parseText, wrongPosition, placedValue};
 ghost use Rattle.state.specs.Lent.{Fine};
 ghost use Rattle.named.specs.Items.{partBytes};
+ghost use Rattle.known.specs.Bits.{bitAt};
 ghost use Rattle.take.specs.Takes.{Ready, Reaches, Skips};
 ghost use Rattle.outcome.specs.Told.{Evaluates};
-ghost use Rattle.params.specs.Leaves.{Leaf, Missing, valueRan, refusedRan, Tells, refusalOf};
+ghost use Rattle.params.specs.Leaves.{Leaf, valueRan, refusedRan, Tells, refusalOf};
 use arg::Part;
 use number::Number;
 use outcome::Ran;
@@ -121,7 +122,7 @@ fn placed(
 // Whether no item has the names of a node.
 pub fn is_missing(known: &[u64], node: usize) -> bool
     requires { ⌜ (node < 64) × (257 ≤ length (now known)) ⌝ }
-    ensures { λ r. ⌜ (r ≡ true → Missing (now (known .entry)) node) ⌝ }
+    ensures { λ r. ⌜ r ≡ not (bitAt (getD (now (known .entry)) 256 0) node) ⌝ }
 {
     known::is_absent(known, node)
 }

@@ -1,11 +1,11 @@
 -- By the kind of the node. Assumes nothing.
-use borrow.Author.Needs.{needs}
+use Rattle.nodes.proofs.Trees.{form-good, node-inside}
 use Rattle.nodes.proofs.Absent.{leaf-positional, leaf-argument, leaf-other}
 use Rattle.nodes.proofs.keeps_leaf.Statement.{statement}
 use Rattle.nodes.proofs.keeps_leaf.Tie as tie
 
 node-at-requires : tie.Need-node-at-requires
-node-at-requires c κs = search needs
+node-at-requires c κs = (form-good _ _ _ (c .before .pre .node), node-inside _ _ _ (c .before .pre .node))
 
 returns : tie.Need-returns
 returns c = leaf-positional _ _ _ (c .before .before .before .node-at .ensures) (c .before .if1 .taken)

@@ -1,11 +1,12 @@
 -- By what undoes its refusals, and by the leaf. Assumes nothing.
 use Rattle.nodes.proofs.Trees.{form-good, node-inside}
-use Rattle.nodes.proofs.Absent.{guard-inside, keeps-undone, keeps-caught, keeps-guard, keeps-other}
+use Rattle.nodes.proofs.Absent.{keeps-undone, keeps-caught, keeps-guard, keeps-other}
+use Rattle.nodes.proofs.Wraps.{guard-child}
 use Rattle.nodes.proofs.keeps_marks.Statement.{statement}
 use Rattle.nodes.proofs.keeps_marks.Tie as tie
 
 undoes-requires : tie.Need-undoes-requires
-undoes-requires c κs = (form-good _ _ _ (c .before .pre .node), node-inside _ _ _ (c .before .pre .node))
+undoes-requires c κs = c .before .pre
 
 returns : tie.Need-returns
 returns c = keeps-undone _ _ _ (c .before .undoes .ensures) _ (c .if1 .taken)
@@ -17,13 +18,13 @@ node-at-requires : tie.Need-node-at-requires
 node-at-requires c κs = (form-good _ _ _ (c .before .before .before .before .pre .node), node-inside _ _ _ (c .before .before .before .before .pre .node))
 
 keeps-leaf-requires : tie.Need-keeps-leaf-requires
-keeps-leaf-requires c κs = (form-good _ _ _ (c .before .before .before .before .before .before .before .pre .node), guard-inside _ _ _ (c .before .before .before .before .before .undoes .ensures) _ (c .before .before .before .before .if1 .left) (c .before .before .before .if2 .left) _ (c .before .before .node-at .ensures) (c .if3 .taken) (c .before .before .before .before .before .before .before .pre))
+keeps-leaf-requires c κs = guard-child _ _ _ (c .before .before .before .before .before .before .before .pre .node) _ (c .before .before .node-at .ensures) (c .if3 .taken)
 
 returns-3 : tie.Need-returns-3
 returns-3 c = keeps-guard _ _ _ (c .before .before .before .before .before .before .undoes .ensures) _ (c .before .before .before .before .before .if1 .left) (c .before .before .before .before .if2 .left) _ (c .before .before .before .node-at .ensures) (c .before .if3 .taken) _ (c .keeps-leaf .ensures)
 
 keeps-leaf-requires-2 : tie.Need-keeps-leaf-requires-2
-keeps-leaf-requires-2 c κs = (form-good _ _ _ (c .before .before .before .before .before .before .before .pre .node), node-inside _ _ _ (c .before .before .before .before .before .before .before .pre .node))
+keeps-leaf-requires-2 c κs = c .before .before .before .before .before .before .before .pre
 
 returns-4 : tie.Need-returns-4
 returns-4 c = keeps-other _ _ _ (c .before .before .before .before .before .before .undoes .ensures) _ (c .before .before .before .before .before .if1 .left) (c .before .before .before .before .if2 .left) _ (c .before .before .before .node-at .ensures) (c .before .if3 .left) _ (c .keeps-leaf2 .ensures)

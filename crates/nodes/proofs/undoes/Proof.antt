@@ -1,11 +1,11 @@
 -- By the kind of the node. Assumes nothing.
-use borrow.Author.Needs.{needs}
+use Rattle.nodes.proofs.Trees.{form-good, node-inside}
 use Rattle.nodes.proofs.Undone.{undoes-flag, undoes-argument, undoes-choice, undoes-fallback, undoes-other}
 use Rattle.nodes.proofs.undoes.Statement.{statement}
 use Rattle.nodes.proofs.undoes.Tie as tie
 
 node-at-requires : tie.Need-node-at-requires
-node-at-requires c κs = search needs
+node-at-requires c κs = (form-good _ _ _ (c .before .pre .node), node-inside _ _ _ (c .before .pre .node))
 
 returns : tie.Need-returns
 returns c = undoes-flag _ _ _ (c .before .node-at .ensures) (c .match .keys1)

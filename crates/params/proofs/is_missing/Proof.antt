@@ -1,6 +1,5 @@
 -- By word 256 of the table. Assumes nothing.
 use borrow.Author.Needs.{needs}
-use Rattle.params.proofs.Absent.{absent-missing}
 use Rattle.params.proofs.is_missing.Statement.{statement}
 use Rattle.params.proofs.is_missing.Tie as tie
 
@@ -8,7 +7,7 @@ is-absent-requires : tie.Need-is-absent-requires
 is-absent-requires c κs = search needs
 
 returns : tie.Need-returns
-returns c = absent-missing _ _ _ (c .is-absent .ensures)
+returns c = c .is-absent .ensures
 
 pub is-missing-spec : {M : Type 1} → statement M
 is-missing-spec = tie.close (tie.spec is-absent-requires returns)

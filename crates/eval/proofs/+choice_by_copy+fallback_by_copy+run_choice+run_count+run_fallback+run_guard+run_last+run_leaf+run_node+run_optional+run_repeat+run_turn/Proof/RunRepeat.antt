@@ -35,7 +35,7 @@ pub run-repeat-loop-holds : (t : ℕ) → run-repeat-lts.Need-loop-holds (run-re
 run-repeat-loop-holds t c = (turn-first _ _ _ _ _ _ _ _ _ _ _ _ _ (c .before .before .before .before .before .before .before .before .before .before .pre .1) _ (c .before .wide .ensures) _ (c .nothing .ensures), λ e. refl)
 
 pub run-repeat-run-turn-requires : (t : ℕ) → run-repeat-lts.Need-run-turn-requires (run-repeat-calls t) (run-repeat-at t) run-repeat.Post run-repeat-Inv-loop run-repeat-μ-loop
-run-repeat-run-turn-requires t c κs = (omega (arith, c .before .before .before .before .before .before .before .before .before .before .before .before .pre .0), (turn-asks _ _ _ _ _ _ _ _ _ _ _ _ _ _ _ _ _ _ _ (c .before .loop .inv .0), c .before .before .before .before .before .before .leaf-below .ensures))
+run-repeat-run-turn-requires t c κs = (omega (arith, c .before .before .before .before .before .before .before .before .before .before .before .before .pre .0), (turn-asks _ _ _ _ _ _ _ _ _ _ _ _ _ _ _ _ _ _ _ (c .before .loop .inv .0), c .before .before .before .before .before .before .leaf-below .ensures .1))
 
 pub run-repeat-parse-option-requires : (t : ℕ) → run-repeat-lts.Need-parse-option-requires (run-repeat-calls t) (run-repeat-at t) run-repeat.Post run-repeat-Inv-loop run-repeat-μ-loop
 run-repeat-parse-option-requires t c κs = search needs
