@@ -16,7 +16,9 @@ use Rattle.rules.specs.State.{parsed}
 use Rattle.rules.specs.Eval.{Visit, statesOf}
 use Rattle.rules.specs.Run.{Line, split, runLine, tooMany, parsedMark, shortSlices, report, runChecked, run}
 use Rattle.rules.specs.Demands.{All, Counted, Bytes, Means, Faultless, WholeRun, Demand3}
+use Rattle.rules.specs.WellMade.{SheetMade}
 use Rattle.rules.proofs.Acceptance.{accepted-sound}
+use Rattle.rules.proofs.SheetLaws.{made-sheet}
 use Rattle.rules.proofs.Uses.{leaves-law}
 use Rattle.rules.proofs.SplitLaws.{some≢none, LineGood, line-law, split-line}
 use Rattle.rules.proofs.Steps.{Visited}
@@ -86,7 +88,7 @@ module _ (b s : List ℕ) (a : Accepted) (form : checkForm b ≡ accepted a) whe
         }
 
   -- F is any form of bytes that the form check accepts, S any sheet
-  pub demand3 : Bytes b → sheetFault s ≡ 0 → Demand3 b s a
+  pub demand3 : Bytes b → SheetMade s → Demand3 b s a
   demand3 bytes sheet =
       let (l, splits) = split-line (a .form) s in
-      record { line = l; splits = splits; whole = λ unrefused. whole-run l splits unrefused bytes sheet }
+      record { line = l; splits = splits; whole = λ unrefused. whole-run l splits unrefused bytes (made-sheet s sheet) }
