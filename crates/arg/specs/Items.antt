@@ -19,7 +19,7 @@ bitOf b = bit b
 
 -- an empty part has offset 0
 unfoldable pub partOf : ℕ → ℕ → Part
-partOf offset length = if eqb length 0 then record { offset = 0; length = 0 } else record { offset = offset; length = length }
+partOf offset size = if eqb size 0 then record { offset = 0; length = 0 } else record { offset = offset; length = size }
 
 abbrev pub nothing : Part
 nothing = record { offset = 0; length = 0 }

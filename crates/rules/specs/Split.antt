@@ -214,7 +214,7 @@ bit b = if b then 1 else 0
 
 -- an empty part has offset 0; a text is the end of its argument
 unfoldable pub partWords : ℕ → ℕ → List ℕ
-partWords offset length = if eqb length 0 then 0 ∷ 0 ∷ [] else offset ∷ length ∷ []
+partWords offset size = if eqb size 0 then 0 ∷ 0 ∷ [] else offset ∷ size ∷ []
 
 unfoldable pub textWords : ℕ → List ℕ → List ℕ
 textWords end t = partWords (end - length t) (length t)
