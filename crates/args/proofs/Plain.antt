@@ -14,11 +14,13 @@ use Rattle.utf8.specs.declared.Decoded.the-variants.{Char, Bad}
 use Rattle.utf8.specs.Laws.{character}
 use Rattle.wire.specs.Wire.{entryOf, HasEntry}
 use Rattle.rules.specs.Base.{all, null, sliceFrom}
-use Rattle.rules.specs.Outcome.{Outcome, ok, refused, fault, at, _>>=_}
+use Rattle.rules.specs.Outcome.{Outcome, ok, at, _>>=_}
 use Rattle.rules.specs.Accept.{Letters}
 use Rattle.rules.specs.Sheet.{argumentCount, arguments}
-use Rattle.rules.specs.Split.{dash, short, long, Parts, beforeEquals, behindEquals, parts, splitLong, splitShort, behindDash, splitOsArgument, clusterFrom, disambiguateShort, Group, shortGroup, partsGroup, wordGroup, splitArgument, Split, joined, splitFrom}
+use Rattle.rules.specs.Split.{dash, short, long, Parts, beforeEquals, behindEquals, parts, splitLong, splitShort, behindDash, splitOsArgument, clusterFrom, disambiguateShort, Group, shortGroup, partsGroup, wordGroup, splitArgument, Split, splitFrom}
 use Rattle.rules.specs.Run.{lineOf}
+use Rattle.rules.specs.Demands.{All}
+use Rattle.rules.proofs.LetterLaws.{split-alike}
 use Rattle.args.specs.declared.Ended.{Ended}
 use Rattle.args.specs.Construct.{plainArgument, Ends}
 use Rattle.args.proofs.Sheets.{Checked, arguments-length, has-entry, argument-next}
@@ -95,20 +97,28 @@ module _ (l m : Letters) where
       go true true q = long-same os (c ∷ s)
       go true false q = absurd (true≢false (sym q))
 
-  split-same : (k : ℕ) (args : List (List ℕ)) → all plainArgument args ≡ true → splitFrom l k args ≡ splitFrom m k args
-  unfolding splitFrom all _>>=_
-  split-same k [] p = refl
-  split-same k (os ∷ rest) p =
+  all-same : (args : List (List ℕ)) → all plainArgument args ≡ true → All (λ (os : List ℕ). splitArgument l os ≡ splitArgument m os) args
+  unfolding all
+  all-same [] p = tt
+  all-same (os ∷ rest) p =
       let both = and-eq-true-iff (plainArgument os) (all plainArgument rest) .0 p in
-      rw (plain-same os (both .0)) (go (splitArgument m os) (λ j. split-same j rest (both .1)))
-    where
-      go :
-          (o : Outcome Group)
-          → ((j : ℕ) → splitFrom l j rest ≡ splitFrom m j rest)
-          → (o >>= λ g. joined k g rest (splitFrom l (k + length (g .items)) rest)) ≡ (o >>= λ g. joined k g rest (splitFrom m (k + length (g .items)) rest))
-      go (ok g) h = ap (joined k g rest) (h (k + length (g .items)))
-      go (refused e) h = refl
-      go (fault f) h = refl
+      (plain-same os (both .0), all-same rest (both .1))
+
+  -- what is split alike ends alike
+  pub alike-ends :
+      (s : List ℕ) (n : ℕ) (out : List ℕ) (r : Ended)
+      → splitFrom l 0 (arguments s) ≡ splitFrom m 0 (arguments s)
+      → Ends l s n out r
+      → Ends m s n out r
+  alike-ends s n out r e z = record {
+    line = z .line;
+    same = ap (λ (o : Outcome Split). o >>= lineOf (arguments s)) (sym e) ∙ z .same;
+    number = z .number;
+    place = z .place;
+    words = z .words;
+    marked = z .marked;
+    state = z .state;
+  }
 
   pub plain-ends :
       (s : List ℕ) (n : ℕ) (out : List ℕ) (r : Ended) (t : Bool)
@@ -116,15 +126,7 @@ module _ (l m : Letters) where
       → t ≡ true
       → Ends l s n out r
       → Ends m s n out r
-  plain-ends s n out r t e p z = record {
-    line = z .line;
-    same = ap (λ (o : Outcome Split). o >>= lineOf (arguments s)) (sym (split-same 0 (arguments s) (sym e ∙ p))) ∙ z .same;
-    number = z .number;
-    place = z .place;
-    words = z .words;
-    marked = z .marked;
-    state = z .state;
-  }
+  plain-ends s n out r t e p = alike-ends s n out r (split-alike l m 0 (arguments s) (all-same (arguments s) (sym e ∙ p)))
 
 -- ---- `is_plain`
 pub plain-short : (os : List ℕ) → length os < 3 → true ≡ plainArgument os

@@ -14,11 +14,11 @@ use lib.ListN.{length, getD, getElem?, set, take, replicate, length-set, getD-re
 use lib.Seq.{getD-set-same, getD-set-other, take-all}
 use borrow.Author.Tests.{ne-eqb, leb-true, leb-false, ltb-true, ltb-false}
 use Rattle.rules.specs.Form.{Node, nodeCount, nameCount, readForm}
-use Rattle.rules.specs.Accept.{lengthGood, namedAt}
+use Rattle.rules.specs.Accept.{lengthGood}
 use Rattle.layout.specs.declared.Node as layout
 use Rattle.layout.specs.Layout.{nodeOf}
 use Rattle.layout.proofs.Sizes.{nodes-length, sized}
-use Rattle.letters.specs.Classes.{bits, classOf, Classed, Marked}
+use Rattle.letters.specs.Classes.{namedAt, bits, classOf, Classed, Marked}
 
 -- ---- the loop of `mark`
 

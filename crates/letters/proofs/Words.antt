@@ -16,13 +16,12 @@ use Rattle.utf8.specs.Utf8.{if_then_else_}
 use Rattle.rules.specs.Codes.{placeCode}
 use Rattle.rules.specs.Form.{Node, Name, nameCount, readForm, nameBytes, oneCharacter}
 use Rattle.rules.specs.Tree.{shortOf}
-use Rattle.rules.specs.Accept.{namedAt, lettersFrom}
 use Rattle.rules.proofs.Acceptance.{lookup-some}
 use Rattle.rules.proofs.Places.{drop-below}
 use Rattle.layout.proofs.Sizes.{names-length}
 use Rattle.named.specs.Codes.{codeOf, codesOf, Coded}
-use Rattle.letters.specs.Letters.{Wrote, letterList, letterIf, Appended}
-use Rattle.letters.specs.Classes.{bits, classOf, Classed}
+use Rattle.letters.specs.Letters.{lettersFrom, lettersByName, Wrote, letterList, letterIf, Appended}
+use Rattle.letters.specs.Classes.{namedAt, bits, classOf, Classed}
 
 -- ---- one letter
 
@@ -109,7 +108,7 @@ pub record Written (b : List ℕ) (kind : ℕ) (o₀ o : List ℕ) (n k : ℕ) :
   pub words : o ≡ sets o₀ 0 done
   pub count : n ≡ length done
   pub few : n ≤ k
-  pub same : done ++ lettersFrom (readForm b) kind k (drop k (readForm b .names)) ≡ lettersFrom (readForm b) kind 0 (readForm b .names)
+  pub same : done ++ lettersFrom (readForm b .area) (namedAt (readForm b .nodes) kind) k (drop k (readForm b .names)) ≡ lettersByName (readForm b) kind
 
 module _ (b : List ℕ) (kind : ℕ) (o₀ : List ℕ) where
   pub written-first : Written b kind o₀ o₀ 0 0
@@ -118,8 +117,8 @@ module _ (b : List ℕ) (kind : ℕ) (o₀ : List ℕ) where
   module _ (o : List ℕ) (n k m : ℕ) (z : Written b kind o₀ o n k) (em : m ≡ nameCount b) where
     module _ (h : k < m) (codes : List ℕ) (coded : Coded b codes) (code : ℕ) (ec : code ≡ getD codes k 0) (wanted : Bool) (ew : wanted ≡ namedAt (readForm b .nodes) kind k) where
       letters-step :
-          z .done ++ (letterIf wanted code ++ lettersFrom (readForm b) kind (suc k) (drop (suc k) (readForm b .names)))
-          ≡ lettersFrom (readForm b) kind 0 (readForm b .names)
+          z .done ++ (letterIf wanted code ++ lettersFrom (readForm b .area) (namedAt (readForm b .nodes) kind) (suc k) (drop (suc k) (readForm b .names)))
+          ≡ lettersByName (readForm b) kind
       unfolding lettersFrom letterIf
       letters-step =
           let f = readForm b in
@@ -139,9 +138,9 @@ module _ (b : List ℕ) (kind : ℕ) (o₀ : List ℕ) where
             same = rw (add-one k, append-assoc (z .done) v _) letters-step;
           }
 
-    pub written-last : m ≤ k → Wrote o₀ (lettersFrom (readForm b) kind 0 (readForm b .names)) o n
+    pub written-last : m ≤ k → Wrote o₀ (lettersByName (readForm b) kind) o n
     unfolding lettersFrom
     written-last h =
-        let all : z .done ≡ lettersFrom (readForm b) kind 0 (readForm b .names) =
+        let all : z .done ≡ lettersByName (readForm b) kind =
         sym (append-nil (z .done)) ∙ rw (drop-of-length-le (readForm b .names) {i = k} (omega (arith, names-length b))) at (z .same) in
         record { words = rw (← all) (z .words); count = rw (← all) (z .count) }

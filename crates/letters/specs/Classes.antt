@@ -1,12 +1,17 @@
 -- Which kinds of nodes have a name record among their names, as bits: 1 for a flag, 2 for an argument.
-use mathlib.Core.Bool.{Bool, true, false}
-use mathlib.Core.List.{List}
+use mathlib.Core.Bool.{Bool, true, false, _&&_, _||_}
+use mathlib.Core.List.{List, [], _∷_}
 use mathlib.Core.Path.{_≡_}
-use Prim.Native.Nat.{ℕ, _≤_, _<_}
+use Prim.Native.Nat.{ℕ, _+_, _≤_, _<_}
 use lib.Bits.{bitOr}
+use lib.Dec.{leb, eqb, ltb}
 use lib.ListN.{length, getD}
 use Rattle.rules.specs.Form.{Node}
-use Rattle.rules.specs.Accept.{namedAt}
+
+-- whether some node of a kind has name record k among its names
+unfoldable pub namedAt : List Node → ℕ → ℕ → Bool
+namedAt [] kind k = false
+namedAt (x ∷ xs) kind k = (eqb (x .kind) kind && leb (x .p) k && ltb k (x .p + x .q)) || namedAt xs kind k
 
 unfoldable pub bits : Bool → Bool → ℕ
 bits false false = 0

@@ -12,9 +12,9 @@ use lib.Seq.{sets, sets-eq, length-sets}
 use native.Mathlib.Nat.{sub-zero}
 use Rattle.utf8.specs.Utf8.{if_then_else_}
 use Rattle.rules.specs.Outcome.{Outcome, ok, _>>=_, Refusal}
-use Rattle.rules.specs.Sheet.{sheetFault}
-use Rattle.rules.specs.Form.{Form, Name, readForm, nameBytes, oneCharacter, nodeCount, fieldCount, nameCount, areaLength, countsGood, formLength}
-use Rattle.rules.specs.Accept.{Checked, accepted, refusedAt, Accepted, checkForm, lengthGood, namedAt, lettersFrom, lettersOf}
+use Rattle.rules.specs.Sheet.{sheetFault, arguments}
+use Rattle.rules.specs.Form.{Name, readForm, nameBytes, oneCharacter, nodeCount, fieldCount, nameCount, areaLength, countsGood, formLength}
+use Rattle.rules.specs.Accept.{Checked, accepted, refusedAt, Accepted, Letters, checkForm, lengthGood, lettersOf}
 use Rattle.rules.specs.Tree.{shortOf}
 use Rattle.rules.specs.Codes.{placeCode, checkCode}
 use Rattle.rules.specs.Run.{Line, padded, split}
@@ -26,9 +26,13 @@ use Rattle.args.proofs.States.{all-zero, empty-raw}
 use Rattle.args.specs.declared.Ended.{Ended}
 use Rattle.args.specs.Construct.{rawOf, Given, Ends, refusalNumber, refusalPlace}
 use Rattle.arg.specs.Clusters.{letters}
-use Rattle.letters.specs.Letters.{WroteLetters}
+use Rattle.letters.specs.Classes.{namedAt}
+use Rattle.letters.specs.Letters.{lettersFrom, lettersByName, WroteLetters}
+use Rattle.letters.proofs.Order.{same-letters}
 use Rattle.layout.proofs.Sizes.{names-length}
 use Rattle.rules.proofs.Acceptance.{accepted-form}
+use Rattle.rules.proofs.LetterLaws.{split-same}
+use Rattle.args.proofs.Plain.{alike-ends}
 use Rattle.reader.specs.Reader.{placeOf, splittingOf, answerOf, Answers}
 use Rattle.reader.specs.Ready.{Ready}
 use Rattle.reader.proofs.Checks.{check-accepted, names-good}
@@ -107,13 +111,13 @@ short-few a m = go (eqb (m .type) 0) refl (oneCharacter (nameBytes a m)) refl
     go true e none h = rw (e, h, shortOf) (omega arith)
     go true e (some c) h = rw (e, h, shortOf) (omega arith)
 
-letters-few : (f : Form) (kind k : ℕ) (ms : List Name) → length (lettersFrom f kind k ms) ≤ length ms
+letters-few : (a : List ℕ) (wanted : ℕ → Bool) (k : ℕ) (ms : List Name) → length (lettersFrom a wanted k ms) ≤ length ms
 unfolding lettersFrom if_then_else_
-letters-few f kind k [] = omega arith
-letters-few f kind k (m ∷ ms) = go (letters-few f kind (suc k) ms) (namedAt (f .nodes) kind k) refl
+letters-few a wanted k [] = omega arith
+letters-few a wanted k (m ∷ ms) = go (letters-few a wanted (suc k) ms) (wanted k) refl
   where
-    go : length (lettersFrom f kind (suc k) ms) ≤ length ms → (t : Bool) → namedAt (f .nodes) kind k ≡ t → length (lettersFrom f kind k (m ∷ ms)) ≤ suc (length ms)
-    go rest true e = rw e (omega (arith, length-append (shortOf (f .area) m) (lettersFrom f kind (suc k) ms), short-few (f .area) m, rest))
+    go : length (lettersFrom a wanted (suc k) ms) ≤ length ms → (t : Bool) → wanted k ≡ t → length (lettersFrom a wanted k (m ∷ ms)) ≤ suc (length ms)
+    go rest true e = rw e (omega (arith, length-append (shortOf a m) (lettersFrom a wanted (suc k) ms), short-few a m, rest))
     go rest false e = rw e (omega (arith, rest))
 
 names-few : (b : List ℕ) → lengthGood b ≡ true → nameCount b ≤ 128
@@ -138,16 +142,16 @@ module _ (b : List ℕ) (kind : ℕ) (o p : List ℕ) (n : ℕ) (g : GoodNames b
   long : length o ≡ 128
   long = ap length z ∙ length-replicate {A = ℕ} 128 0
 
-  few : length (lettersFrom (readForm b) kind 0 (readForm b .names)) ≤ 128
-  few = omega (arith, letters-few (readForm b) kind 0 (readForm b .names), names-length b, names-few b (g .good))
+  few : length (lettersByName (readForm b) kind) ≤ 128
+  few = omega (arith, letters-few (readForm b .area) (namedAt (readForm b .nodes) kind) 0 (readForm b .names), names-length b, names-few b (g .good))
 
   pub letters-fit : n ≤ length p
   letters-fit =
-      omega (arith, w .count, few, long, ap length (w .words) ∙ length-sets o 0 (lettersFrom (readForm b) kind 0 (readForm b .names)))
+      omega (arith, w .count, few, long, ap length (w .words) ∙ length-sets o 0 (lettersByName (readForm b) kind))
 
-  letters-taken : take n p ≡ lettersFrom (readForm b) kind 0 (readForm b .names)
+  letters-taken : take n p ≡ lettersByName (readForm b) kind
   letters-taken =
-      let l = lettersFrom (readForm b) kind 0 (readForm b .names) in
+      let l = lettersByName (readForm b) kind in
       ap (λ (k : ℕ). take k p) (w .count)
       ∙ ap (λ (x : List ℕ). take (length l) x) (w .words)
       ∙ take-set l o (omega (arith, few, long))
@@ -199,7 +203,7 @@ split-answers form sheet items out r g c = record {
   marked = c .marked;
 }
 
--- the letters of both buffers are those of the form
+-- the letters of both buffers are those of the form, in another order
 pub split-letters :
     (form sheet items : List ℕ) (o p : List ℕ) (n : ℕ) (q s : List ℕ) (m : ℕ) (k : ℕ) (out : List ℕ) (r : Ended)
     → Ready form sheet items
@@ -209,12 +213,13 @@ pub split-letters :
     → WroteLetters form 2 q s m
     → Ends (letters (take (n - 0) p) (take (m - 0) s)) sheet k out r
     → Ends (lettersOf (readForm form)) sheet k out r
-unfolding lettersOf
 split-letters form sheet items o p n q s m k out r g zo zq wo wq c =
     let names = ready-names form sheet items g in
+    let l : Letters = letters (lettersByName (readForm form) 1) (lettersByName (readForm form) 2) in
     let flags = ap (λ (j : ℕ). take j p) (sub-zero n) ∙ letters-taken form 1 o p n names zo wo in
-    let arguments = ap (λ (j : ℕ). take j s) (sub-zero m) ∙ letters-taken form 2 q s m names zq wq in
-    rw (flags, arguments) at c
+    let others = ap (λ (j : ℕ). take j s) (sub-zero m) ∙ letters-taken form 2 q s m names zq wq in
+    let same = split-same l (lettersOf (readForm form)) (same-letters form (g .result) (g .accepts)) 0 (arguments sheet) in
+    alike-ends l (lettersOf (readForm form)) sheet k out r same (rw (flags, others) at c)
 
 pub codes-fit : (form sheet items o : List ℕ) → Ready form sheet items → o ≡ replicate 128 0 → nameCount form ≤ length o
 codes-fit form sheet items o r z =

@@ -19,6 +19,7 @@ pub mod Fields
 pub mod WordsFix
 -- Splitting and formats
 pub mod SplitLaws
+pub mod LetterLaws
 pub mod Formats
 -- Forms
 pub mod Acceptance

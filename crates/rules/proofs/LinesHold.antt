@@ -17,8 +17,8 @@ use Rattle.rules.specs.Form.{readNode, readName, readForm, nameBytes, on
 use Rattle.rules.specs.Tree.{optionalKind, listKind, countKind, lastKind, shapeOf, innerBase, sameKind, choiceKind, baseKind, kindOf}
 use Rattle.rules.specs.Tree.{hasRepeat, zeros, namesOf, shortOf, longOf, namedBy, namedOf, flagOf, argumentOf, positionOf, positionalOf}
 use Rattle.rules.specs.Tree.{fitting, repeatOf, fallbackValue, fallbackOf, guardOf, childOf, caughtOf, choiceOf, treeOf}
-use Rattle.rules.specs.Accept.{lengthGood, treesFrom, childrenOf, uses, usedOnce, treesAt, checkUse, checkRecords, checkForm, namedAt}
-use Rattle.rules.specs.Accept.{lettersFrom, lettersOf, leafCount}
+use Rattle.rules.specs.Accept.{lengthGood, treesFrom, childrenOf, uses, usedOnce, treesAt, checkUse, checkRecords, checkForm, shortNames}
+use Rattle.rules.specs.Accept.{lettersFor, lettersOf, leafCount}
 use Rattle.rules.specs.Split.{dash, equals, beforeEquals, behindEquals, parts, splitLong, splitShort, behindDash, splitOsArgument}
 use Rattle.rules.specs.Split.{clusterFrom, pickLetter, lookUp, disambiguateShort, flagItems, argumentItems, clusterItems, ambiguousAt}
 use Rattle.rules.specs.Split.{plain, clusterGroup, shortGroup, longGroup, partsGroup, wordGroup, splitArgument, positionals, joined}

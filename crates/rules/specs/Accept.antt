@@ -1,14 +1,14 @@
 -- Which forms are accepted (refusals 1 to 4), and what an accepted form gives.
-use mathlib.Core.Bool.{Bool, false, _&&_, _||_}
+use mathlib.Core.Bool.{Bool, _&&_}
 use mathlib.Core.List.{List, [], _∷_, _++_}
 use mathlib.Core.Option.{Option, some, none}
-use Prim.Native.Nat.{ℕ, suc, _+_}
-use lib.Dec.{leb, eqb, ltb}
+use Prim.Native.Nat.{ℕ, suc}
+use lib.Dec.{leb, eqb}
 use lib.ListN.{length, getElem?}
 use Rattle.utf8.specs.Utf8.{if_then_else_}
 use Rattle.rules.specs.Base.{_>>?_, occurrences, numbers, concatMap, firstFault}
-use Rattle.rules.specs.Form.{Node, Name, Form, countsGood, formLength, readForm, nameGood}
-use Rattle.rules.specs.Tree.{Tree, shortOf, treeOf}
+use Rattle.rules.specs.Form.{Node, Form, countsGood, formLength, readForm, nameGood}
+use Rattle.rules.specs.Tree.{Tree, namedOf, treeOf}
 
 pub data Checked (A : Type 0) : Type 0 where
   accepted : A → Checked A
@@ -74,19 +74,17 @@ pub record Letters : Type 0 where
   pub flags : List ℕ
   pub arguments : List ℕ
 
--- whether some node of a kind has name record k among its names
-unfoldable pub namedAt : List Node → ℕ → ℕ → Bool
-namedAt [] kind k = false
-namedAt (x ∷ xs) kind k = (eqb (x .kind) kind && leb (x .p) k && ltb k (x .p + x .q)) || namedAt xs kind k
+-- the short names of a node, if its names are there; those of an accepted form always are
+unfoldable pub shortNames : Form → Node → List ℕ
+shortNames f x = elim (namedOf f x) [ none ↦ [] | some m ↦ m .shorts ]
 
--- the characters of the short names that nodes of a kind have, in the order of the name records
-unfoldable pub lettersFrom : Form → ℕ → ℕ → List Name → List ℕ
-lettersFrom f kind k [] = []
-lettersFrom f kind k (m ∷ ms) =
-    (if namedAt (f .nodes) kind k then shortOf (f .area) m else []) ++ lettersFrom f kind (suc k) ms
+-- of the nodes of a kind, node after node
+unfoldable pub lettersFor : Form → ℕ → List ℕ
+lettersFor f kind = concatMap (λ x. if eqb (x .kind) kind then shortNames f x else []) (f .nodes)
 
+-- kind 1 is a flag, kind 2 an argument
 unfoldable pub lettersOf : Form → Letters
-lettersOf f = record { flags = lettersFrom f 1 0 (f .names); arguments = lettersFrom f 2 0 (f .names) }
+lettersOf f = record { flags = lettersFor f 1; arguments = lettersFor f 2 }
 
 -- L of demand 3: the flags, arguments and positionals of the form
 unfoldable pub leafCount : List Node → ℕ
