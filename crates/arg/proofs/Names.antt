@@ -13,8 +13,10 @@ use lib.Seq.{drop-cons, drop-drop, take-all}
 use borrow.Author.Tests.{eq-eqb, ne-eqb}
 use Rattle.utf8.specs.Utf8.{if_then_else_, wellFormed, wellFormedAfter}
 use Rattle.rules.specs.Base.{null}
-use Rattle.rules.specs.Split.{dash, parts, beforeEquals, behindEquals, splitLong, splitShort, behindDash, splitOsArgument}
+use Rattle.rules.specs.Outcome.{Outcome, ok, _>>=_}
+use Rattle.rules.specs.Split.{dash, parts, beforeEquals, behindEquals, splitLong, shortBody, splitShort, behindDash, splitOsArgument}
 use Rattle.rules.specs.Split.{Parts as Meaning}
+use Rattle.rules.proofs.SplitLaws.{short-body}
 use Rattle.arg.specs.declared.Parts.{Parts}
 use Rattle.arg.specs.declared.Parts.the-variants.{None, Short, ShortBody, Long, LongBody}
 use Rattle.arg.specs.Parts.{equalsFrom, Tells}
@@ -30,13 +32,13 @@ unfolding null
 null-true [] h = refl
 null-true (x ∷ l) h = absurd (omega arith)
 
-pub told-none : (os : List ℕ) (o : Option Meaning) → none ≡ o → Tells os None o
+pub told-none : (os : List ℕ) (o : Outcome (Option Meaning)) → ok none ≡ o → Tells os None o
 unfolding wellFormed wellFormedAfter
 told-none os o e = record { same = e; sized = tt; good = refl }
 
 module _ (os : List ℕ) (two : 2 ≤ length os) where
   -- `--`
-  pub no-long-name : length os ≡ 2 → Tells os None (splitLong (drop 2 os))
+  pub no-long-name : length os ≡ 2 → Tells os None (ok (splitLong (drop 2 os)))
   unfolding splitLong behindEquals null if_then_else_
   no-long-name h = told-none os _ (let few : length os ≤ 2 = omega arith in rw (drop-of-length-le os few))
 
@@ -74,7 +76,7 @@ module _ (os : List ℕ) (two : 2 ≤ length os) where
       named : null (drop 2 os) ≡ false
       named = null-false (drop 2 os) (λ z. some-name (omega (arith, length-drop 2 os)))
 
-      pub long-bad : wellFormed (take (e - 2) (drop 2 os)) ≡ false → Tells os None (splitLong (drop 2 os))
+      pub long-bad : wellFormed (take (e - 2) (drop 2 os)) ≡ false → Tells os None (ok (splitLong (drop 2 os)))
       unfolding splitLong parts if_then_else_
       long-bad w =
           told-none os _
@@ -83,7 +85,7 @@ module _ (os : List ℕ) (two : 2 ≤ length os) where
           (λ h. rw (value (λ z. omega arith), splitLong, before, w))
           (eq-or-lt-of-le equals-most))
 
-      pub long-whole : e ≡ length os → wellFormed (take (e - 2) (drop 2 os)) ≡ true → Tells os (Long (e - 2)) (splitLong (drop 2 os))
+      pub long-whole : e ≡ length os → wellFormed (take (e - 2) (drop 2 os)) ≡ true → Tells os (Long (e - 2)) (ok (splitLong (drop 2 os)))
       unfolding splitLong parts if_then_else_
       long-whole h w = record {
         same = rw (without h, splitLong, named, whole h, rw (whole h) at w);
@@ -94,7 +96,7 @@ module _ (os : List ℕ) (two : 2 ≤ length os) where
       pub long-value :
           (e ≡ length os → ⊥)
           → wellFormed (take (e - 2) (drop 2 os)) ≡ true
-          → Tells os (LongBody (e - 2) (e + 1)) (splitLong (drop 2 os))
+          → Tells os (LongBody (e - 2) (e + 1)) (ok (splitLong (drop 2 os)))
       unfolding splitLong parts if_then_else_
       long-value h w = record {
         same = rw (value h, splitLong, before, w);
@@ -128,27 +130,32 @@ module _ (os : List ℕ) (two : 2 ≤ length os) where
     }
 
     module _ (h : e ≡ length os → ⊥) where
+      body :
+          shortBody (getD os 1 0 ∷ beforeEquals (drop 2 os)) (drop (e + 1) os)
+          ≡ ok (if null (beforeEquals (drop 2 os)) then drop (e + 1) os else drop 2 os)
+      body = short-body (getD os 1 0) (drop 2 os) (drop (e + 1) os) (value h)
+
       pub letter-bad : wellFormed (take 1 (drop 1 os)) ≡ false → Tells os None (splitShort (getD os 1 0) (drop 2 os))
-      unfolding splitShort parts if_then_else_
-      letter-bad w = told-none os _ (rw (value h, splitShort, rw letter at w))
+      unfolding splitShort parts if_then_else_ _>>=_
+      letter-bad w = told-none os _ (rw (value h, splitShort, body, rw letter at w))
 
       module _ (w : wellFormed (take 1 (drop 1 os)) ≡ true) where
         pub short-value : e ≡ 2 → Tells os (ShortBody 1 3) (splitShort (getD os 1 0) (drop 2 os))
-        unfolding splitShort parts if_then_else_
+        unfolding splitShort parts if_then_else_ _>>=_
         short-value t =
             let three : e + 1 ≡ 3 = omega arith in
             let first = null-true (beforeEquals (drop 2 os)) (omega (arith, size)) in
             record {
-              same = rw (value h, three, splitShort, first, letter, rw letter at w);
+              same = rw (value h, splitShort, body, three, first, letter, rw letter at w);
               sized = (refl, omega arith, omega (arith, equals-most));
               good = w;
             }
 
         pub short-rest : (e ≡ 2 → ⊥) → Tells os (ShortBody 1 2) (splitShort (getD os 1 0) (drop 2 os))
-        unfolding splitShort parts if_then_else_
+        unfolding splitShort parts if_then_else_ _>>=_
         short-rest t =
             let later = null-false (beforeEquals (drop 2 os)) (λ z. t (omega (arith, size))) in
-            record { same = rw (value h, splitShort, later, letter, rw letter at w); sized = (refl, omega arith, two); good = w }
+            record { same = rw (value h, splitShort, body, later, letter, rw letter at w); sized = (refl, omega arith, two); good = w }
 
 -- ---- `split_os_argument`
 pub too-short : (os : List ℕ) → length os < 2 → Tells os None (splitOsArgument os)
@@ -156,7 +163,7 @@ unfolding splitOsArgument behindDash if_then_else_
 too-short [] h = told-none [] _ refl
 too-short (b ∷ []) h = told-none (b ∷ []) _ (go (eqb b dash))
   where
-    go : (t : Bool) → none ≡ (if t then behindDash [] else none)
+    go : (t : Bool) → ok none ≡ (if t then behindDash [] else ok none)
     go true = refl
     go false = refl
 too-short (b ∷ c ∷ os) h = absurd (omega arith)
@@ -171,7 +178,7 @@ pub two-dashes :
     → 2 ≤ length os
     → getD os 0 0 ≡ 45
     → getD os 1 0 ≡ 45
-    → Tells os r (splitLong (drop 2 os))
+    → Tells os r (ok (splitLong (drop 2 os)))
     → Tells os r (splitOsArgument os)
 unfolding splitOsArgument behindDash dash if_then_else_
 two-dashes [] r h e f t = absurd (omega arith)

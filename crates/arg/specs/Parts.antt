@@ -6,6 +6,7 @@ use mathlib.Core.Option.{Option, some, none}
 use Prim.Native.Nat.{ℕ, _+_, _≤_}
 use lib.ListN.{length, take, drop}
 use Rattle.utf8.specs.Utf8.{wellFormed}
+use Rattle.rules.specs.Outcome.{Outcome, ok}
 use Rattle.rules.specs.Split.{Parts as Meaning, short, long, beforeEquals}
 use Rattle.arg.specs.declared.Parts.{Parts}
 use Rattle.arg.specs.declared.Parts.the-variants.{None, Short, ShortBody, Long, LongBody}
@@ -39,7 +40,7 @@ Sized os (Long n) = (1 ≤ n) × (2 + n ≡ length os)
 Sized os (LongBody n k) = (3 + n ≡ k) × (k ≤ length os)
 
 -- what is found, how many bytes it has, and that the name is UTF-8
-pub record Tells (os : List ℕ) (r : Parts) (o : Option Meaning) : Type 0 where
-  pub same : partsOf os r ≡ o
+pub record Tells (os : List ℕ) (r : Parts) (o : Outcome (Option Meaning)) : Type 0 where
+  pub same : ok (partsOf os r) ≡ o
   pub sized : Sized os r
   pub good : wellFormed (nameOf os r) ≡ true

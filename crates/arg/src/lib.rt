@@ -6,6 +6,7 @@ ghost use lib.ListN.{length, getD, drop};
 ghost use lib.Seq.{sets};
 ghost use Rattle.utf8.specs.Utf8.{decodeAt, wellFormed};
 ghost use Rattle.rules.specs.Base.{contains as has};
+ghost use Rattle.rules.specs.Outcome.{ok};
 ghost use Rattle.rules.specs.Split.{splitLong, splitShort, splitOsArgument};
 ghost use Rattle.arg.specs.Parts.{equalsFrom, Tells};
 ghost use Rattle.arg.specs.Clusters.{letters, LooksUp, Disambiguates};
@@ -40,7 +41,7 @@ fn find_equals(os: &[u8], from: usize) -> usize
 // `--NAME` and `--NAME=V`: the name may be empty only with `=`.
 fn split_long(os: &[u8]) -> Parts
     requires { ⌜ 2 ≤ length (now os) ⌝ }
-    ensures { λ r. ⌜ Tells (now (os .entry)) r (splitLong (drop 2 (now (os .entry)))) ⌝ }
+    ensures { λ r. ⌜ Tells (now (os .entry)) r (ok (splitLong (drop 2 (now (os .entry))))) ⌝ }
 {
     if os.len() == 2 {
         return Parts::None;

@@ -26,30 +26,33 @@ use Rattle.args.specs.Construct.{plainArgument, Ends}
 use Rattle.args.proofs.Sheets.{Checked, arguments-length, has-entry, argument-next}
 
 -- the group of an argument, from its parts
-abbrev grouped : Letters → List ℕ → Option Parts → Outcome Group
-grouped l os o = elim o [ none ↦ ok (wordGroup os) | some x ↦ partsGroup l os x ]
+abbrev grouped : Letters → List ℕ → Outcome (Option Parts) → Outcome Group
+grouped l os o = o >>= λ p. elim p [ none ↦ ok (wordGroup os) | some x ↦ partsGroup l os x ]
 
-abbrev afterDash : Bool → Bool → ℕ → List ℕ → Option Parts
-afterDash first second b s = if first then (if second then splitLong s else splitShort b s) else none
+abbrev afterDash : Bool → Bool → ℕ → List ℕ → Outcome (Option Parts)
+afterDash first second b s = if first then (if second then ok (splitLong s) else splitShort b s) else ok none
 
 module _ (l m : Letters) where
-  long-name : (os n : List ℕ) (v : Option (List ℕ)) → grouped l os (parts long n v) ≡ grouped m os (parts long n v)
-  unfolding parts partsGroup if_then_else_
+  long-name : (os n : List ℕ) (v : Option (List ℕ)) → grouped l os (ok (parts long n v)) ≡ grouped m os (ok (parts long n v))
+  unfolding parts partsGroup if_then_else_ _>>=_
   long-name os n v = go (wellFormed n)
     where
-      go : (t : Bool) → grouped l os (if t then some (record { type = long; name = n; body = v }) else none) ≡ grouped m os (if t then some (record { type = long; name = n; body = v }) else none)
+      name : Bool → Outcome (Option Parts)
+      name t = ok (if t then some (record { type = long; name = n; body = v }) else none)
+
+      go : (t : Bool) → grouped l os (name t) ≡ grouped m os (name t)
       go true = refl
       go false = refl
 
-  long-same : (os s : List ℕ) → grouped l os (splitLong s) ≡ grouped m os (splitLong s)
-  unfolding splitLong if_then_else_
+  long-same : (os s : List ℕ) → grouped l os (ok (splitLong s)) ≡ grouped m os (ok (splitLong s))
+  unfolding splitLong if_then_else_ _>>=_
   long-same os s = go (behindEquals s) refl
     where
-      go : (o : Option (List ℕ)) → behindEquals s ≡ o → grouped l os (splitLong s) ≡ grouped m os (splitLong s)
+      go : (o : Option (List ℕ)) → behindEquals s ≡ o → grouped l os (ok (splitLong s)) ≡ grouped m os (ok (splitLong s))
       go (some v) e = rw (e, splitLong) (long-name os (beforeEquals s) (some v))
       go none e = rw (e, splitLong) (empty (null s))
         where
-          empty : (t : Bool) → grouped l os (if t then none else parts long s none) ≡ grouped m os (if t then none else parts long s none)
+          empty : (t : Bool) → grouped l os (ok (if t then none else parts long s none)) ≡ grouped m os (ok (if t then none else parts long s none))
           empty true = refl
           empty false = long-name os s none
 
@@ -66,19 +69,22 @@ module _ (l m : Letters) where
           rw (e, one, clusterFrom) refl
 
   one-byte : (os : List ℕ) (b : ℕ) → grouped l os (splitShort b []) ≡ grouped m os (splitShort b [])
-  unfolding splitShort behindEquals parts partsGroup if_then_else_
+  unfolding splitShort behindEquals parts partsGroup if_then_else_ _>>=_
   one-byte os b = go (wellFormed (b ∷ []))
     where
-      go : (t : Bool) → grouped l os (if t then some (record { type = short; name = b ∷ []; body = none }) else none) ≡ grouped m os (if t then some (record { type = short; name = b ∷ []; body = none }) else none)
+      name : Bool → Outcome (Option Parts)
+      name t = ok (if t then some (record { type = short; name = b ∷ []; body = none }) else none)
+
+      go : (t : Bool) → grouped l os (name t) ≡ grouped m os (name t)
       go true = letter-same os b
       go false = refl
 
   plain-same : (os : List ℕ) → plainArgument os ≡ true → splitArgument l os ≡ splitArgument m os
-  unfolding splitArgument splitOsArgument behindDash plainArgument if_then_else_
+  unfolding splitArgument splitOsArgument behindDash plainArgument if_then_else_ _>>=_
   plain-same [] p = refl
   plain-same (a ∷ []) p = go (eqb a dash)
     where
-      go : (t : Bool) → grouped l (a ∷ []) (if t then none else none) ≡ grouped m (a ∷ []) (if t then none else none)
+      go : (t : Bool) → grouped l (a ∷ []) (if t then ok none else ok none) ≡ grouped m (a ∷ []) (if t then ok none else ok none)
       go true = refl
       go false = refl
   plain-same (a ∷ b ∷ []) p = go (eqb a dash) (eqb b dash)

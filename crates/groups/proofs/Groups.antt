@@ -114,6 +114,10 @@ second-dash (a ∷ b ∷ []) h e = rw (eq-eqb a 45 e) (go (eqb b 45))
     go false = refl
 second-dash (a ∷ b ∷ c ∷ os) h e = absurd (omega arith)
 
+-- what the code found is what splitting gives
+found : (os : List ℕ) (q : Parts) → Tells os q (splitOsArgument os) → (u : Parts) → q ≡ u → splitOsArgument os ≡ ok (partsOf os u)
+found os q t u f = sym (t .same) ∙ ap (λ (v : Parts). ok (partsOf os v)) f
+
 module _ (os : List ℕ) (begin at : ℕ) (o p : List ℕ) (g : Group) (whole : Part) (e : whole ≡ partOf (begin + 0) (length os - 0)) where
   text : TextIs (begin + length os) os whole
   text = text-from os begin 0 whole zero-le e
@@ -161,20 +165,17 @@ module _ (os : List ℕ) (begin at : ℕ) (o p : List ℕ) (g : Group) (whole : 
 
   -- ---- a long name
   module _ (l : Letters) (q : Parts) (t : Tells os q (splitOsArgument os)) where
-    found : (u : Parts) → q ≡ u → splitOsArgument os ≡ partsOf os u
-    found u f = sym (t .same) ∙ ap (partsOf os) f
-
     pub a-long :
         (n : ℕ) (name : Part)
         → q ≡ P.Long n
         → name ≡ partOf (begin + 2) (n + 2 - 2)
         → Puts o at p g 1 0 (recordOf (Long name false whole))
         → Makes os begin at o p g (splitArgument l os)
-    unfolding splitArgument partsGroup longGroup
+    unfolding splitArgument partsGroup longGroup _>>=_
     a-long n name f m z =
         let s : Sized os (P.Long n) = subst (Sized os) f (t .sized) in
         makes-one os begin at o p g (splitArgument l os) (rules.Long (take n (drop 2 os)) false os) (Long name false whole) z
-        (rw (found (P.Long n) f, splitArgument))
+        (rw (found os q t (P.Long n) f, splitArgument))
         (long-record begin (begin + length os) os whole text (take n (drop 2 os)) name false (name-from os begin n name (omega (arith, s .1)) m))
 
     pub a-long-value :
@@ -184,43 +185,41 @@ module _ (os : List ℕ) (begin at : ℕ) (o p : List ℕ) (g : Group) (whole : 
         → value ≡ partOf (begin + body) (length os - body)
         → Puts o at p g 2 0 (recordOf (Long name true whole) ++ recordOf (ArgWord value))
         → Makes os begin at o p g (splitArgument l os)
-    unfolding splitArgument partsGroup longGroup
+    unfolding splitArgument partsGroup longGroup _>>=_
     a-long-value n body name value f m v z =
         let s : Sized os (P.LongBody n body) = subst (Sized os) f (t .sized) in
         makes-two os begin at o p g (splitArgument l os)
         (rules.Long (take n (drop 2 os)) true os) (rules.ArgWord (drop body os)) (Long name true whole) (ArgWord value) z
-        (rw (found (P.LongBody n body) f, splitArgument))
+        (rw (found os q t (P.LongBody n body) f, splitArgument))
         (long-record begin (begin + length os) os whole text (take n (drop 2 os)) name true (name-from os begin n name (omega (arith, s .0, s .1)) m))
         (arg-word-record begin (begin + length os) (drop body os) value (text-from os begin body value (s .1) v))
 
 -- ---- the other kinds of argument, from the functions that split them
 module _ (os : List ℕ) (begin at : ℕ) (o p : List ℕ) (g : Group) (l : Letters) (q : Parts) (t : Tells os q (splitOsArgument os)) where
   pub no-name : q ≡ P.None → Makes os begin at o p g (ok (wordGroup os)) → Makes os begin at o p g (splitArgument l os)
-  unfolding splitArgument
-  no-name f z = makes-same os begin at o p g _ _ z (let e : splitOsArgument os ≡ none = sym (t .same) ∙ ap (partsOf os) f in rw (e, splitArgument))
+  unfolding splitArgument _>>=_
+  no-name f z = makes-same os begin at o p g _ _ z (rw (found os q t P.None f, splitArgument))
 
   pub short-name :
       (n : ℕ)
       → q ≡ P.Short n
       → Makes os begin at o p g (shortGroup l os (drop 1 os) none)
       → Makes os begin at o p g (splitArgument l os)
-  unfolding splitArgument partsGroup
+  unfolding splitArgument partsGroup _>>=_
   short-name n f z =
       let s : Sized os (P.Short n) = subst (Sized os) f (t .sized) in
-      let e : splitOsArgument os ≡ partsOf os (P.Short n) = sym (t .same) ∙ ap (partsOf os) f in
       let all : take n (drop 1 os) ≡ drop 1 os = take-all n (drop 1 os) (omega (arith, s .1, length-drop 1 os)) in
-      makes-same os begin at o p g _ _ z (rw (e, splitArgument, all))
+      makes-same os begin at o p g _ _ z (rw (found os q t (P.Short n) f, splitArgument, all))
 
   pub short-value-name :
       (n body : ℕ)
       → q ≡ P.ShortBody n body
       → ((l : Letters) → Makes os begin at o p g (shortGroup l os (take 1 (drop 1 os)) (some (drop body os))))
       → Makes os begin at o p g (splitArgument l os)
-  unfolding splitArgument partsGroup
+  unfolding splitArgument partsGroup _>>=_
   short-value-name n body f z =
       let s : Sized os (P.ShortBody n body) = subst (Sized os) f (t .sized) in
-      let e : splitOsArgument os ≡ partsOf os (P.ShortBody n body) = sym (t .same) ∙ ap (partsOf os) f in
-      makes-same os begin at o p g _ _ (z l) (rw (e, splitArgument, s .0))
+      makes-same os begin at o p g _ _ (z l) (rw (found os q t (P.ShortBody n body) f, splitArgument, s .0))
 
 module _ (os : List ℕ) (begin at : ℕ) (q : Parts) (t : Tells os q (splitOsArgument os)) (h : Fits os begin at) where
   pub cluster-in : (n : ℕ) → q ≡ P.Short n → ClusterIn os begin at

@@ -66,12 +66,14 @@ module _ (l m : Letters) where
     parts-same os long n body = refl
 
     argument-same : (os : List ℕ) → splitArgument l os ≡ splitArgument m os
-    unfolding splitArgument
+    unfolding splitArgument _>>=_
     argument-same os = go (splitOsArgument os) refl
       where
-        go : (o : Option Parts) → splitOsArgument os ≡ o → splitArgument l os ≡ splitArgument m os
-        go none e = rw (e, splitArgument)
-        go (some x) e = rw (e, splitArgument) (parts-same os (x .type) (x .name) (x .body))
+        go : (o : Outcome (Option Parts)) → splitOsArgument os ≡ o → splitArgument l os ≡ splitArgument m os
+        go (ok none) e = rw (e, splitArgument)
+        go (ok (some x)) e = rw (e, splitArgument) (parts-same os (x .type) (x .name) (x .body))
+        go (refused r) e = rw (e, splitArgument)
+        go (fault r) e = rw (e, splitArgument)
 
     pub split-same : (k : ℕ) (args : List (List ℕ)) → splitFrom l k args ≡ splitFrom m k args
     split-same k args = split-alike k args (all args)

@@ -19,7 +19,7 @@ use Rattle.rules.specs.Tree.{hasRepeat, zeros, namesOf, shortOf, longOf,
 use Rattle.rules.specs.Tree.{fitting, repeatOf, fallbackValue, fallbackOf, guardOf, childOf, caughtOf, choiceOf, treeOf}
 use Rattle.rules.specs.Accept.{lengthGood, treesFrom, childrenOf, uses, usedOnce, treesAt, checkUse, checkRecords, checkForm, shortNames}
 use Rattle.rules.specs.Accept.{lettersFor, lettersOf, leafCount}
-use Rattle.rules.specs.Split.{dash, equals, beforeEquals, behindEquals, parts, splitLong, splitShort, behindDash, splitOsArgument}
+use Rattle.rules.specs.Split.{dash, equals, beforeEquals, behindEquals, parts, splitLong, shortBody, splitShort, behindDash, splitOsArgument}
 use Rattle.rules.specs.Split.{clusterFrom, pickLetter, lookUp, disambiguateShort, flagItems, argumentItems, clusterItems, ambiguousAt}
 use Rattle.rules.specs.Split.{plain, clusterGroup, shortGroup, longGroup, partsGroup, wordGroup, splitArgument, positionals, joined}
 use Rattle.rules.specs.Split.{splitFrom, itemsOf, bit, partWords, textWords, itemRecord, recordsFrom}

@@ -3,13 +3,13 @@ use mathlib.Core.Path.{_≡_, refl, sym, _∙_, ap, ap₂}
 use mathlib.Core.Bool.{Bool, true, false, and-eq-true-iff, false≢true}
 use mathlib.Core.Logic.{_⊎_, inl, inr, ⊎-elim}
 use mathlib.Core.List.{List, [], _∷_, _++_, flatten, append-assoc}
-use mathlib.Core.Option.{Option, some, none}
+use mathlib.Core.Option.{Option, some, none, Option·some-injective}
 use Prim.Native.Nat.{ℕ, zero, suc, _+_, _-_, _*_, _≤_, _<_}
 use native.Mathlib.Nat.{zero-add, add-zero, add-assoc, le-refl}
 use native.Mathlib.Omega.{arith}
 use lib.Dec.{eqb, ltb}
 use lib.ListN.{length, drop, length-append}
-use borrow.Author.Tests.{eqb-true, le-leb, ltb-false}
+use borrow.Author.Tests.{eqb-true, le-leb, lt-ltb, ltb-false}
 use Rattle.utf8.specs.Utf8.{if_then_else_, decode, decodeAt, wellFormed, wellFormedAfter}
 use Rattle.utf8.specs.Laws.{character}
 use Rattle.utf8.specs.declared.Decoded.{Decoded}
@@ -19,8 +19,8 @@ use Rattle.rules.specs.Outcome.{Outcome, ok, refused, fault, _>>=_, at, 
 use Rattle.rules.specs.Sheet.{arguments}
 use Rattle.rules.specs.Form.{Form}
 use Rattle.rules.specs.Accept.{Letters, lettersOf}
-use Rattle.rules.specs.Split.{Item, Short, Long, ArgWord, Word, PosWord, dash, short, long, Parts}
-use Rattle.rules.specs.Split.{behindEquals, beforeEquals, parts, splitLong, splitShort, behindDash, splitOsArgument}
+use Rattle.rules.specs.Split.{Item, Short, Long, ArgWord, Word, PosWord, dash, equals, short, long, Parts}
+use Rattle.rules.specs.Split.{behindEquals, beforeEquals, parts, splitLong, shortBody, splitShort, behindDash, splitOsArgument}
 use Rattle.rules.specs.Split.{Letter, clusterFrom, Cluster, single, allFlags, argumentLetter, withdrawn, ambiguous}
 use Rattle.rules.specs.Split.{disambiguateShort, flagItems, clusterItems, ambiguousAt}
 use Rattle.rules.specs.Split.{Group, plain, clusterGroup, shortGroup, longGroup, partsGroup, wordGroup, splitArgument}
@@ -68,49 +68,83 @@ cluster-ok zero k (b ∷ s) w =
 
 -- ---- one argument
 
+pub some≢none : {A : Type 0} {a : A} → some a ≡ none → ⊥
+some≢none e = let z : _≡_ {A = ℕ} 0 1 = cc in omega arith
+
+-- what stands before and behind the first `=` makes up the whole
+pub equals-apart : (s v : List ℕ) → behindEquals s ≡ some v → beforeEquals s ++ (equals ∷ v) ≡ s
+unfolding behindEquals beforeEquals if_then_else_
+equals-apart [] v e = absurd (some≢none (sym e))
+equals-apart (b ∷ s) v e = go (eqb b equals) refl (equals-apart s v)
+  where
+    go :
+        (t : Bool)
+        → eqb b equals ≡ t
+        → (behindEquals s ≡ some v → beforeEquals s ++ (equals ∷ v) ≡ s)
+        → beforeEquals (b ∷ s) ++ (equals ∷ v) ≡ b ∷ s
+    go true h rest = let same : s ≡ v = Option·some-injective s v (rw h at e) in rw (h, same, eqb-true b equals h)
+    go false h rest = rw h (ap (λ (l : List ℕ). b ∷ l) (rest (rw h at e)))
+
+-- the slice is there: with one byte of name the value is what is behind the `=`, with more all behind that byte
+pub short-body :
+    (b : ℕ) (s v : List ℕ)
+    → behindEquals s ≡ some v
+    → shortBody (b ∷ beforeEquals s) v ≡ ok (if null (beforeEquals s) then v else s)
+unfolding shortBody sliceFrom null at _>>=_ if_then_else_
+short-body b s v e = go (beforeEquals s) refl
+  where
+    go : (l : List ℕ) → beforeEquals s ≡ l → shortBody (b ∷ beforeEquals s) v ≡ ok (if null (beforeEquals s) then v else s)
+    go [] h = rw h
+    go (x ∷ l) h =
+        let n = suc (suc (length l)) in
+        rw (h, lt-ltb 1 n (omega arith), le-leb 1 n (omega arith)) (ap ok (rw h at (equals-apart s v e)))
+
 -- what `split_os_argument` can give: none, a long name, or a short name that is well-formed and not empty
 module _
-    (P : Option Parts → Type 0)
-    (word : P none)
-    (longs : (n : List ℕ) (body : Option (List ℕ)) → P (some (record { type = long; name = n; body = body })))
+    (P : Outcome (Option Parts) → Type 0)
+    (word : P (ok none))
+    (longs : (n : List ℕ) (body : Option (List ℕ)) → P (ok (some (record { type = long; name = n; body = body }))))
     (shorts :
     (b : ℕ) (s : List ℕ) (body : Option (List ℕ))
     → wellFormed (b ∷ s) ≡ true
-    → P (some (record { type = short; name = b ∷ s; body = body })))
+    → P (ok (some (record { type = short; name = b ∷ s; body = body }))))
   where
-    long-parts : (n : List ℕ) (body : Option (List ℕ)) → P (parts long n body)
-    unfolding parts
-    long-parts n body = if-elim P (wellFormed n) _ none (λ w. longs n body) (λ w. word)
+    abbrev Given : Option Parts → Type 0
+    Given x = P (ok x)
 
-    short-parts : (b : ℕ) (s : List ℕ) (body : Option (List ℕ)) → P (parts short (b ∷ s) body)
+    long-parts : (n : List ℕ) (body : Option (List ℕ)) → Given (parts long n body)
     unfolding parts
-    short-parts b s body = if-elim P (wellFormed (b ∷ s)) _ none (λ w. shorts b s body w) (λ w. word)
+    long-parts n body = if-elim Given (wellFormed n) _ none (λ w. longs n body) (λ w. word)
 
-    long-cases : (s : List ℕ) → P (splitLong s)
+    short-parts : (b : ℕ) (s : List ℕ) (body : Option (List ℕ)) → Given (parts short (b ∷ s) body)
+    unfolding parts
+    short-parts b s body = if-elim Given (wellFormed (b ∷ s)) _ none (λ w. shorts b s body w) (λ w. word)
+
+    long-cases : (s : List ℕ) → Given (splitLong s)
     unfolding splitLong
     long-cases s = go (behindEquals s) refl
       where
-        go : (v : Option (List ℕ)) → behindEquals s ≡ v → P (splitLong s)
-        go none e = rw (e, splitLong) (if-elim P (null s) none (parts long s none) (λ z. word) (λ z. long-parts s none))
+        go : (v : Option (List ℕ)) → behindEquals s ≡ v → Given (splitLong s)
+        go none e = rw (e, splitLong) (if-elim Given (null s) none (parts long s none) (λ z. word) (λ z. long-parts s none))
         go (some v) e = rw (e, splitLong) (long-parts (beforeEquals s) (some v))
 
     short-cases : (b : ℕ) (s : List ℕ) → P (splitShort b s)
-    unfolding splitShort
+    unfolding splitShort _>>=_
     short-cases b s = go (behindEquals s) refl
       where
         go : (v : Option (List ℕ)) → behindEquals s ≡ v → P (splitShort b s)
         go none e = rw (e, splitShort) (short-parts b s none)
-        go (some v) e = rw (e, splitShort) (short-parts b [] (some (if null (beforeEquals s) then v else s)))
+        go (some v) e = rw (e, splitShort, short-body b s v e) (short-parts b [] (some (if null (beforeEquals s) then v else s)))
 
     dash-cases : (s : List ℕ) → P (behindDash s)
     unfolding behindDash
     dash-cases [] = word
-    dash-cases (b ∷ s) = if-elim P (eqb b dash) (splitLong s) (splitShort b s) (λ e. long-cases s) (λ e. short-cases b s)
+    dash-cases (b ∷ s) = if-elim P (eqb b dash) (ok (splitLong s)) (splitShort b s) (λ e. long-cases s) (λ e. short-cases b s)
 
     parts-cases : (os : List ℕ) → P (splitOsArgument os)
     unfolding splitOsArgument
     parts-cases [] = word
-    parts-cases (b ∷ s) = if-elim P (eqb b dash) (behindDash s) none (λ e. dash-cases s) (λ e. word)
+    parts-cases (b ∷ s) = if-elim P (eqb b dash) (behindDash s) (ok none) (λ e. dash-cases s) (λ e. word)
 
 pub same-true : (a b : List ℕ) → same a b ≡ true → a ≡ b
 unfolding same
@@ -189,28 +223,28 @@ word-grouped os = go (same os dashes) refl
     go false e = rw (e, wordGroup) (plain-grouped os (Word os ∷ []))
 
 -- `--` has no parts
-no-dashes : (os : List ℕ) (x : Parts) → splitOsArgument os ≡ some x → same os dashes ≡ false
+no-dashes : (os : List ℕ) (x : Parts) → splitOsArgument os ≡ ok (some x) → same os dashes ≡ false
 unfolding splitOsArgument behindDash splitLong behindEquals null if_then_else_ dash
 no-dashes os x e = go (same os dashes) refl
   where
     go : (t : Bool) → same os dashes ≡ t → t ≡ false
     go false h = refl
-    go true h = let z : splitOsArgument dashes ≡ some x = rw (same-true os dashes h) at e in cc
+    go true h = let z : splitOsArgument dashes ≡ ok (some x) = rw (same-true os dashes h) at e in cc
 
 pub argument-grouped : (l : Letters) (os : List ℕ) → Grouped os (same os dashes) (splitArgument l os)
-unfolding splitArgument partsGroup
+unfolding splitArgument partsGroup _>>=_
 argument-grouped l os = parts-cases Given (λ e. rw (e, splitArgument) (word-grouped os)) longs shorts os refl
   where
-    Given : Option Parts → Type 0
+    Given : Outcome (Option Parts) → Type 0
     Given x = splitOsArgument os ≡ x → Grouped os (same os dashes) (splitArgument l os)
 
-    longs : (n : List ℕ) (body : Option (List ℕ)) → Given (some (record { type = long; name = n; body = body }))
+    longs : (n : List ℕ) (body : Option (List ℕ)) → Given (ok (some (record { type = long; name = n; body = body })))
     longs n body e = rw (no-dashes os _ e, e, splitArgument) (long-grouped os n body)
 
     shorts :
         (b : ℕ) (s : List ℕ) (body : Option (List ℕ))
         → wellFormed (b ∷ s) ≡ true
-        → Given (some (record { type = short; name = b ∷ s; body = body }))
+        → Given (ok (some (record { type = short; name = b ∷ s; body = body })))
     shorts b s body w e = rw (no-dashes os _ e, e, splitArgument) (short-grouped l os b s body w)
 
 -- splitting an argument never panics
@@ -248,9 +282,6 @@ ended-later k m n has none none h = h
 ended-later k m n has (some i) none h = (h .0, omega arith, omega arith)
 ended-later k m n has none (some i) h = (omega arith, omega arith)
 ended-later k m n has (some i) (some j) h = h
-
-pub some≢none : {A : Type 0} {a : A} → some a ≡ none → ⊥
-some≢none e = let z : _≡_ {A = ℕ} 0 1 = cc in omega arith
 
 joined-splits :
     (k : ℕ) (os : List ℕ) (rest : List (List ℕ)) (is : List Item) (a : Option ℕ) (m : Bool) (others : Outcome Split)

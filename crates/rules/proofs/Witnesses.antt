@@ -103,9 +103,10 @@ unfoldable missingV : Outcome Value
 missingV = refused (record { number = 20; place = none; missing = record { node = 0; start = 0; end = 0 } ∷ [] })
 
 -- ---- spots where the Rust would panic: an ill-made tree or a forged state on which the definition gives that outcome.
--- 391 and 434 come right after a write at the same place has succeeded, so there is an item and the place is there; 125 to 127 look up
--- the first of a list that was found not empty; 305 and 307 unwrap the value of a side that was found to have no error. Neither the
--- Rust nor the definition can reach these. The last three are the other faults
+-- 185 takes what is behind the first byte of a name that was found to have more; 391 and 434 come right after a write at the same
+-- place has succeeded, so there is an item and the place is there; 125 to 127 look up the first of a list that was found not empty;
+-- 305 and 307 unwrap the value of a side that was found to have no error. Neither the Rust nor the definition can reach these.
+-- The last three are the other faults
 spots :
     -- a cluster that is not UTF-8
     (clusterFrom 0 0 (0xFF ∷ []) ≡ fault (panic disambiguateShort207))

@@ -9,6 +9,8 @@ use Rattle.rules.specs.Base.{contains}
 
 -- Spots where the Rust would panic: the function, and the line of its file.
 pub data Spot : Type 0 where
+  -- arg.rs
+  splitOsArgument185 : Spot
   -- args.rs
   disambiguateShort207 construct361 construct390 construct391 : Spot
   remove431 remove433 remove434 adjacentScope506 adjacentScope508 setScope561 argsIter635 : Spot

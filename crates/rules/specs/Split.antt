@@ -3,12 +3,12 @@ use mathlib.Core.Bool.{Bool, true, false}
 use mathlib.Core.List.{List, [], _∷_, _++_, flatten}
 use mathlib.Core.Option.{Option, some, none}
 use Prim.Native.Nat.{ℕ, zero, suc, _+_, _-_}
-use lib.Dec.{eqb}
+use lib.Dec.{eqb, ltb}
 use lib.ListN.{length}
 use Rattle.utf8.specs.Utf8.{if_then_else_, decode, wellFormed}
 use Rattle.utf8.specs.declared.Decoded.the-variants.{Char, Bad}
 use Rattle.rules.specs.Base.{null, contains, same, sliceFrom, concatMap}
-use Rattle.rules.specs.Outcome.{Outcome, ok, fault, panic, _>>=_, at, disambiguateShort207, construct361}
+use Rattle.rules.specs.Outcome.{Outcome, ok, fault, panic, _>>=_, at, splitOsArgument185, disambiguateShort207, construct361}
 use Rattle.rules.specs.Accept.{Letters}
 
 -- The Rust's Arg, preprocessed command line argument. The last part of Short and Long is the text for messages.
@@ -56,20 +56,24 @@ splitLong s =
 
 -- The byte after the dash belongs to the name. The first later `=` ends it: with one byte of name the rest is the value,
 -- with more the name is the first byte alone, and the value all after it
-unfoldable pub splitShort : ℕ → List ℕ → Option Parts
+unfoldable pub shortBody : List ℕ → List ℕ → Outcome (List ℕ)
+shortBody n v =
+    if ltb 1 (length n) then (at splitOsArgument185 (sliceFrom 1 n) >>= λ s. ok (s ++ (equals ∷ v))) else ok v
+
+unfoldable pub splitShort : ℕ → List ℕ → Outcome (Option Parts)
 splitShort b s =
     elim (behindEquals s) [
-      | none ↦ parts short (b ∷ s) none
-      | some v ↦ parts short (b ∷ []) (some (if null (beforeEquals s) then v else s))
+      | none ↦ ok (parts short (b ∷ s) none)
+      | some v ↦ shortBody (b ∷ beforeEquals s) v >>= λ body. ok (parts short (b ∷ []) (some body))
     ]
 
-unfoldable pub behindDash : List ℕ → Option Parts
-behindDash [] = none
-behindDash (b ∷ s) = if eqb b dash then splitLong s else splitShort b s
+unfoldable pub behindDash : List ℕ → Outcome (Option Parts)
+behindDash [] = ok none
+behindDash (b ∷ s) = if eqb b dash then ok (splitLong s) else splitShort b s
 
-unfoldable pub splitOsArgument : List ℕ → Option Parts
-splitOsArgument [] = none
-splitOsArgument (b ∷ s) = if eqb b dash then behindDash s else none
+unfoldable pub splitOsArgument : List ℕ → Outcome (Option Parts)
+splitOsArgument [] = ok none
+splitOsArgument (b ∷ s) = if eqb b dash then behindDash s else ok none
 
 -- ---- `disambiguate_short`
 -- A letter of a cluster: its character, its place in bytes, and the rest behind it
@@ -175,7 +179,7 @@ wordGroup os =
     if same os (dash ∷ dash ∷ []) then record { items = PosWord os ∷ []; ambiguous = none; marker = true } else plain (Word os ∷ [])
 
 unfoldable pub splitArgument : Letters → List ℕ → Outcome Group
-splitArgument l os = elim (splitOsArgument os) [ none ↦ ok (wordGroup os) | some x ↦ partsGroup l os x ]
+splitArgument l os = splitOsArgument os >>= λ p. elim p [ none ↦ ok (wordGroup os) | some x ↦ partsGroup l os x ]
 
 -- What splitting gives: the items of each argument it read, the place of the first `--`, and the place of the Word of an
 -- ambiguous letter, behind whose argument nothing is split

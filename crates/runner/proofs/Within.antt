@@ -24,7 +24,7 @@ use Rattle.rules.specs.Split.{Group, plain, clusterGroup, shortGroup, longGroup
 use Rattle.rules.specs.Split.{Split, positionals, joined, splitFrom}
 use Rattle.rules.proofs.Acceptance.{All-append, All-map, if-some, if-not-some, branch}
 use Rattle.rules.proofs.Went.{if-holds}
-use Rattle.rules.proofs.SplitLaws.{ok-injective}
+use Rattle.rules.proofs.SplitLaws.{ok-injective, short-body}
 
 -- ---- the end of an argument
 abbrev pub Suffix : List ℕ → List ℕ → Type 0
@@ -103,8 +103,8 @@ long-in a b s x e = go (behindEquals s) refl
         let (j, m, r) = behind-suffix s v h in
         parts-in (a ∷ b ∷ s) (beforeEquals s) long (some v) x ((k, omega arith, q), (suc (suc j), omega arith, r)) (rw (h, splitLong) at e)
 
-short-in : (a b : ℕ) (s : List ℕ) (x : Parts) → splitShort b s ≡ some x → NameIn (a ∷ b ∷ s) (x .type) (x .body) (x .name)
-unfolding splitShort if_then_else_
+short-in : (a b : ℕ) (s : List ℕ) (x : Parts) → splitShort b s ≡ ok (some x) → NameIn (a ∷ b ∷ s) (x .type) (x .body) (x .name)
+unfolding splitShort if_then_else_ _>>=_
 short-in a b s x e = go (behindEquals s) refl
   where
     value : (v : List ℕ) (t : Bool) → Suffix v s → Suffix (if t then v else s) (a ∷ b ∷ s)
@@ -112,20 +112,23 @@ short-in a b s x e = go (behindEquals s) refl
     value v false h = (2, omega arith, refl)
 
     go : (v : Option (List ℕ)) → behindEquals s ≡ v → NameIn (a ∷ b ∷ s) (x .type) (x .body) (x .name)
-    go none h = parts-in (a ∷ b ∷ s) (b ∷ s) short none x (1, omega arith, refl) (rw (h, splitShort) at e)
+    go none h = parts-in (a ∷ b ∷ s) (b ∷ s) short none x (1, omega arith, refl) (ok-injective (rw (h, splitShort) at e))
     go (some v) h =
         parts-in (a ∷ b ∷ s) (b ∷ []) short (some (if null (beforeEquals s) then v else s)) x
-        (value v (null (beforeEquals s)) (behind-suffix s v h)) (rw (h, splitShort) at e)
+        (value v (null (beforeEquals s)) (behind-suffix s v h)) (ok-injective (rw (h, splitShort, short-body b s v h) at e))
 
-os-in : (os : List ℕ) (x : Parts) → splitOsArgument os ≡ some x → NameIn os (x .type) (x .body) (x .name)
+no-parts : {P : Type 0} (x : Parts) → ok none ≡ ok (some x) → P
+no-parts x e = absurd (Option·none-ne-some x (ok-injective e))
+
+os-in : (os : List ℕ) (x : Parts) → splitOsArgument os ≡ ok (some x) → NameIn os (x .type) (x .body) (x .name)
 unfolding splitOsArgument behindDash
-os-in [] x e = absurd (Option·none-ne-some x e)
-os-in (a ∷ []) x e = absurd (Option·none-ne-some x (if-some (eqb a dash) (behindDash []) e .1))
+os-in [] x e = no-parts x e
+os-in (a ∷ []) x e = branch (eqb a dash) (ok none) (ok none) (λ _ h. no-parts x h) (λ h. no-parts x h) e
 os-in (a ∷ b ∷ s) x e =
-    branch {P = NameIn (a ∷ b ∷ s) (x .type) (x .body) (x .name)} (eqb b dash) (splitLong s) (splitShort b s)
-    (λ _ h. long-in a b s x h)
-    (λ h. short-in a b s x h)
-    (if-some (eqb a dash) (behindDash (b ∷ s)) e .1)
+    branch {P = NameIn (a ∷ b ∷ s) (x .type) (x .body) (x .name)} (eqb a dash) (behindDash (b ∷ s)) (ok none)
+    (λ _ g. branch (eqb b dash) (ok (splitLong s)) (splitShort b s) (λ _ h. long-in a b s x (ok-injective h)) (λ h. short-in a b s x h) g)
+    (λ h. no-parts x h)
+    e
 
 -- ---- clusters
 pub bind-ok : {A B : Type 0} (o : Outcome A) (f : A → Outcome B) {y : B} → (o >>= f) ≡ ok y → (a : A) × (o ≡ ok a) × (f a ≡ ok y)
@@ -247,11 +250,13 @@ word-group-in os =
 
 group-in : (l : Letters) (os : List ℕ) (g : Group) → splitArgument l os ≡ ok g → Holds os g
 unfolding splitArgument
-group-in l os g e = go (splitOsArgument os) refl
+group-in l os g e =
+    let (o, h, q) = bind-ok (splitOsArgument os) (λ p. elim p [ none ↦ ok (wordGroup os) | some x ↦ partsGroup l os x ]) e in
+    go o h q
   where
-    go : (o : Option Parts) → splitOsArgument os ≡ o → Holds os g
-    go none h = subst (Holds os) (ok-injective (rw (h, splitArgument) at e)) (word-group-in os)
-    go (some x) h = parts-group-in l os (x .name) (x .type) (x .body) g (os-in os x h) (rw (h, splitArgument) at e)
+    go : (o : Option Parts) → splitOsArgument os ≡ ok o → (elim o [ none ↦ ok (wordGroup os) | some x ↦ partsGroup l os x ]) ≡ ok g → Holds os g
+    go none h q = subst (Holds os) (ok-injective q) (word-group-in os)
+    go (some x) h q = parts-group-in l os (x .name) (x .type) (x .body) g (os-in os x h) q
 
 -- ---- all arguments
 abbrev pub AllWithin : List (List ℕ) → List (List Item) → Type 0
