@@ -18,7 +18,7 @@ use Rattle.rules.specs.Outcome.{Outcome, ok, refused, fault, _>>=_, refuseAt, r
 use Rattle.rules.specs.Codes.{placeCode}
 use Rattle.rules.specs.Sheet.{argumentCount, arguments}
 use Rattle.rules.specs.Accept.{Letters}
-use Rattle.rules.specs.Split.{Item, PosWord, Group, plain, splitArgument, Split, positionals, joined, splitFrom, itemsOf, itemRecord, recordsFrom}
+use Rattle.rules.specs.Split.{Item, PosWord, Group, plain, splitArgument, Split, positionals, joined, splitFrom, itemsOf, itemWords, recordsFrom}
 use Rattle.rules.specs.Run.{tooMany, ambiguity, lineOf, padded}
 use Rattle.rules.specs.Demands.{hasMarker}
 use Rattle.rules.proofs.SplitLaws.{split-ok, flatten-append, records-from-length, MarkerAt, marker-law, ambiguous-law}
@@ -268,7 +268,7 @@ module _ (l : Letters) (s : List ℕ) (n : ℕ) (o : List ℕ) (k at m : ℕ) (h
     items = w .group .items
 
     recs : List ℕ
-    recs = concatMap (itemRecord (offset 2 s k) (offset 2 s k + length here)) (w .group .items)
+    recs = concatMap (itemWords (offset 2 s k) (offset 2 s k + length here)) (w .group .items)
 
     next : Follows l at m here (drop (k + 1) (arguments s)) (w .group .items) (w .group .ambiguous) (w .group .marker) (z .rest)
     next = follows l at m here (drop (k + 1) (arguments s)) (w .group) (z .rest) (w .same) (rw (argument-next s h k t) at (z .left))

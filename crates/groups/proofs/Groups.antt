@@ -17,7 +17,7 @@ use Rattle.rules.specs.Base.{same, concatMap}
 use Rattle.rules.specs.Outcome.{Outcome, ok, refused, fault, _>>=_, at}
 use Rattle.rules.specs.Accept.{Letters}
 use Rattle.rules.specs.Split.{Letter, clusterFrom, Cluster, ambiguous, flagItems, argumentItems, clusterItems, ambiguousAt}
-use Rattle.rules.specs.Split.{dash, splitOsArgument, itemRecord, plain, clusterGroup, shortGroup, longGroup, partsGroup, wordGroup, splitArgument}
+use Rattle.rules.specs.Split.{dash, splitOsArgument, itemWords, plain, clusterGroup, shortGroup, longGroup, partsGroup, wordGroup, splitArgument}
 use Rattle.rules.specs.Split.{Group as Meaning}
 use Rattle.rules.specs.Split as rules
 use Rattle.arg.specs.declared.Part.{Part}
@@ -43,7 +43,7 @@ pub makes :
     → Puts o at p r n a w
     → x ≡ ok g
     → record { count = n; ambiguous = a; marker = false } ≡ told g
-    → w ≡ concatMap (itemRecord begin (begin + length os)) (g .items)
+    → w ≡ concatMap (itemWords begin (begin + length os)) (g .items)
     → Makes os begin at o p r x
 makes os begin at o p r n a w x g z e t q = record {
   group = g;
@@ -64,7 +64,7 @@ module _ (os : List ℕ) (begin at : ℕ) (o p : List ℕ) (r : Group) (x : Outc
       (i : rules.Item) (j : Item)
       → Puts o at p r 1 0 (recordOf j)
       → x ≡ ok (plain (i ∷ []))
-      → itemRecord begin (begin + length os) i ≡ recordOf j
+      → itemWords begin (begin + length os) i ≡ recordOf j
       → Makes os begin at o p r x
   unfolding plain concatMap
   makes-one i j z e q = makes os begin at o p r 1 0 (recordOf j) x (plain (i ∷ [])) z e refl (sym (append-nil _ ∙ q))
@@ -73,8 +73,8 @@ module _ (os : List ℕ) (begin at : ℕ) (o p : List ℕ) (r : Group) (x : Outc
       (i k : rules.Item) (j l : Item)
       → Puts o at p r 2 0 (recordOf j ++ recordOf l)
       → x ≡ ok (plain (i ∷ k ∷ []))
-      → itemRecord begin (begin + length os) i ≡ recordOf j
-      → itemRecord begin (begin + length os) k ≡ recordOf l
+      → itemWords begin (begin + length os) i ≡ recordOf j
+      → itemWords begin (begin + length os) k ≡ recordOf l
       → Makes os begin at o p r x
   unfolding plain concatMap
   makes-two i k j l z e q s =
@@ -339,7 +339,7 @@ module _
       flags-are :
           (n : ℕ)
           → flagWords whole (firstLetters name n)
-          ≡ concatMap (itemRecord begin (begin + length os)) (flagItems os (take n (characters (d .all))))
+          ≡ concatMap (itemWords begin (begin + length os)) (flagItems os (take n (characters (d .all))))
       flags-are n = rw all-letters (sym (flag-records begin (begin + length os) os whole (take n (characters (d .all))) all-text))
 
       pub one-letter : (c : ℕ) → r ≡ Single c → Puts o at p g 1 0 (recordOf (Short c false whole)) → Out
@@ -377,7 +377,7 @@ module _
           let place : n + 1 ≡ suc (length cs) = omega arith in
           makes os begin at o p g (n + 1) (n + 1) _ _ _ z (cluster-is (Ambiguous n) f)
           (ap₂ (λ (m a : ℕ). record { count = m; ambiguous = a; marker = false }) size place)
-          (sym (concat-append (itemRecord begin (begin + length os)) (flagItems os cs) (rules.Word os ∷ [])
+          (sym (concat-append (itemWords begin (begin + length os)) (flagItems os cs) (rules.Word os ∷ [])
           ∙ ap₂ (λ (v w : List ℕ). v ++ w) (sym (flags-are n)) (append-nil _ ∙ word-record begin (begin + length os) os whole all-text)))
 
       module _ (n c k : ℕ) (f : r ≡ Argument n c k) where
@@ -392,7 +392,7 @@ module _
             (m : ℕ) (w : List ℕ) (is : List rules.Item)
             → argumentItems os c (drop k name) ≡ is
             → m ≡ n + length is
-            → w ≡ concatMap (itemRecord begin (begin + length os)) is
+            → w ≡ concatMap (itemWords begin (begin + length os)) is
             → Puts o at p g m 0 (flagWords whole (firstLetters name n) ++ w)
             → Out
         unfolding clusterGroup clusterItems ambiguousAt cs
@@ -401,9 +401,9 @@ module _
             (ap (λ (j : ℕ). record { count = j; ambiguous = 0; marker = false })
             (let j : m ≡ length (flagItems os cs ++ argumentItems os c (drop k name)) =
             omega (arith, length-append (flagItems os cs) (argumentItems os c (drop k name)), ap length i, flags-count os cs, argument-count) in j))
-            (sym (concat-append (itemRecord begin (begin + length os)) (flagItems os cs) (argumentItems os c (drop k name))
+            (sym (concat-append (itemWords begin (begin + length os)) (flagItems os cs) (argumentItems os c (drop k name))
             ∙ ap₂ (λ (v w : List ℕ). v ++ w) (sym (flags-are n))
-            (ap (concatMap (itemRecord begin (begin + length os))) i ∙ sym q)))
+            (ap (concatMap (itemWords begin (begin + length os))) i ∙ sym q)))
 
         pub argument-alone :
             k + 1 ≡ length os

@@ -12,7 +12,7 @@ use Rattle.rules.specs.Base.{concatMap}
 use Rattle.rules.specs.Outcome.{Outcome, ok, refused, fault}
 use Rattle.rules.specs.Accept.{Letters}
 use Rattle.rules.specs.Codes.{placeCode}
-use Rattle.rules.specs.Split.{Letter, clusterFrom, itemRecord, shortGroup, Group as Meaning}
+use Rattle.rules.specs.Split.{Letter, clusterFrom, itemWords, shortGroup, Group as Meaning}
 use Rattle.arg.specs.declared.Part.{Part}
 use Rattle.arg.specs.declared.Item.the-variants.{Short}
 use Rattle.arg.specs.Clusters.{characters}
@@ -71,7 +71,7 @@ pub record Makes (os : List ℕ) (begin at : ℕ) (before after : List ℕ) (r :
   pub group : Meaning
   pub same : o ≡ ok group
   pub told≡ : r ≡ told group
-  pub words : after ≡ stored before at (length (group .items)) (concatMap (itemRecord begin (begin + length os)) (group .items))
+  pub words : after ≡ stored before at (length (group .items)) (concatMap (itemWords begin (begin + length os)) (group .items))
 
 -- a letter with a value, whatever letters the form has
 abbrev pub MakesValue : List ℕ → ℕ → ℕ → ℕ → List ℕ → List ℕ → Group → Type 0

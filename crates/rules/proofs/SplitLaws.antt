@@ -24,7 +24,7 @@ use Rattle.rules.specs.Split.{behindEquals, beforeEquals, parts, splitLo
 use Rattle.rules.specs.Split.{Letter, clusterFrom, Cluster, single, allFlags, argumentLetter, withdrawn, ambiguous}
 use Rattle.rules.specs.Split.{disambiguateShort, flagItems, clusterItems, ambiguousAt}
 use Rattle.rules.specs.Split.{Group, plain, clusterGroup, shortGroup, longGroup, partsGroup, wordGroup, splitArgument}
-use Rattle.rules.specs.Split.{Split, positionals, joined, splitFrom, itemsOf, partWords, textWords, itemRecord, recordsFrom}
+use Rattle.rules.specs.Split.{Split, positionals, joined, splitFrom, itemsOf, itemWords, recordWords, recordsFrom}
 use Rattle.rules.specs.State.{parsed}
 use Rattle.rules.specs.Run.{Line, parsedMark, tooMany, ambiguity, lineOf, split}
 use Rattle.rules.specs.Demands.{Good, hasMarker, placesLeft}
@@ -452,28 +452,15 @@ split-append l k (os ∷ rest) more x e free =
 
 -- ---- records
 
-parts-length : (offset n : ℕ) → length (partWords offset n) ≡ 2
-unfolding partWords
-parts-length offset n = if-elim (λ (l : List ℕ). length l ≡ 2) (eqb n 0) _ _ (λ e. refl) (λ e. refl)
+pub record-length : (begin end : ℕ) (x : Item) → length (itemWords begin end x) ≡ 7
+unfolding itemWords recordWords
+record-length begin end x = refl
 
-text-length : (end : ℕ) (t : List ℕ) → length (textWords end t) ≡ 2
-unfolding textWords
-text-length end t = parts-length (end - length t) (length t)
-
-pub record-length : (begin end : ℕ) (x : Item) → length (itemRecord begin end x) ≡ 7
-unfolding itemRecord
-record-length begin end (Short c a t) = rw (text-length end t)
-record-length begin end (Long n a t) =
-    rw (length-append (partWords (begin + 2) (length n)) (textWords end t), parts-length (begin + 2) (length n), text-length end t)
-record-length begin end (ArgWord t) = rw (text-length end t)
-record-length begin end (Word t) = rw (text-length end t)
-record-length begin end (PosWord t) = rw (text-length end t)
-
-group-length : (begin end : ℕ) (is : List Item) → length (concatMap (itemRecord begin end) is) ≡ 7 * length is
+group-length : (begin end : ℕ) (is : List Item) → length (concatMap (itemWords begin end) is) ≡ 7 * length is
 unfolding concatMap
 group-length begin end [] = refl
 group-length begin end (x ∷ is) =
-    let both = length-append (itemRecord begin end x) (concatMap (itemRecord begin end) is) in
+    let both = length-append (itemWords begin end x) (concatMap (itemWords begin end) is) in
     omega (arith, record-length begin end x, group-length begin end is)
 
 pub records-from-length :
@@ -487,7 +474,7 @@ records-from-length begin (os ∷ rest) (g ∷ gs) h =
     let end = begin + length os in
     omega (
       arith,
-      length-append (concatMap (itemRecord begin end) g) (recordsFrom end rest gs),
+      length-append (concatMap (itemWords begin end) g) (recordsFrom end rest gs),
       group-length begin end g,
       records-from-length end rest gs (omega arith),
       length-append g (flatten gs),

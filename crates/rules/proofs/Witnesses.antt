@@ -26,7 +26,7 @@ use Rattle.rules.specs.Tree.{fitting, repeatOf, fallbackValue, fallbackO
 use Rattle.rules.specs.Split.{dash, equals, beforeEquals, behindEquals, parts, splitLong, splitShort, behindDash, splitOsArgument}
 use Rattle.rules.specs.Split.{clusterFrom, pickLetter, lookUp, disambiguateShort, flagItems, argumentItems, clusterItems, ambiguousAt}
 use Rattle.rules.specs.Split.{plain, clusterGroup, shortGroup, longGroup, partsGroup, wordGroup, splitArgument, positionals, joined}
-use Rattle.rules.specs.Split.{splitFrom, itemsOf, bit, partWords, textWords, itemRecord, recordsFrom}
+use Rattle.rules.specs.Split.{splitFrom, itemsOf, recordWords, bit, partOffset, recordWith, itemRecord, itemWords, recordsFrom}
 use Rattle.rules.specs.State.{parsed, present, winner, construct, emptyState, inScope, presentAt, presentFrom, unused, get, findIn, find}
 use Rattle.rules.specs.State.{first, used, remove, withCurrent, pickFrom, pickWinner, conflicts, saveConflicts, conflictAt, conflict}
 use Rattle.rules.specs.State.{countPresent, setScope, untilPresent, proposed, adjacentScope, span, adjacentlyAvailableFrom, matchShort}

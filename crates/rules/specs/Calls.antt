@@ -13,7 +13,7 @@ use Rattle.rules.specs.Sheet.{sheetFault, sheetArea}
 use Rattle.rules.specs.Form.{Form, nameBytes, portable}
 use Rattle.rules.specs.Tree.{Named, Tree, Flag, Argument, Positional, Optional, Many, Some, Count, Last, Choice, Fallback, Guard, zeros, kindOf}
 use Rattle.rules.specs.Accept.{Accepted, accepted, refusedAt, checkForm}
-use Rattle.rules.specs.Split.{Item, Short, Long, ArgWord, Word, PosWord}
+use Rattle.rules.specs.Split.{Item, Short, Long, ArgWord, Word, PosWord, ItemRecord}
 use Rattle.rules.specs.State.{State, emptyState, parsed, stateGood, get, remove, Conflict, conflict, Picked, pickWinner, saveConflicts, Scope, setScope, adjacentScope, adjacentlyAvailableFrom, onlyOnce}
 use Rattle.rules.specs.Take.{Took, took, Taken, Operand, matchesArg, textOf, takeFlag, takeArg, takePositionalWord, takeCmd}
 use Rattle.rules.specs.Eval.{Ran, eval}
@@ -39,32 +39,45 @@ sliceIn least l = if leb least (length l) then ok l else refused (refuse 7)
 unfoldable pub partIn : List ℕ → ℕ → ℕ → Option (List ℕ)
 partIn area offset size = if leb (offset + size) (length area) then some (take size (drop offset area)) else none
 
-unfoldable pub shortFrom : List ℕ → List ℕ → Option Item
+unfoldable pub shortFrom : List ℕ → ItemRecord → Option Item
 shortFrom area r =
-    if leb (getD r 1 0) 1 && zeros (getD r 3 0 ∷ getD r 4 0 ∷ [])
-    then (partIn area (getD r 5 0) (getD r 6 0) >>? λ t. some (Short (getD r 2 0) (eqb (getD r 1 0) 1) t))
+    if leb (r .adjacent) 1 && zeros (r .nameOffset ∷ r .nameLength ∷ [])
+    then (partIn area (r .textOffset) (r .textLength) >>? λ t. some (Short (r .character) (eqb (r .adjacent) 1) t))
     else none
 
-unfoldable pub longFrom : List ℕ → List ℕ → Option Item
+unfoldable pub longFrom : List ℕ → ItemRecord → Option Item
 longFrom area r =
-    if leb (getD r 1 0) 1 && zeros (getD r 2 0 ∷ [])
-    then (partIn area (getD r 3 0) (getD r 4 0) >>? λ n.
-    partIn area (getD r 5 0) (getD r 6 0) >>? λ t. some (Long n (eqb (getD r 1 0) 1) t))
+    if leb (r .adjacent) 1 && zeros (r .character ∷ [])
+    then (partIn area (r .nameOffset) (r .nameLength) >>? λ n.
+    partIn area (r .textOffset) (r .textLength) >>? λ t. some (Long n (eqb (r .adjacent) 1) t))
     else none
 
-unfoldable pub wordFrom : (List ℕ → Item) → List ℕ → List ℕ → Option Item
+unfoldable pub wordFrom : (List ℕ → Item) → List ℕ → ItemRecord → Option Item
 wordFrom make area r =
-    if zeros (getD r 1 0 ∷ getD r 2 0 ∷ getD r 3 0 ∷ getD r 4 0 ∷ [])
-    then (partIn area (getD r 5 0) (getD r 6 0) >>? λ t. some (make t))
+    if zeros (r .adjacent ∷ r .character ∷ r .nameOffset ∷ r .nameLength ∷ [])
+    then (partIn area (r .textOffset) (r .textLength) >>? λ t. some (make t))
     else none
+
+-- the record that seven words are
+abbrev pub readRecord : List ℕ → ItemRecord
+readRecord w = record {
+  kind = getD w 0 0;
+  adjacent = getD w 1 0;
+  character = getD w 2 0;
+  nameOffset = getD w 3 0;
+  nameLength = getD w 4 0;
+  textOffset = getD w 5 0;
+  textLength = getD w 6 0;
+}
 
 unfoldable pub itemFrom : List ℕ → List ℕ → Option Item
-itemFrom area r =
-    if eqb (getD r 0 0) 1 then shortFrom area r else
-    (if eqb (getD r 0 0) 2 then longFrom area r else
-    (if eqb (getD r 0 0) 3 then wordFrom ArgWord area r else
-    (if eqb (getD r 0 0) 4 then wordFrom Word area r else
-    (if eqb (getD r 0 0) 5 then wordFrom PosWord area r else none))))
+itemFrom area w =
+    let r = readRecord w in
+    if eqb (r .kind) 1 then shortFrom area r else
+    (if eqb (r .kind) 2 then longFrom area r else
+    (if eqb (r .kind) 3 then wordFrom ArgWord area r else
+    (if eqb (r .kind) 4 then wordFrom Word area r else
+    (if eqb (r .kind) 5 then wordFrom PosWord area r else none))))
 
 -- The items of a slice are all its whole records up to the last that is not all 0; words behind the last whole one must be 0
 unfoldable pub recordsIn : ℕ → List ℕ → List (List ℕ)

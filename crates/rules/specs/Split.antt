@@ -212,28 +212,53 @@ unfoldable pub itemsOf : Split → List Item
 itemsOf s = flatten (s .groups)
 
 -- ---- item records
--- Seven u32: kind, adjacent, character, name offset and length, text offset and length. Unused words are 0
+-- Seven u32. Unused ones are 0
+pub record ItemRecord : Type 0 where
+  pub kind : ℕ
+  pub adjacent : ℕ
+  pub character : ℕ
+  pub nameOffset : ℕ
+  pub nameLength : ℕ
+  pub textOffset : ℕ
+  pub textLength : ℕ
+
+unfoldable pub recordWords : ItemRecord → List ℕ
+recordWords r =
+    r .kind ∷ r .adjacent ∷ r .character ∷ r .nameOffset ∷ r .nameLength ∷ r .textOffset ∷ r .textLength ∷ []
+
 unfoldable pub bit : Bool → ℕ
 bit b = if b then 1 else 0
 
--- an empty part has offset 0; a text is the end of its argument
-unfoldable pub partWords : ℕ → ℕ → List ℕ
-partWords offset size = if eqb size 0 then 0 ∷ 0 ∷ [] else offset ∷ size ∷ []
+-- an empty part has offset 0
+unfoldable pub partOffset : ℕ → ℕ → ℕ
+partOffset offset size = if eqb size 0 then 0 else offset
 
-unfoldable pub textWords : ℕ → List ℕ → List ℕ
-textWords end t = partWords (end - length t) (length t)
+-- an argument begins and ends at these offsets of the area: a name stands behind its two dashes, a text is the end of it
+unfoldable pub recordWith : ℕ → ℕ → (kind adjacent character : ℕ) → (name text : List ℕ) → ItemRecord
+recordWith begin end kind adjacent character n t = record {
+  kind = kind;
+  adjacent = adjacent;
+  character = character;
+  nameOffset = partOffset (begin + 2) (length n);
+  nameLength = length n;
+  textOffset = partOffset (end - length t) (length t);
+  textLength = length t;
+}
 
--- the record of an item whose argument begins and ends at these offsets of the area
-unfoldable pub itemRecord : ℕ → ℕ → Item → List ℕ
-itemRecord begin end (Short c a t) = 1 ∷ bit a ∷ c ∷ 0 ∷ 0 ∷ textWords end t
-itemRecord begin end (Long n a t) = 2 ∷ bit a ∷ 0 ∷ (partWords (begin + 2) (length n) ++ textWords end t)
-itemRecord begin end (ArgWord t) = 3 ∷ 0 ∷ 0 ∷ 0 ∷ 0 ∷ textWords end t
-itemRecord begin end (Word t) = 4 ∷ 0 ∷ 0 ∷ 0 ∷ 0 ∷ textWords end t
-itemRecord begin end (PosWord t) = 5 ∷ 0 ∷ 0 ∷ 0 ∷ 0 ∷ textWords end t
+-- only Short has a character, only Long a name
+unfoldable pub itemRecord : ℕ → ℕ → Item → ItemRecord
+itemRecord begin end (Short c a t) = recordWith begin end 1 (bit a) c [] t
+itemRecord begin end (Long n a t) = recordWith begin end 2 (bit a) 0 n t
+itemRecord begin end (ArgWord t) = recordWith begin end 3 0 0 [] t
+itemRecord begin end (Word t) = recordWith begin end 4 0 0 [] t
+itemRecord begin end (PosWord t) = recordWith begin end 5 0 0 [] t
+
+unfoldable pub itemWords : ℕ → ℕ → Item → List ℕ
+itemWords begin end x = recordWords (itemRecord begin end x)
 
 -- the records of the groups, the first of whose arguments begins at an offset
 unfoldable pub recordsFrom : ℕ → List (List ℕ) → List (List Item) → List ℕ
 recordsFrom begin arguments [] = []
 recordsFrom begin [] (g ∷ gs) = []
 recordsFrom begin (os ∷ rest) (g ∷ gs) =
-    concatMap (itemRecord begin (begin + length os)) g ++ recordsFrom (begin + length os) rest gs
+    concatMap (itemWords begin (begin + length os)) g ++ recordsFrom (begin + length os) rest gs

@@ -15,7 +15,7 @@ use Rattle.rules.specs.Outcome.{ok}
 use Rattle.rules.specs.Sheet.{sheetArea, sheetFault, arguments}
 use Rattle.rules.specs.Form.{Form}
 use Rattle.rules.specs.Accept.{lettersOf}
-use Rattle.rules.specs.Split.{Item, Short, Long, ArgWord, Word, PosWord, partWords, itemRecord, recordsFrom, Split, splitFrom, itemsOf}
+use Rattle.rules.specs.Split.{Item, Short, Long, ArgWord, Word, PosWord, itemWords, recordsFrom, Split, splitFrom, itemsOf}
 use Rattle.rules.specs.State.{construct}
 use Rattle.rules.specs.Run.{Line, split, lineOf, tooMany, parsedMark, padded}
 use Rattle.rules.specs.Calls.{partIn, itemFrom}
@@ -26,7 +26,7 @@ use Rattle.arg.specs.declared.Part.{Part}
 use Rattle.arg.specs.declared.Item.the-variants as code
 use Rattle.arg.specs.Items.{partOf}
 use Rattle.arg.proofs.Records.{from-record}
-use Rattle.groups.proofs.Records.{TextIs, text-from, name-from, short-record, long-record, arg-word-record, word-record, pos-word-record}
+use Rattle.groups.proofs.Records.{PartIs, TextIs, text-from, name-from, short-record, long-record, arg-word-record, word-record, pos-word-record}
 use Rattle.named.specs.Items.{Table}
 use Rattle.runner.proofs.Within.{Suffix, Within, AllWithin, bind-ok, splits-in}
 
@@ -99,14 +99,14 @@ module _ (pre os post : List ℕ) (begin : ℕ) (b : length pre ≡ begin) where
         (suffix-part (w .0) (w .1) ∙ ap some (w .2))
 
   -- the record of an item gives it back
-  item-back : (x : Item) → Within os x → itemFrom area (itemRecord begin (begin + length os) x) ≡ some x
+  item-back : (x : Item) → Within os x → itemFrom area (itemWords begin (begin + length os) x) ≡ some x
   unfolding _>>?_
   item-back (Short c a t) w =
       rw (short-record begin (begin + length os) t (part t w) (text-is t w) c a, from-record area (code.Short c a (part t w)), text-back t w)
   item-back (Long n a t) (v, w) =
       let q : Part = partOf (begin + 2) (v .0 + 2 - 2) in
-      let words : partWords (begin + 2) (length n) ≡ q .offset ∷ q .length ∷ [] =
-      subst (λ (u : List ℕ). partWords (begin + 2) (length u) ≡ q .offset ∷ q .length ∷ []) (v .2) (name-from os begin (v .0) q (v .1) refl) in
+      let words : PartIs (begin + 2) (length n) q =
+      subst (λ (u : List ℕ). PartIs (begin + 2) (length u) q) (v .2) (name-from os begin (v .0) q (v .1) refl) in
       let long : length n ≡ v .0 + 2 - 2 =
       sym (ap length (v .2)) ∙ length-take-le (v .0) (drop 2 os) (omega (arith, length-drop 2 os, v .1)) ∙ omega arith in
       let name : partIn area (q .offset) (q .length) ≡ some n =
@@ -137,12 +137,12 @@ module _ (pre os post : List ℕ) (begin : ℕ) (b : length pre ≡ begin) where
       (g : List Item) (w : List ℕ) (is : List Item)
       → All (Within os) g
       → Recorded (pre ++ (os ++ post)) w is
-      → Recorded (pre ++ (os ++ post)) (concatMap (itemRecord begin (begin + length os)) g ++ w) (g ++ is)
+      → Recorded (pre ++ (os ++ post)) (concatMap (itemWords begin (begin + length os)) g ++ w) (g ++ is)
   unfolding concatMap
   recorded-group [] w is h later = later
   recorded-group (x ∷ g) w is h later =
-      rw (append-assoc (itemRecord begin (begin + length os) x) (concatMap (itemRecord begin (begin + length os)) g) w)
-      (recorded-more (pre ++ (os ++ post)) (itemRecord begin (begin + length os) x) _ x (g ++ is)
+      rw (append-assoc (itemWords begin (begin + length os) x) (concatMap (itemWords begin (begin + length os)) g) w)
+      (recorded-more (pre ++ (os ++ post)) (itemWords begin (begin + length os) x) _ x (g ++ is)
       (record-length begin (begin + length os) x) (item-back pre os post begin b x (h .0)) (recorded-group g w is (h .1) later))
 
 recorded-all :
@@ -159,7 +159,7 @@ recorded-all pre begin (os ∷ args) (g ∷ gs) rest b h =
     let later : Recorded (pre ++ (os ++ flatten args)) (recordsFrom end args gs ++ rest) (flatten gs) =
     subst (λ (l : List ℕ). Recorded l (recordsFrom end args gs ++ rest) (flatten gs)) (append-assoc pre os (flatten args))
     (recorded-all (pre ++ os) end args gs rest long (h .1)) in
-    rw (append-assoc (concatMap (itemRecord begin end) g) (recordsFrom end args gs) rest)
+    rw (append-assoc (concatMap (itemWords begin end) g) (recordsFrom end args gs) rest)
     (recorded-group pre os (flatten args) begin b g (recordsFrom end args gs ++ rest) (flatten gs) (h .0) later)
 
 -- ---- a line

@@ -16,7 +16,7 @@ use Rattle.rules.specs.Base.{all, isSome, _>>?_}
 use Rattle.rules.specs.Tree.{zeros}
 use Rattle.rules.specs.Split.{Item, Short, Long, ArgWord, PosWord}
 use Rattle.rules.specs.Split as rules
-use Rattle.rules.specs.Calls.{partIn, shortFrom, longFrom, wordFrom, itemFrom, itemsFrom, recordsIn, trimmed}
+use Rattle.rules.specs.Calls.{partIn, readRecord, shortFrom, longFrom, wordFrom, itemFrom, itemsFrom, recordsIn, trimmed}
 use Rattle.arg.specs.Items.{recordAt}
 use Rattle.table.specs.Given.{Trims}
 
@@ -94,25 +94,25 @@ module _ (bytes r : List ℕ) where
   abbrev text : Bool
   text = leb (getD r 5 0 + getD r 6 0) (length bytes)
 
-  short-some : isSome (shortFrom bytes r) ≡ ((leb (getD r 1 0) 1 && zeros (getD r 3 0 ∷ getD r 4 0 ∷ [])) && text)
+  short-some : isSome (shortFrom bytes (readRecord r)) ≡ ((leb (getD r 1 0) 1 && zeros (getD r 3 0 ∷ getD r 4 0 ∷ [])) && text)
   unfolding shortFrom
   short-some = some-if _ _ ∙ rw (some-part bytes (getD r 5 0) (getD r 6 0) (Short (getD r 2 0) (eqb (getD r 1 0) 1)))
 
-  long-some : isSome (longFrom bytes r) ≡ ((leb (getD r 1 0) 1 && zeros (getD r 2 0 ∷ [])) && (leb (getD r 3 0 + getD r 4 0) (length bytes) && text))
+  long-some : isSome (longFrom bytes (readRecord r)) ≡ ((leb (getD r 1 0) 1 && zeros (getD r 2 0 ∷ [])) && (leb (getD r 3 0 + getD r 4 0) (length bytes) && text))
   unfolding longFrom
   long-some = some-if _ _
       ∙ rw (some-parts bytes (getD r 3 0) (getD r 4 0) _ text (λ n. some-part bytes (getD r 5 0) (getD r 6 0) (Long n (eqb (getD r 1 0) 1))))
 
-  word-some : (make : List ℕ → Item) → isSome (wordFrom make bytes r) ≡ (zeros (getD r 1 0 ∷ getD r 2 0 ∷ getD r 3 0 ∷ getD r 4 0 ∷ []) && text)
+  word-some : (make : List ℕ → Item) → isSome (wordFrom make bytes (readRecord r)) ≡ (zeros (getD r 1 0 ∷ getD r 2 0 ∷ getD r 3 0 ∷ getD r 4 0 ∷ []) && text)
   unfolding wordFrom
   word-some make = some-if _ _ ∙ rw (some-part bytes (getD r 5 0) (getD r 6 0) make)
 
   -- by kind
-  kind-short : getD r 0 0 ≡ 1 → isSome (itemFrom bytes r) ≡ isSome (shortFrom bytes r)
+  kind-short : getD r 0 0 ≡ 1 → isSome (itemFrom bytes r) ≡ isSome (shortFrom bytes (readRecord r))
   unfolding itemFrom if_then_else_
   kind-short e = rw e
 
-  kind-long : getD r 0 0 ≡ 2 → isSome (itemFrom bytes r) ≡ isSome (longFrom bytes r)
+  kind-long : getD r 0 0 ≡ 2 → isSome (itemFrom bytes r) ≡ isSome (longFrom bytes (readRecord r))
   unfolding itemFrom if_then_else_
   kind-long e = rw e
 
@@ -120,7 +120,7 @@ module _ (bytes r : List ℕ) where
   Word = isSome (itemFrom bytes r) ≡ (zeros (getD r 1 0 ∷ getD r 2 0 ∷ getD r 3 0 ∷ getD r 4 0 ∷ []) && text)
 
   kind-word : 3 ≤ getD r 0 0 → getD r 0 0 ≤ 5 → Word
-  unfolding itemFrom if_then_else_
+  unfolding itemFrom wordFrom if_then_else_
   kind-word l h = ⊎-elim
       (λ (e : 3 ≡ getD r 0 0). rw (sym e) (word-some ArgWord))
       (λ (m : 3 < getD r 0 0). ⊎-elim
@@ -146,7 +146,7 @@ module _ (bytes r : List ℕ) where
       (none-here _ _ _ (long-some ∙ rw (e, ← and-nothing (leb (getD r 3 0 + getD r 4 0) (length bytes)), ← and-nothing (leb (getD r 1 0) 1 && zeros (getD r 2 0 ∷ []))))
       (none-here _ _ _ (word ArgWord) (none-here _ _ _ (word rules.Word) (none-here _ _ _ (word PosWord) refl))))
     where
-      word : (make : List ℕ → Item) → isSome (wordFrom make bytes r) ≡ false
+      word : (make : List ℕ → Item) → isSome (wordFrom make bytes (readRecord r)) ≡ false
       word make = word-some make ∙ rw (e, ← and-nothing (zeros (getD r 1 0 ∷ getD r 2 0 ∷ getD r 3 0 ∷ getD r 4 0 ∷ [])))
 
   -- what the code tests

@@ -15,7 +15,7 @@ use Rattle.rules.specs.Base.{_>>?_}
 use Rattle.rules.specs.Sheet.{argumentCount, sheetArea}
 use Rattle.rules.specs.Split.{Item, Short, Long, ArgWord, Word, PosWord}
 use Rattle.rules.specs.Take.{textOf}
-use Rattle.rules.specs.Calls.{partIn, shortFrom, longFrom, wordFrom, itemFrom}
+use Rattle.rules.specs.Calls.{partIn, readRecord, shortFrom, longFrom, wordFrom, itemFrom}
 use Rattle.rules.proofs.Acceptance.{if-some, branch, bind-some}
 use Rattle.rules.proofs.Formats.{good-sheet}
 use Rattle.arg.specs.Items.{recordAt}
@@ -45,16 +45,16 @@ module _ (area : List ℕ) (offset size : ℕ) (x : Item) where
 item-text : (area r : List ℕ) (x : Item) → itemFrom area r ≡ some x → TextIn area (getD r 5 0) (getD r 6 0) x
 unfolding itemFrom shortFrom longFrom wordFrom textOf
 item-text area r x e =
-    let word : (make : List ℕ → Item) → ((t : List ℕ) → textOf (make t) ≡ t) → wordFrom make area r ≡ some x → TextIn area (getD r 5 0) (getD r 6 0) x =
+    let word : (make : List ℕ → Item) → ((t : List ℕ) → textOf (make t) ≡ t) → wordFrom make area (readRecord r) ≡ some x → TextIn area (getD r 5 0) (getD r 6 0) x =
     λ make is h. part-made area (getD r 5 0) (getD r 6 0) x make is (if-some _ _ h .1) in
-    branch (eqb (getD r 0 0) 1) (shortFrom area r) _
+    branch (eqb (getD r 0 0) 1) (shortFrom area (readRecord r)) _
     (λ _ h. part-made area (getD r 5 0) (getD r 6 0) x (Short (getD r 2 0) (eqb (getD r 1 0) 1)) (λ _. refl) (if-some _ _ h .1))
-    (branch (eqb (getD r 0 0) 2) (longFrom area r) _
+    (branch (eqb (getD r 0 0) 2) (longFrom area (readRecord r)) _
     (λ _ h.
     let f = bind-some _ _ (if-some _ _ h .1) in
     part-made area (getD r 5 0) (getD r 6 0) x (Long (f .0) (eqb (getD r 1 0) 1)) (λ _. refl) (f .2))
-    (branch (eqb (getD r 0 0) 3) (wordFrom ArgWord area r) _ (λ _. word ArgWord (λ _. refl))
-    (branch (eqb (getD r 0 0) 4) (wordFrom Word area r) _ (λ _. word Word (λ _. refl))
+    (branch (eqb (getD r 0 0) 3) (wordFrom ArgWord area (readRecord r)) _ (λ _. word ArgWord (λ _. refl))
+    (branch (eqb (getD r 0 0) 4) (wordFrom Word area (readRecord r)) _ (λ _. word Word (λ _. refl))
     (λ h. word PosWord (λ _. refl) (if-some _ _ h .1))))) e
 
 module _
