@@ -64,12 +64,14 @@ unfolding visit
 visit-sound {M} {n} t {s} {r} g e =
     let w = e .went in
     let end = fine-faultless M (s .remaining + 1) (kindOf t) (r .outcome) (w .ends) in
-    record { went = record {
-      step = w .step;
-      ends = w .ends;
-      passed = All-append (Visited M n) (r .trace) _ (w .passed) (record { given = g; left = w .step .good; faultless = end }, tt);
-      cost = w .cost;
-    } }
+    record {
+      went = record {
+        step = w .step;
+        ends = w .ends;
+        passed = All-append (Visited M n) (r .trace) _ (w .passed) (record { given = g; left = w .step .good; faultless = end }, tt);
+        cost = w .cost;
+      };
+    }
 
 -- ---- kinds 1 to 3
 pub leaf-went :

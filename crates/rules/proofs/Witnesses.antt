@@ -13,31 +13,35 @@ use Rattle.rules.specs.Accept.{Letters}
 use Rattle.rules.specs.Split.{Item, Short, Word}
 use Rattle.rules.specs.State.{State}
 use Rattle.rules.specs.Eval.{Visit}
-use Rattle.utf8.specs.Utf8.{if_then_else_, table, holds, fits, leadBits, continued, scalar, decodeBy, decode, decodeAt, wellFormedAfter}
-use Rattle.utf8.specs.Utf8.{wellFormed}
-use Rattle.rules.specs.Base.{null, all, contains, same, occurrences, numbers, concatMap, firstFault, isSome, _>>?_, minus, write}
-use Rattle.rules.specs.Base.{sliceFrom, slice}
+use Rattle.utf8.specs.Utf8.{if_then_else_, table, holds, fits, leadBits, continued, scalar, decodeBy, decode, decodeAt}
+use Rattle.utf8.specs.Utf8.{wellFormedAfter, wellFormed}
+use Rattle.rules.specs.Base.{null, all, contains, same, occurrences, numbers, concatMap, firstFault, isSome, _>>?_, minus}
+use Rattle.rules.specs.Base.{write, sliceFrom, slice}
 use Rattle.rules.specs.Outcome.{_>>=_, at, refuse, refuseAt, isMissing, canCatch, wrongInput, combineWith}
-use Rattle.rules.specs.Value.{listOf, baseNumber, sameBase, baseOf, isBase, isOptional, isList, hasKind, word, size, answerWords, words}
-use Rattle.rules.specs.Value.{elements, ofKind, basesOf}
-use Rattle.rules.specs.Tree.{optionalKind, listKind, countKind, lastKind, shapeOf, innerBase, sameKind, choiceKind, baseKind, kindOf}
-use Rattle.rules.specs.Tree.{hasRepeat, zeros, namesOf, shortOf, longOf, namedBy, namedOf, flagOf, argumentOf, positionOf, positionalOf}
-use Rattle.rules.specs.Tree.{fitting, repeatOf, fallbackValue, fallbackOf, guardOf, childOf, caughtOf, choiceOf, treeOf}
-use Rattle.rules.specs.Split.{dash, equals, beforeEquals, behindEquals, parts, splitLong, splitShort, behindDash, splitOsArgument}
-use Rattle.rules.specs.Split.{clusterFrom, pickLetter, lookUp, disambiguateShort, flagItems, argumentItems, clusterItems, ambiguousAt}
-use Rattle.rules.specs.Split.{plain, clusterGroup, shortGroup, longGroup, partsGroup, wordGroup, splitArgument, positionals, joined}
-use Rattle.rules.specs.Split.{splitFrom, itemsOf, recordWords, bit, partOffset, recordWith, itemRecord, itemWords, recordsFrom}
-use Rattle.rules.specs.State.{parsed, present, winner, construct, emptyState, inScope, presentAt, presentFrom, unused, get, findIn, find}
-use Rattle.rules.specs.State.{first, used, remove, withCurrent, pickFrom, pickWinner, conflicts, saveConflicts, conflictAt, conflict}
-use Rattle.rules.specs.State.{countPresent, setScope, untilPresent, proposed, adjacentScope, span, adjacentlyAvailableFrom, matchShort}
-use Rattle.rules.specs.State.{matchLong, position, sameName, before, onlyOnce, markGood, currentGood, stateGood}
-use Rattle.rules.specs.Take.{took, containsName, matchesArg, takeFlag, valueText, takeValue, takeArg, isOperand, isPosWord, textOf}
-use Rattle.rules.specs.Take.{operand, takePositionalWord, commandText, isCommand, takeCommand, takeCmd}
+use Rattle.rules.specs.Value.{listOf, baseNumber, sameBase, baseOf, isBase, isOptional, isList, hasKind, ofKind, basesOf}
+use Rattle.rules.specs.Value.{word, size, answerWords, words, elements}
+use Rattle.rules.specs.Tree.{optionalKind, listKind, countKind, lastKind, shapeOf, innerBase, sameKind, choiceKind}
+use Rattle.rules.specs.Tree.{baseKind, kindOf, hasRepeat, zeros, namesOf, shortOf, longOf, namedBy, namedOf, flagOf}
+use Rattle.rules.specs.Tree.{argumentOf, positionOf, positionalOf, fitting, repeatOf, fallbackValue, fallbackOf, guardOf}
+use Rattle.rules.specs.Tree.{childOf, caughtOf, choiceOf, treeOf}
+use Rattle.rules.specs.Split.{dash, equals, beforeEquals, behindEquals, parts, splitLong, shortBody, splitShort, behindDash}
+use Rattle.rules.specs.Split.{splitOsArgument, clusterFrom, pickLetter, lookUp, disambiguateShort, flagItems, argumentItems}
+use Rattle.rules.specs.Split.{clusterItems, ambiguousAt, plain, clusterGroup, shortGroup, longGroup, partsGroup, wordGroup}
+use Rattle.rules.specs.Split.{splitArgument, positionals, joined, splitFrom, itemsOf, recordWords, bit, partOffset}
+use Rattle.rules.specs.Split.{recordWith, itemRecord, itemWords, recordsFrom}
+use Rattle.rules.specs.State.{parsed, present, winner, construct, emptyState, inScope, presentAt, presentFrom, unused, get}
+use Rattle.rules.specs.State.{findIn, find, first, used, remove, withCurrent, pickFrom, pickWinner, conflicts}
+use Rattle.rules.specs.State.{saveConflicts, conflictAt, conflict, countPresent, setScope, untilPresent, proposed}
+use Rattle.rules.specs.State.{adjacentScope, span, adjacentlyAvailableFrom, matchShort, matchLong, position, sameName}
+use Rattle.rules.specs.State.{before, onlyOnce, markGood, currentGood, stateGood}
+use Rattle.rules.specs.Take.{took, containsName, matchesArg, takeFlag, valueText, takeValue, takeArg, isOperand, isPosWord}
+use Rattle.rules.specs.Take.{textOf, operand, takePositionalWord, commandText, isCommand, takeCommand, takeCmd}
 use Rattle.rules.specs.Eval.{ended, after, _then_, visit, statesOf, leaf, refuseMissing, shownName, notFound, flagValue}
-use Rattle.rules.specs.Eval.{evalFlag, isDigit, digits, unsigned, numberOf, failedAt, parseText, argumentValue, evalArgument}
-use Rattle.rules.specs.Eval.{wrongPosition, placedValue, positionalValue, evalPositional, fewer, swallowed, parseOption, evalOptional}
-use Rattle.rules.specs.Eval.{idle, repeat, repeated, evalMany, evalSome, evalCount, lastOf, evalLast, valueOf, side, picksFirst, picked}
-use Rattle.rules.specs.Eval.{won, chosen, evalChoice, evalFallback, guarded, evalGuard, eval}
+use Rattle.rules.specs.Eval.{evalFlag, isDigit, digits, unsigned, numberOf, failedAt, parseText, argumentValue}
+use Rattle.rules.specs.Eval.{evalArgument, wrongPosition, placedValue, positionalValue, evalPositional, fewer, swallowed}
+use Rattle.rules.specs.Eval.{parseOption, evalOptional, idle, repeat, repeated, evalMany, evalSome, evalCount, lastOf}
+use Rattle.rules.specs.Eval.{evalLast, side, picksFirst, won, valueOf, picked, chosen, evalChoice, evalFallback, guarded}
+use Rattle.rules.specs.Eval.{evalGuard, eval}
 
 -- ---- what the lines below run on
 unfoldable named-v : Named
@@ -140,7 +144,7 @@ spots :
     × (ofKind none (there absent) ≡ false)
     -- a repeat with one turn's fuel
     × (repeat false false 1 none (eval 1 flagItem (Flag 0 named-v true)) (forged (0 ∷ []) 1 0 1) .outcome ≡ fault endless)
-unfolding xor if_then_else_ table holds fits leadBits continued scalar decodeBy decode decodeAt wellFormedAfter wellFormed null all contains same occurrences numbers concatMap firstFault isSome _>>?_ minus write sliceFrom slice _>>=_ at refuse refuseAt isMissing canCatch wrongInput combineWith listOf baseNumber sameBase baseOf isBase isOptional isList hasKind ofKind basesOf word size answerWords words elements optionalKind listKind countKind lastKind shapeOf innerBase sameKind choiceKind baseKind kindOf hasRepeat zeros namesOf shortOf longOf namedBy namedOf flagOf argumentOf positionOf positionalOf fitting repeatOf fallbackValue fallbackOf guardOf childOf caughtOf choiceOf treeOf dash equals beforeEquals behindEquals parts splitLong splitShort behindDash splitOsArgument clusterFrom pickLetter lookUp disambiguateShort flagItems argumentItems clusterItems ambiguousAt plain clusterGroup shortGroup longGroup partsGroup wordGroup splitArgument positionals joined splitFrom itemsOf bit partWords textWords itemRecord recordsFrom parsed present winner construct emptyState inScope presentAt presentFrom unused get findIn find first used remove withCurrent pickFrom pickWinner conflicts saveConflicts conflictAt conflict countPresent setScope untilPresent proposed adjacentScope span adjacentlyAvailableFrom matchShort matchLong position sameName before onlyOnce markGood currentGood stateGood took containsName matchesArg takeFlag valueText takeValue takeArg isOperand isPosWord textOf operand takePositionalWord commandText isCommand takeCommand takeCmd ended after _then_ visit statesOf leaf refuseMissing shownName notFound flagValue evalFlag isDigit digits unsigned numberOf failedAt parseText argumentValue evalArgument wrongPosition placedValue positionalValue evalPositional fewer swallowed parseOption evalOptional idle repeat repeated evalMany evalSome evalCount lastOf evalLast valueOf side picksFirst picked won chosen evalChoice evalFallback guarded evalGuard eval named-v named-q flagItem twoItems valueItems wordItem fresh after-one after-zero after-choice one-word word-used nothing forged noNames noLetters visited gaveYes missingV
+unfolding xor if_then_else_ table holds fits leadBits continued scalar decodeBy decode decodeAt wellFormedAfter wellFormed null all contains same occurrences numbers concatMap firstFault isSome _>>?_ minus write sliceFrom slice _>>=_ at refuse refuseAt isMissing canCatch wrongInput combineWith listOf baseNumber sameBase baseOf isBase isOptional isList hasKind ofKind basesOf word size answerWords words elements optionalKind listKind countKind lastKind shapeOf innerBase sameKind choiceKind baseKind kindOf hasRepeat zeros namesOf shortOf longOf namedBy namedOf flagOf argumentOf positionOf positionalOf fitting repeatOf fallbackValue fallbackOf guardOf childOf caughtOf choiceOf treeOf dash equals beforeEquals behindEquals parts splitLong shortBody splitShort behindDash splitOsArgument clusterFrom pickLetter lookUp disambiguateShort flagItems argumentItems clusterItems ambiguousAt plain clusterGroup shortGroup longGroup partsGroup wordGroup splitArgument positionals joined splitFrom itemsOf recordWords bit partOffset recordWith itemRecord itemWords recordsFrom parsed present winner construct emptyState inScope presentAt presentFrom unused get findIn find first used remove withCurrent pickFrom pickWinner conflicts saveConflicts conflictAt conflict countPresent setScope untilPresent proposed adjacentScope span adjacentlyAvailableFrom matchShort matchLong position sameName before onlyOnce markGood currentGood stateGood took containsName matchesArg takeFlag valueText takeValue takeArg isOperand isPosWord textOf operand takePositionalWord commandText isCommand takeCommand takeCmd ended after _then_ visit statesOf leaf refuseMissing shownName notFound flagValue evalFlag isDigit digits unsigned numberOf failedAt parseText argumentValue evalArgument wrongPosition placedValue positionalValue evalPositional fewer swallowed parseOption evalOptional idle repeat repeated evalMany evalSome evalCount lastOf evalLast side picksFirst won valueOf picked chosen evalChoice evalFallback guarded evalGuard eval named-v named-q flagItem twoItems valueItems wordItem fresh after-one after-zero after-choice one-word word-used nothing forged noNames noLetters visited gaveYes missingV
 spots = (refl, refl, refl, refl, refl, refl, refl, refl, refl, refl, refl, refl, refl, refl, refl, refl, refl, refl, refl)
 
 -- ---- states passed through
@@ -164,7 +168,7 @@ passed-through :
     ≡ (visited yesNo one-word gaveYes word-used
     ∷ record { kind = none; given = one-word; outcome = fault wrongKind; left = word-used }
     ∷ []))
-unfolding xor if_then_else_ table holds fits leadBits continued scalar decodeBy decode decodeAt wellFormedAfter wellFormed null all contains same occurrences numbers concatMap firstFault isSome _>>?_ minus write sliceFrom slice _>>=_ at refuse refuseAt isMissing canCatch wrongInput combineWith listOf baseNumber sameBase baseOf isBase isOptional isList hasKind ofKind basesOf word size answerWords words elements optionalKind listKind countKind lastKind shapeOf innerBase sameKind choiceKind baseKind kindOf hasRepeat zeros namesOf shortOf longOf namedBy namedOf flagOf argumentOf positionOf positionalOf fitting repeatOf fallbackValue fallbackOf guardOf childOf caughtOf choiceOf treeOf dash equals beforeEquals behindEquals parts splitLong splitShort behindDash splitOsArgument clusterFrom pickLetter lookUp disambiguateShort flagItems argumentItems clusterItems ambiguousAt plain clusterGroup shortGroup longGroup partsGroup wordGroup splitArgument positionals joined splitFrom itemsOf bit partWords textWords itemRecord recordsFrom parsed present winner construct emptyState inScope presentAt presentFrom unused get findIn find first used remove withCurrent pickFrom pickWinner conflicts saveConflicts conflictAt conflict countPresent setScope untilPresent proposed adjacentScope span adjacentlyAvailableFrom matchShort matchLong position sameName before onlyOnce markGood currentGood stateGood took containsName matchesArg takeFlag valueText takeValue takeArg isOperand isPosWord textOf operand takePositionalWord commandText isCommand takeCommand takeCmd ended after _then_ visit statesOf leaf refuseMissing shownName notFound flagValue evalFlag isDigit digits unsigned numberOf failedAt parseText argumentValue evalArgument wrongPosition placedValue positionalValue evalPositional fewer swallowed parseOption evalOptional idle repeat repeated evalMany evalSome evalCount lastOf evalLast valueOf side picksFirst picked won chosen evalChoice evalFallback guarded evalGuard eval named-v named-q flagItem twoItems valueItems wordItem fresh after-one after-zero after-choice one-word word-used nothing forged noNames noLetters visited gaveYes missingV
+unfolding xor if_then_else_ table holds fits leadBits continued scalar decodeBy decode decodeAt wellFormedAfter wellFormed null all contains same occurrences numbers concatMap firstFault isSome _>>?_ minus write sliceFrom slice _>>=_ at refuse refuseAt isMissing canCatch wrongInput combineWith listOf baseNumber sameBase baseOf isBase isOptional isList hasKind ofKind basesOf word size answerWords words elements optionalKind listKind countKind lastKind shapeOf innerBase sameKind choiceKind baseKind kindOf hasRepeat zeros namesOf shortOf longOf namedBy namedOf flagOf argumentOf positionOf positionalOf fitting repeatOf fallbackValue fallbackOf guardOf childOf caughtOf choiceOf treeOf dash equals beforeEquals behindEquals parts splitLong shortBody splitShort behindDash splitOsArgument clusterFrom pickLetter lookUp disambiguateShort flagItems argumentItems clusterItems ambiguousAt plain clusterGroup shortGroup longGroup partsGroup wordGroup splitArgument positionals joined splitFrom itemsOf recordWords bit partOffset recordWith itemRecord itemWords recordsFrom parsed present winner construct emptyState inScope presentAt presentFrom unused get findIn find first used remove withCurrent pickFrom pickWinner conflicts saveConflicts conflictAt conflict countPresent setScope untilPresent proposed adjacentScope span adjacentlyAvailableFrom matchShort matchLong position sameName before onlyOnce markGood currentGood stateGood took containsName matchesArg takeFlag valueText takeValue takeArg isOperand isPosWord textOf operand takePositionalWord commandText isCommand takeCommand takeCmd ended after _then_ visit statesOf leaf refuseMissing shownName notFound flagValue evalFlag isDigit digits unsigned numberOf failedAt parseText argumentValue evalArgument wrongPosition placedValue positionalValue evalPositional fewer swallowed parseOption evalOptional idle repeat repeated evalMany evalSome evalCount lastOf evalLast side picksFirst won valueOf picked chosen evalChoice evalFallback guarded evalGuard eval named-v named-q flagItem twoItems valueItems wordItem fresh after-one after-zero after-choice one-word word-used nothing forged noNames noLetters visited gaveYes missingV
 passed-through = (refl, refl, refl, refl, refl)
 
 -- ---- decisions that are easily made otherwise
@@ -177,5 +181,5 @@ decided :
     -- and so does one on the other side
     × (eval 1 flagItem (Choice (Fallback (isNumber 9) (Argument 1 named-q number false)) (Argument 0 named-v number false)) one-word .outcome
     ≡ refused (refuseAt 22 0))
-unfolding xor if_then_else_ table holds fits leadBits continued scalar decodeBy decode decodeAt wellFormedAfter wellFormed null all contains same occurrences numbers concatMap firstFault isSome _>>?_ minus write sliceFrom slice _>>=_ at refuse refuseAt isMissing canCatch wrongInput combineWith listOf baseNumber sameBase baseOf isBase isOptional isList hasKind ofKind basesOf word size answerWords words elements optionalKind listKind countKind lastKind shapeOf innerBase sameKind choiceKind baseKind kindOf hasRepeat zeros namesOf shortOf longOf namedBy namedOf flagOf argumentOf positionOf positionalOf fitting repeatOf fallbackValue fallbackOf guardOf childOf caughtOf choiceOf treeOf dash equals beforeEquals behindEquals parts splitLong splitShort behindDash splitOsArgument clusterFrom pickLetter lookUp disambiguateShort flagItems argumentItems clusterItems ambiguousAt plain clusterGroup shortGroup longGroup partsGroup wordGroup splitArgument positionals joined splitFrom itemsOf bit partWords textWords itemRecord recordsFrom parsed present winner construct emptyState inScope presentAt presentFrom unused get findIn find first used remove withCurrent pickFrom pickWinner conflicts saveConflicts conflictAt conflict countPresent setScope untilPresent proposed adjacentScope span adjacentlyAvailableFrom matchShort matchLong position sameName before onlyOnce markGood currentGood stateGood took containsName matchesArg takeFlag valueText takeValue takeArg isOperand isPosWord textOf operand takePositionalWord commandText isCommand takeCommand takeCmd ended after _then_ visit statesOf leaf refuseMissing shownName notFound flagValue evalFlag isDigit digits unsigned numberOf failedAt parseText argumentValue evalArgument wrongPosition placedValue positionalValue evalPositional fewer swallowed parseOption evalOptional idle repeat repeated evalMany evalSome evalCount lastOf evalLast valueOf side picksFirst picked won chosen evalChoice evalFallback guarded evalGuard eval named-v named-q flagItem twoItems valueItems wordItem fresh after-one after-zero after-choice one-word word-used nothing forged noNames noLetters visited gaveYes missingV
+unfolding xor if_then_else_ table holds fits leadBits continued scalar decodeBy decode decodeAt wellFormedAfter wellFormed null all contains same occurrences numbers concatMap firstFault isSome _>>?_ minus write sliceFrom slice _>>=_ at refuse refuseAt isMissing canCatch wrongInput combineWith listOf baseNumber sameBase baseOf isBase isOptional isList hasKind ofKind basesOf word size answerWords words elements optionalKind listKind countKind lastKind shapeOf innerBase sameKind choiceKind baseKind kindOf hasRepeat zeros namesOf shortOf longOf namedBy namedOf flagOf argumentOf positionOf positionalOf fitting repeatOf fallbackValue fallbackOf guardOf childOf caughtOf choiceOf treeOf dash equals beforeEquals behindEquals parts splitLong shortBody splitShort behindDash splitOsArgument clusterFrom pickLetter lookUp disambiguateShort flagItems argumentItems clusterItems ambiguousAt plain clusterGroup shortGroup longGroup partsGroup wordGroup splitArgument positionals joined splitFrom itemsOf recordWords bit partOffset recordWith itemRecord itemWords recordsFrom parsed present winner construct emptyState inScope presentAt presentFrom unused get findIn find first used remove withCurrent pickFrom pickWinner conflicts saveConflicts conflictAt conflict countPresent setScope untilPresent proposed adjacentScope span adjacentlyAvailableFrom matchShort matchLong position sameName before onlyOnce markGood currentGood stateGood took containsName matchesArg takeFlag valueText takeValue takeArg isOperand isPosWord textOf operand takePositionalWord commandText isCommand takeCommand takeCmd ended after _then_ visit statesOf leaf refuseMissing shownName notFound flagValue evalFlag isDigit digits unsigned numberOf failedAt parseText argumentValue evalArgument wrongPosition placedValue positionalValue evalPositional fewer swallowed parseOption evalOptional idle repeat repeated evalMany evalSome evalCount lastOf evalLast side picksFirst won valueOf picked chosen evalChoice evalFallback guarded evalGuard eval named-v named-q flagItem twoItems valueItems wordItem fresh after-one after-zero after-choice one-word word-used nothing forged noNames noLetters visited gaveYes missingV
 decided = (refl, refl, refl)
