@@ -6,13 +6,13 @@ use native.Mathlib.Omega.{arith}
 use native.Mathlib.Numerals.{add-one}
 use lib.ListN.{length, take, getD, set, length-set, length-append}
 use lib.Seq.{take-suc, take-suc-set, take-all}
-use borrow.Author.Tests.{ne-eqb}
 use Rattle.io.specs.Counts.{Counts}
 use Rattle.io.specs.Digits.{digits, Fewest}
 use Rattle.utf8.specs.Utf8.{if_then_else_}
 use Rattle.rules.specs.Base.{concatMap}
 use Rattle.rules.specs.Bench.{decimal, placeText, wordLine}
-use Rattle.reader.specs.Reader.{placeOf}
+use Rattle.rules.specs.Codes.{placeOf}
+use Rattle.rules.proofs.CodeLaws.{place-some}
 use Rattle.bench.specs.Text.{Appends, lineText}
 use Rattle.bench.proofs.Decimal.{digits-decimal, ten-digits}
 
@@ -86,7 +86,7 @@ module _ (o : List ℕ) (at : ℕ) (o′ : List ℕ) (r place : ℕ) where
 
   pub place-appends : (place ≡ 0 → ⊥) → Appends o at o′ r (decimal (place - 1)) × (r ≤ at + 10) → Appends o at o′ r (placeText (placeOf place)) × (r ≤ at + 10)
   unfolding placeText placeOf if_then_else_
-  place-appends e g = (rw (ne-eqb place 0 e) (g .0), g .1)
+  place-appends e g = (rw (place-some place e) (g .0), g .1)
 
 -- ---- the first line
 pub labelled :

@@ -1,25 +1,23 @@
 -- The answer of a run, as the text that the rules lay down.
 use mathlib.Core.List.{List, _++_}
-use mathlib.Core.Option.{Option, none, Option·some-injective, Option·none-ne-some}
+use mathlib.Core.Option.{Option, Option·some-injective, Option·none-ne-some}
 use mathlib.Core.Path.{_≡_, refl, sym, _∙_, ap}
 use Prim.Native.Nat.{ℕ, _+_, _-_, _≤_}
 use native.Mathlib.Omega.{arith}
-use lib.Dec.{ltb}
 use lib.ListN.{length, take, drop, replicate, length-append}
 use lib.Seq.{take-at, length-take-le}
 use Rattle.io.specs.Counts.{Counts}
 use Rattle.rules.specs.Base.{concatMap}
 use Rattle.rules.specs.Outcome.{Outcome, ok, refused, fault, _>>=_}
 use Rattle.rules.specs.Value.{Value}
-use Rattle.rules.specs.Sheet.{sheetFault}
 use Rattle.rules.specs.Form.{formEnd}
-use Rattle.rules.specs.Accept.{Checked, Accepted, accepted, refusedAt, checkForm}
+use Rattle.rules.specs.Accept.{Accepted}
 use Rattle.rules.specs.Eval.{Ran}
-use Rattle.rules.specs.Run.{Line, Report, split, runLine, padded, refusedInput, reportWith, report, shortSlices, runChecked, run}
+use Rattle.rules.specs.Run.{Line, Report, split, runLine, padded, refusedInput, reportWith, report, run}
+use Rattle.rules.specs.Given.{roomIn, inputIn}
 use Rattle.rules.specs.Bench.{firstLine, wordLine, benchText, bench}
-use Rattle.rules.proofs.Went.{if-holds}
-use Rattle.reader.specs.Reader.{placeOf}
-use Rattle.reader.proofs.Splits.{place-code}
+use Rattle.rules.specs.Codes.{placeOf}
+use Rattle.rules.proofs.CodeLaws.{place-code}
 use Rattle.runner.specs.Runner.{Ended, runAnswer, ended}
 use Rattle.runner.specs.declared.RunAnswer.{RunAnswer}
 use Rattle.bench.specs.Text.{Appends, lineText}
@@ -51,20 +49,14 @@ module _ (ni na : ℕ) where
       go (refused x) e = rw (e, report) refl
       go (fault x) e = rw (e, report) tt
 
-  checked-padded : (s : List ℕ) (a : Accepted) → Padded na (runChecked ni na s a)
-  unfolding runChecked
-  checked-padded s a =
-      if-holds (Padded na) (ltb 0 (sheetFault s)) _ _ (λ _. refused-padded (sheetFault s) none)
-      (λ _. if-holds (Padded na) (shortSlices ni na) _ _ (λ _. refused-padded 7 none)
-      (λ _. bind-padded na (split (a .form) s) _ (λ l. report-padded l (runLine (a .fields) l))))
-
   run-padded : (b s : List ℕ) → Padded na (run b s ni na)
   unfolding run
-  run-padded b s = go (checkForm b) refl
+  run-padded b s = go (inputIn b s ni >>= λ a. roomIn 8240 na >>= λ _. ok a) refl
     where
-      go : (c : Checked Accepted) → checkForm b ≡ c → Padded na (run b s ni na)
-      go (accepted a) e = rw (e, run) (checked-padded s a)
-      go (refusedAt n k) e = rw (e, run) (refused-padded n k)
+      go : (o : Outcome Accepted) → (inputIn b s ni >>= λ a. roomIn 8240 na >>= λ _. ok a) ≡ o → Padded na (run b s ni na)
+      go (ok a) e = rw (e, run) (bind-padded na (split (a .form) s) _ (λ l. report-padded l (runLine (a .fields) l)))
+      go (refused x) e = rw (e, run) (refused-padded (x .number) (x .place))
+      go (fault x) e = rw (e, run) tt
 
 -- ---- a run and what it hands back
 pub record Says (r : RunAnswer) (answers : List ℕ) (o : Outcome Report) : Type 0 where

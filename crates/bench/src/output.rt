@@ -3,9 +3,9 @@ ghost use mathlib.Core.Path.{_≡_};
 ghost use mathlib.Core.List.{_++_};
 ghost use Prim.Native.Nat.{_+_, _*_, _≤_};
 ghost use lib.ListN.{length};
-ghost use Rattle.reader.specs.Reader.{placeOf};
 ghost use Rattle.rules.specs.Base.{concatMap};
 ghost use Rattle.rules.specs.Bench.{decimal, placeText, wordLine};
+ghost use Rattle.rules.specs.Codes.{placeOf};
 ghost use Rattle.bench.specs.Text.{Appends, lineText};
 
 fn wide(x: u32) -> u64

@@ -17,9 +17,11 @@ use Rattle.rules.specs.Run.{padded, parsedMark}
 use Rattle.rules.specs.Calls.{fromRaw, toRaw, stateIn}
 use Rattle.rules.specs.Demands.{Good}
 use Rattle.rules.specs.declared.State.{State as Raw}
+use Rattle.rules.specs.Codes.{placeOf}
 use Rattle.rules.proofs.Places.{at-below, slice-below, minus-below, write-below, count-from}
 use Rattle.rules.proofs.StepLaws.{set-scope-good}
-use Rattle.state.specs.Lent.{rawOf, numbersOf, stateOf, placeOf, pickOf, firstOr, Fine, Removed}
+use Rattle.rules.proofs.CodeLaws.{place-some}
+use Rattle.state.specs.Lent.{rawOf, numbersOf, stateOf, pickOf, firstOr, Fine, Removed}
 use Rattle.state.specs.declared.Numbers.{Numbers}
 use Rattle.state.specs.declared.Picked.{Picked}
 use Rattle.state.proofs.Marks.{from-take, first-hit, first-within, first-none}
@@ -294,4 +296,4 @@ module _ (n : ℕ) (small : n ≤ 256) where
       let s : length (set a (marker - 1) 1) ≡ n = length-set a (marker - 1) 1 ∙ long in
       let w : set a (marker - 1) 1 ++ b ≡ set (replicate 256 0) (marker - 1) 1 =
       sym (set-append-left a b (marker - 1) 1 i) ∙ ap (λ (k : List ℕ). set k (marker - 1) 1) joined in
-      rw (ne-eqb marker 0 z, write-below a (marker - 1) 1 i, minus-below n 1 (omega arith), s, w, e)
+      rw (place-some marker z, write-below a (marker - 1) 1 i, minus-below n 1 (omega arith), s, w, e)

@@ -9,7 +9,8 @@ ghost use Rattle.rules.specs.State.{emptyState, construct, pickWinner, saveConf
 ghost use Rattle.rules.specs.State.{remove as removal, conflict as firstConflict};
 ghost use Rattle.rules.specs.Run.{parsedMark};
 ghost use Rattle.rules.specs.Calls.{fromRaw, toRaw, stateIn};
-ghost use Rattle.state.specs.Lent.{rawOf, numbersOf, placeOf, pickOf};
+ghost use Rattle.rules.specs.Codes.{placeOf};
+ghost use Rattle.state.specs.Lent.{rawOf, numbersOf, pickOf};
 ghost use Rattle.calls.specs.Options.{handedOver, allUnused, rangeOf, scopeOf, conflictOf, Until, SpanEnd};
 use rules::State;
 use state::Numbers;

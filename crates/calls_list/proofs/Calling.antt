@@ -1,5 +1,5 @@
 -- The answers of single calls, and lines of the list of calls.
-use mathlib.Core.Path.{_≡_, refl, sym, _∙_, ap}
+use mathlib.Core.Path.{_≡_, refl, _∙_, ap}
 use mathlib.Core.Bool.{Bool, true, false}
 use mathlib.Core.List.{List, [], _∷_}
 use mathlib.Core.Option.{Option, some, none}
@@ -8,15 +8,14 @@ use native.Mathlib.Omega.{arith}
 use lib.Dec.{eqb}
 use lib.ListN.{length, getD, take, drop, length-drop}
 use lib.Seq.{take-all}
-use borrow.Author.Tests.{ne-eqb, eqb-true, eqb-false}
+use borrow.Author.Tests.{ne-eqb, eqb-true}
 use Rattle.utf8.specs.Utf8.{if_then_else_}
 use Rattle.rules.specs.Outcome.{ok}
-use Rattle.rules.specs.Codes.{placeCode}
 use Rattle.rules.specs.Sheet.{sheetArea}
 use Rattle.rules.specs.Split.{Item}
 use Rattle.rules.specs.Calls.{itemFrom, callGet, callSplit, callEval}
 use Rattle.rules.specs.declared.State.{State}
-use Rattle.state.specs.Lent.{placeOf}
+use Rattle.rules.proofs.CodeLaws.{code-place}
 use Rattle.answers.specs.Answers.{coded, codedOr0, answerWith, answerOf}
 use Rattle.answers.specs.declared.Answer.{Answer}
 use Rattle.answers.specs.declared.StateAnswer.{StateAnswer}
@@ -38,18 +37,10 @@ pub with-given : (s : State) (o : Option Answer) (a : Answer) (r : StateAnswer) 
 with-given s o a r e f = rw (e, f)
 
 -- ---- `get`
-place-back : (p : ℕ) → placeCode (placeOf p) ≡ p
-unfolding placeOf if_then_else_
-place-back p = go (eqb p 0) refl
-  where
-    go : (t : Bool) → eqb p 0 ≡ t → placeCode (placeOf p) ≡ p
-    go true e = rw (e, placeOf) (sym (eqb-true p 0 e))
-    go false e = rw (e, placeOf) (omega (arith, eqb-false p 0 e))
-
 module _ (sheet words : List ℕ) (s : State) (i : ℕ) (r : Got) (g : Gets sheet words s i r) where
   answered : answerOf foundCode (callGet sheet words s i) ≡ some (answerWith (r .number) (r .place) (codedOr0 foundCode (gotOf (sheetArea sheet) s r .answer)))
   unfolding answerOf gotOf
-  answered = rw (g .same, place-back (r .place))
+  answered = rw (g .same, code-place (r .place))
 
   no-kind : getD (r .item) 0 0 ≡ 0 → itemFrom (sheetArea sheet) (r .item) ≡ none
   unfolding itemFrom if_then_else_

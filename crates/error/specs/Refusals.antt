@@ -3,8 +3,8 @@ use mathlib.Core.Path.{_≡_, refl, sym, ap, subst}
 use mathlib.Core.Bool.{Bool, true, false, false≢true}
 use mathlib.Core.List.{[], _++_}
 use mathlib.Core.Logic.{⊎-elim}
-use mathlib.Core.Option.{Option, some, none}
-use Prim.Native.Nat.{ℕ, zero, suc, _≤_, _<_}
+use mathlib.Core.Option.{Option, none}
+use Prim.Native.Nat.{ℕ, _≤_, _<_}
 use native.Mathlib.Nat.{eq-or-lt-of-le}
 use native.Mathlib.Omega.{arith}
 use lib.Dec.{eqb}
@@ -12,12 +12,9 @@ use borrow.Author.Tests.{eq-eqb, ne-eqb}
 use Rattle.utf8.specs.Utf8.{if_then_else_}
 use Rattle.rules.specs.Base.{contains}
 use Rattle.rules.specs.Outcome.{Refusal, refuse, isMissing, canCatch, wrongInput, combineWith}
-use Rattle.rules.specs.Codes.{placeCode}
+use Rattle.rules.specs.Codes.{placeCode, placeOf}
 use Rattle.rules.specs.declared.Refused.{Refused}
-
-unfoldable pub placeOf : ℕ → Option ℕ
-placeOf zero = none
-placeOf (suc i) = some i
+use Rattle.rules.proofs.CodeLaws.{place-code, code-place}
 
 unfoldable pub refusedOf : Refusal → Refused
 refusedOf e = record { number = e .number; place = placeCode (e .place) }
@@ -26,16 +23,6 @@ unfoldable pub refusalOf : Refused → Refusal
 refusalOf r = record { number = r .number; place = placeOf (r .place); missing = [] }
 
 -- ---- in both directions
-pub place-code : (p : Option ℕ) → placeOf (placeCode p) ≡ p
-unfolding placeOf
-place-code none = refl
-place-code (some i) = refl
-
-code-place : (p : ℕ) → placeCode (placeOf p) ≡ p
-unfolding placeOf
-code-place zero = refl
-code-place (suc i) = refl
-
 pub refused-refusal : (r : Refused) → refusedOf (refusalOf r) ≡ r
 unfolding refusedOf refusalOf
 refused-refusal r = ap (λ (p : ℕ). record { number = r .number; place = p }) (code-place (r .place))

@@ -8,9 +8,8 @@ use mathlib.Core.Path.{_≡_, refl, sym, _∙_, ap, subst}
 use Prim.Native.Nat.{ℕ, suc, _-_, _≤_, _<_}
 use native.Mathlib.Nat.{eq-or-lt-of-le}
 use native.Mathlib.Omega.{arith}
-use lib.Dec.{eqb}
 use lib.ListN.{length, getD, take}
-use borrow.Author.Tests.{eqb-false, lt-ltb, le-ltb}
+use borrow.Author.Tests.{lt-ltb, le-ltb}
 use Rattle.utf8.specs.Utf8.{if_then_else_}
 use Rattle.rules.specs.Outcome.{Outcome, ok, refused, fault, Refusal, refuseAt, _>>=_}
 use Rattle.rules.specs.Value.{Base, Value, absent, present}
@@ -25,6 +24,8 @@ use Rattle.rules.proofs.Acceptance.{lookup-some}
 use Rattle.rules.proofs.Places.{mark-present}
 use Rattle.rules.proofs.Steps.{Step}
 use Rattle.rules.proofs.StepLaws.{Free, Finds, find-good, removed, removed-other, removed-gone, removed-left, removed-good, removed-step, remove-free, get-free, free-below, current-good}
+use Rattle.rules.proofs.CodeLaws.{code-place}
+use Rattle.rules.specs.Codes.{placeCode}
 use Rattle.state.specs.declared.Numbers.{Numbers}
 use Rattle.state.specs.Lent.{stateOf, Fine}
 use Rattle.state.proofs.Laws.{fine-long, mark-at}
@@ -304,7 +305,7 @@ module _ (area words m : List ℕ) (p : Numbers) (mark : ℕ) (z : Ready area wo
   skip-moved test f w =
       let a = start-kept in
       let b = end-kept in
-      let c : q .current ≡ suc (w .place) = code (eqb (q .current) 0) refl (w .current) in
+      let c : q .current ≡ suc (w .place) = sym (code-place (q .current)) ∙ ap placeCode (w .current) in
       let below = w .below in
       rw (lt-ltb (q .remaining) (p .remaining) (w .fewer), c)
       (record {
@@ -316,13 +317,6 @@ module _ (area words m : List ℕ) (p : Numbers) (mark : ℕ) (z : Ready area wo
             let same : y .0 ≡ x = Option·some-injective (y .0) x (sym (z .table .at j (y .0) (y .1)) ∙ v) in
             rw (← same) (w .passed j (omega arith) h (now-present j inside o) (y .0) (y .1));
       })
-    where
-      code : (t : Bool) → eqb (q .current) 0 ≡ t → (if t then none else some (q .current - 1)) ≡ some (w .place) → q .current ≡ suc (w .place)
-      code true t e = absurd (Option·none-ne-some (w .place) e)
-      code false t e =
-          let v = Option·some-injective (q .current - 1) (w .place) e in
-          let n = eqb-false (q .current) 0 t in
-          omega arith
 
   skip-next : (test : Item → Bool) (f : ℕ) → Skips area words test m p f → Goes (z .items) test (stateOf m p) (stateOf m′ q)
       → Skips area words test m′ q (nextFrom f (p .remaining) q)

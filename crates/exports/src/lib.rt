@@ -8,7 +8,7 @@ ghost use Rattle.rules.specs.Sheet.{sheetFault};
 ghost use Rattle.rules.specs.Accept.{checkForm};
 ghost use Rattle.rules.specs.Codes.{checkCode, kindCode};
 ghost use Rattle.rules.specs.Calls.{callKind, callPortable, callSplit};
-ghost use Rattle.rules.specs.Run.{run as reported};
+ghost use Rattle.rules.specs.Run as Run;
 ghost use Rattle.runner.specs.Runner.{runAnswer};
 ghost use Rattle.reader.specs.Reader.{sheetCode, told, yesCode, splittingOf};
 ghost use Rattle.text.specs.Text.{PartOf};
@@ -103,7 +103,7 @@ pub extern "C" fn silverpoise_run(
     items: &mut [u32],
     answers: &mut [u32],
 ) -> RunAnswer
-    ensures { λ r. ⌜ runAnswer (reported (now (form .entry)) (now (sheet .entry)) (length (now (items .entry))) (length (now (answers .entry)))) ≡ some (record { answer = r; items = now (items .exit); answers = now (answers .exit) }) ⌝ }
+    ensures { λ r. ⌜ runAnswer (Run.run (now (form .entry)) (now (sheet .entry)) (length (now (items .entry))) (length (now (answers .entry)))) ≡ some (record { answer = r; items = now (items .exit); answers = now (answers .exit) }) ⌝ }
 {
     runner::run(form, sheet, items, answers)
 }

@@ -19,12 +19,14 @@ use Rattle.rules.specs.Run.{parsedMark}
 use Rattle.rules.specs.Calls.{fromRaw, toRaw, stateIn, placeIn, itemFrom, handed, onItems, operandOr20, callGet, callConflict, callTakePositional, callOnlyOnce}
 use Rattle.rules.specs.declared.State.{State as Raw}
 use Rattle.rules.specs.Demands.{Good}
+use Rattle.rules.specs.Codes.{placeOf}
 use Rattle.rules.proofs.Acceptance.{lookup-some}
 use Rattle.rules.proofs.StepLaws.{Finds, find-good, free-below}
+use Rattle.rules.proofs.CodeLaws.{place-some}
 use Rattle.arg.specs.Items.{recordAt}
 use Rattle.arg.specs.declared.Part.{Part}
 use Rattle.state.specs.declared.Numbers.{Numbers}
-use Rattle.state.specs.Lent.{rawOf, numbersOf, stateOf, placeOf}
+use Rattle.state.specs.Lent.{rawOf, numbersOf, stateOf}
 use Rattle.state.proofs.Laws.{raw-back, fine-long}
 use Rattle.state.proofs.Marks.{present-at}
 use Rattle.calls.specs.Options.{conflictOf}
@@ -225,7 +227,7 @@ module _ (s words : List ℕ) (i : ℕ) (r : Input) (g : Gives s words r) where
 
         pub once-told : (f ≡ 0 → ⊥) → plainAnswer placeOrNone (callOnlyOnce s words i) ≡ some (answerWith 0 0 (coded 1 (f - 1) 0))
         unfolding placeOf if_then_else_
-        once-told d = told ∙ rw (ne-eqb f 0 d)
+        once-told d = told ∙ rw (place-some f d)
 
 -- ---- `get`
 

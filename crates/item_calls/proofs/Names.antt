@@ -9,7 +9,7 @@ use native.Mathlib.Nat.{sub-zero}
 use native.Mathlib.Omega.{arith}
 use lib.Dec.{eqb}
 use lib.ListN.{length, take, getElem?}
-use borrow.Author.Tests.{eqb-true, ne-eqb, le-leb}
+use borrow.Author.Tests.{eqb-true, le-leb}
 use types.Run.{OneOf}
 use denote.Enum.Declared.{tagOf}
 use Rattle.utf8.specs.Utf8.{if_then_else_}
@@ -18,13 +18,14 @@ use Rattle.rules.specs.Outcome.{at, _>>=_}
 use Rattle.rules.specs.Split as rules
 use Rattle.rules.specs.State.{matchShort, matchLong, position, sameName, before, onlyOnce}
 use Rattle.rules.specs.Calls.{itemFrom}
+use Rattle.rules.specs.Codes.{placeOf}
 use Rattle.rules.proofs.Acceptance.{bind-is, lookup-some}
+use Rattle.rules.proofs.CodeLaws.{place-some}
 use Rattle.arg.specs.declared.Part.{Part}
 use Rattle.arg.specs.declared.Item.{Item}
 use Rattle.arg.specs.declared.Item.the-variants.{Short, Long, ArgWord, Word, PosWord}
 use Rattle.arg.proofs.Item as T
 use Rattle.arg.specs.Items.{recordAt, itemOf}
-use Rattle.state.specs.Lent.{placeOf}
 use Rattle.named.specs.Items.{Table, partBytes}
 use Rattle.named.specs.Search.{HasItem}
 use Rattle.named.proofs.Items.{is-short, is-long, is-arg-word, is-word, is-pos-word}
@@ -184,7 +185,7 @@ module _ (area words : List ℕ) (i j : ℕ) (z : Looking area words i j) where
           let found : position (sameNamed (x .0)) 0 (reverse (take i is)) ≡ some (i - j) = sym (rw n at (step is t l (x .0) (x .1))) in
           let k : i - (i - j) ≡ j = omega arith in
           once-position is i (x .0) l (x .1)
-          ∙ rw (found, le-leb (i - j) i (omega arith), k, le-leb 1 j h, ne-eqb j 0 (λ e. omega arith));
+          ∙ rw (found, le-leb (i - j) i (omega arith), k, le-leb 1 j h, place-some j (λ e. omega arith));
     }
 
   pub looking-last : j ≤ 0 → Earlier area words i j

@@ -13,8 +13,8 @@ use Rattle.rules.specs.Split.{Item, Short, Long, ArgWord, Word, PosWord}
 use Rattle.rules.specs.State.{present, matchShort, matchLong, onlyOnce}
 use Rattle.rules.specs.Calls.{itemFrom, Called, callGet}
 use Rattle.rules.specs.declared.State.{State as Raw}
+use Rattle.rules.specs.Codes.{placeOf}
 use Rattle.arg.specs.Items.{recordAt}
-use Rattle.state.specs.Lent.{placeOf}
 use Rattle.named.specs.Items.{Table}
 use Rattle.answers.specs.declared.StateAnswer.{StateAnswer}
 use Rattle.item_calls.specs.declared.Got.{Got}

@@ -13,7 +13,7 @@ use Rattle.utf8.specs.Utf8.{if_then_else_}
 use Rattle.rules.specs.Base.{all, contains, isSome, _>>?_}
 use Rattle.rules.specs.Value.{Base, yesNo, text, number, baseNumber, sameBase, Kind, one, optional, list, listOfOptional, optionalList, BaseValue, isYes, isText, isNumber, baseOf, name}
 use Rattle.rules.specs.Form.{Node, Name, Form}
-use Rattle.rules.specs.Codes.{kindCode}
+use Rattle.rules.specs.Codes.{baseCode, kindCode}
 use Rattle.rules.specs.Tree.{Named, Tree, Flag, Argument, Positional, Optional, Many, Some, Count, Last, Choice, Fallback, Guard, optionalKind, listKind, countKind, lastKind, shapeOf, innerBase, sameKind, choiceKind, baseKind, kindOf, hasRepeat, zeros, namesOf, namedBy, namedOf, flagOf, argumentOf, positionOf, positionalOf, fitting, repeatOf, fallbackValue, fallbackOf, guardOf, childOf, caughtOf, choiceOf, treeOf}
 use Rattle.rules.proofs.Acceptance.{is-some}
 use Rattle.rules.proofs.KindLaws.{same-kind}
@@ -35,7 +35,7 @@ codeOf (some t) = treeCode t
 
 -- ---- kinds, each in turn
 optional-with : (o : Option Kind) (r : Bool) → codeWith (o >>? optionalKind) r ≡ optionalCode (codeWith o r)
-unfolding codeWith kindCode shapeOf innerBase baseNumber _>>?_ if_then_else_ optionalKind optionalCode
+unfolding codeWith kindCode baseCode _>>?_ if_then_else_ optionalKind optionalCode
 optional-with none r = refl
 optional-with (some (one yesNo)) true = refl
 optional-with (some (one yesNo)) false = refl
@@ -69,7 +69,7 @@ optional-with (some (optionalList number)) true = refl
 optional-with (some (optionalList number)) false = refl
 
 list-with : (n : ℕ) → leb n 6 ≡ true → (o : Option Kind) (r : Bool) → (if r then 32 else codeWith (o >>? listKind) true) ≡ repeatCode n (codeWith o r)
-unfolding codeWith kindCode shapeOf innerBase baseNumber _>>?_ if_then_else_ listKind repeatCode
+unfolding codeWith kindCode baseCode _>>?_ if_then_else_ listKind repeatCode
 list-with n e none true = refl
 list-with n e none false = refl
 list-with n e (some (one yesNo)) true = refl
@@ -104,7 +104,7 @@ list-with n e (some (optionalList number)) true = refl
 list-with n e (some (optionalList number)) false = refl
 
 count-with : (o : Option Kind) (r : Bool) → (if r then 32 else codeWith (o >>? countKind) true) ≡ repeatCode 7 (codeWith o r)
-unfolding codeWith kindCode shapeOf innerBase baseNumber _>>?_ if_then_else_ listKind countKind repeatCode
+unfolding codeWith kindCode baseCode _>>?_ if_then_else_ listKind countKind repeatCode
 count-with none true = refl
 count-with none false = refl
 count-with (some (one yesNo)) true = refl
@@ -139,7 +139,7 @@ count-with (some (optionalList number)) true = refl
 count-with (some (optionalList number)) false = refl
 
 last-with : (o : Option Kind) (r : Bool) → (if r then 32 else codeWith (o >>? lastKind) true) ≡ repeatCode 8 (codeWith o r)
-unfolding codeWith kindCode shapeOf innerBase baseNumber _>>?_ if_then_else_ listKind lastKind repeatCode
+unfolding codeWith kindCode baseCode _>>?_ if_then_else_ listKind lastKind repeatCode
 last-with none true = refl
 last-with none false = refl
 last-with (some (one yesNo)) true = refl
@@ -174,7 +174,7 @@ last-with (some (optionalList number)) true = refl
 last-with (some (optionalList number)) false = refl
 
 number-with : (o : Option Kind) (r : Bool) → codeWith (o >>? baseKind number) r ≡ (if eqb (codeWith o r % 16) 3 then codeWith o r else 32)
-unfolding codeWith kindCode shapeOf innerBase baseNumber _>>?_ if_then_else_ baseKind sameKind sameBase
+unfolding codeWith kindCode baseCode shapeOf innerBase baseNumber _>>?_ if_then_else_ baseKind sameKind sameBase
 number-with none r = refl
 number-with (some (one yesNo)) true = refl
 number-with (some (one yesNo)) false = refl
@@ -208,7 +208,7 @@ number-with (some (optionalList number)) true = refl
 number-with (some (optionalList number)) false = refl
 
 pub code-part : (κ : Kind) (r : Bool) → codeWith (some κ) r % 16 ≡ kindCode κ
-unfolding codeWith kindCode shapeOf innerBase baseNumber if_then_else_
+unfolding codeWith kindCode baseCode if_then_else_
 code-part (one yesNo) true = refl
 code-part (one yesNo) false = refl
 code-part (one text) true = refl
@@ -241,7 +241,7 @@ code-part (optionalList number) true = refl
 code-part (optionalList number) false = refl
 
 code-repeat : (κ : Kind) (r : Bool) → leb 16 (codeWith (some κ) r) ≡ r
-unfolding codeWith kindCode shapeOf innerBase baseNumber if_then_else_
+unfolding codeWith kindCode baseCode if_then_else_
 code-repeat (one yesNo) true = refl
 code-repeat (one yesNo) false = refl
 code-repeat (one text) true = refl
@@ -279,9 +279,23 @@ base-small yesNo = omega arith
 base-small text = omega arith
 base-small number = omega arith
 
+base-code : (b : Base) → baseCode b ≡ 1 + baseNumber b
+unfolding baseCode baseNumber
+base-code yesNo = refl
+base-code text = refl
+base-code number = refl
+
+-- the code of a kind from its shape and its base
+kind-code : (κ : Kind) → kindCode κ ≡ 1 + (3 * shapeOf κ + baseNumber (innerBase κ))
+unfolding kindCode shapeOf innerBase
+kind-code (one b) = omega (arith, base-code b)
+kind-code (optional b) = omega (arith, base-code b)
+kind-code (list b) = omega (arith, base-code b)
+kind-code (listOfOptional b) = omega (arith, base-code b)
+kind-code (optionalList b) = omega (arith, base-code b)
+
 kind-some : (κ : Kind) → eqb (kindCode κ) 0 ≡ false
-unfolding kindCode
-kind-some κ = ne-eqb (1 + (3 * shapeOf κ + baseNumber (innerBase κ))) 0 (λ e. omega arith)
+kind-some κ = ne-eqb (kindCode κ) 0 (λ e. omega (arith, kind-code κ))
 
 kind-other : (a b : Kind) → (kindCode a ≡ kindCode b → ⊥) → sameKind a b ≡ false
 kind-other a b e = go (sameKind a b) refl
@@ -291,12 +305,12 @@ kind-other a b e = go (sameKind a b) refl
     go true k = absurd (e (ap kindCode (same-kind a b k)))
 
 kind-same : (a b : Kind) → eqb (kindCode a) (kindCode b) ≡ sameKind a b
-unfolding kindCode sameKind sameBase
+unfolding sameKind sameBase
 kind-same a b = go (eqb (kindCode a) (kindCode b)) refl
   where
     go : (t : Bool) → eqb (kindCode a) (kindCode b) ≡ t → t ≡ sameKind a b
     go true e =
-        let s = eqb-true (kindCode a) (kindCode b) e in
+        let s = sym (kind-code a) ∙ eqb-true (kindCode a) (kindCode b) e ∙ kind-code b in
         let x : shapeOf a ≡ shapeOf b = omega (arith, s, base-small (innerBase a), base-small (innerBase b)) in
         let y : baseNumber (innerBase a) ≡ baseNumber (innerBase b) = omega (arith, s, base-small (innerBase a), base-small (innerBase b)) in
         rw (eq-eqb (shapeOf a) (shapeOf b) x, eq-eqb (baseNumber (innerBase a)) (baseNumber (innerBase b)) y)
@@ -421,11 +435,11 @@ both-none c = go (eqb (c % 16) 0) refl
     go false e = rw e
 
 flag-one : (n : ℕ) (m : Named) (s : Bool) → treeCode (Flag n m s) ≡ 1
-unfolding treeCode kindOf hasRepeat codeWith kindCode shapeOf innerBase baseNumber if_then_else_
+unfolding treeCode kindOf hasRepeat codeWith kindCode baseCode if_then_else_
 flag-one n m s = refl
 
 argument-base : (n : ℕ) (m : Named) (t a : Bool) → treeCode (Argument n m (if t then number else text) a) ≡ (if not t then 2 else 3)
-unfolding treeCode kindOf hasRepeat codeWith kindCode shapeOf innerBase baseNumber if_then_else_
+unfolding treeCode kindOf hasRepeat codeWith kindCode baseCode if_then_else_
 argument-base n m true a = refl
 argument-base n m false a = refl
 
@@ -472,7 +486,7 @@ module _ (f : Form) (x : Node) (make : BaseValue → Option Tree) where
       (κ : Kind) (r : Bool)
       → ((v : BaseValue) → κ ≡ one (baseOf v) → codeOf (make v) ≡ codeWith (some κ) r)
       → codeOf (fallbackValue f x κ >>? make) ≡ fallbackBy f x (codeWith (some κ) r)
-  unfolding fallbackValue fallbackBy codeOf codeWith kindCode shapeOf innerBase baseNumber baseOf _>>?_ if_then_else_
+  unfolding fallbackValue fallbackBy codeOf codeWith kindCode baseCode baseOf _>>?_ if_then_else_
   value-code (one yesNo) true m = rw (ltb-not 1 (x .lo)) (yes-case make (isYes (eqb (x .lo) 1)) 17 (m (isYes (eqb (x .lo) 1)) refl) (leb (x .lo) 1) (zeros (x .r ∷ x .hi ∷ [])))
   value-code (one yesNo) false m = rw (ltb-not 1 (x .lo)) (yes-case make (isYes (eqb (x .lo) 1)) 1 (m (isYes (eqb (x .lo) 1)) refl) (leb (x .lo) 1) (zeros (x .r ∷ x .hi ∷ [])))
   value-code (one text) true m = text-by (getElem? (f .names) (x .r)) refl 18 (m (isText (name (x .r))) refl)
@@ -619,7 +633,7 @@ positional-by :
     → (a ≡ true → b ≡ false)
     → codeOf (if (u && (a || (b || false))) && z then some (Positional n (positionOf p) (if b then number else text)) else none)
     ≡ (if u && z then (if a then 2 else (if b then 3 else 32)) else 32)
-unfolding codeOf treeCode kindOf hasRepeat codeWith kindCode shapeOf innerBase baseNumber if_then_else_
+unfolding codeOf treeCode kindOf hasRepeat codeWith kindCode baseCode if_then_else_
 positional-by n p false z a b h = refl
 positional-by n p true true true true h = absurd (let e = h refl in let k : _≡_ {A = ℕ} 0 1 = cc in omega arith)
 positional-by n p true true true false h = refl

@@ -1,5 +1,5 @@
 -- The steps of the functions on name records.
-use mathlib.Core.Bool.{Bool, true, false, not}
+use mathlib.Core.Bool.{Bool, true, false, not, and-true, or-false}
 use mathlib.Core.List.{List}
 use mathlib.Core.Option.{Option, some, none}
 use mathlib.Core.Path.{_≡_, refl, sym, _∙_, ap}
@@ -105,16 +105,16 @@ module _ (area : List ℕ) (x : declared.Name) where
         go (some v) p = let less : c - 1 ≡ v = omega (arith, p .0) in q ∙ ap isLetter less ∙ sym (p .1)
 
 pub letter-low : (c : ℕ) → c ≤ 90 → leb 65 c ≡ isLetter c
-unfolding isLetter if_then_else_
-letter-low c h = rw (le-leb c 90 h)
+unfolding isLetter
+letter-low c h = rw (le-leb c 90 h, lt-leb 97 c (omega arith), and-true (leb 65 c), or-false (leb 65 c))
 
 pub letter-between : (c : ℕ) → 90 < c → c < 97 → false ≡ isLetter c
-unfolding isLetter if_then_else_
-letter-between c h l = rw (lt-leb c 90 h, lt-leb 97 c l)
+unfolding isLetter
+letter-between c h l = rw (le-leb 65 c (omega arith), lt-leb c 90 h, lt-leb 97 c l)
 
 pub letter-high : (c : ℕ) → 90 < c → 97 ≤ c → leb c 122 ≡ isLetter c
-unfolding isLetter if_then_else_
-letter-high c h l = rw (lt-leb c 90 h, le-leb 97 c l)
+unfolding isLetter
+letter-high c h l = rw (le-leb 65 c (omega arith), lt-leb c 90 h, le-leb 97 c l)
 
 -- ---- records at fault
 module _ (records area : List ℕ) (n : ℕ) where

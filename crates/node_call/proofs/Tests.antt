@@ -12,15 +12,17 @@ use Rattle.rules.specs.Outcome.{ok, refused, _>>=_, refuse}
 use Rattle.rules.specs.Form.{Form, nodeCount}
 use Rattle.rules.specs.Sheet.{sheetArea, sheetFault}
 use Rattle.rules.specs.Accept.{Checked, accepted, refusedAt, Accepted, checkForm}
-use Rattle.rules.specs.Codes.{checkCode}
+use Rattle.rules.specs.Codes.{checkCode, placeOf}
 use Rattle.rules.specs.Eval.{eval}
 use Rattle.rules.specs.Run.{parsedMark}
+use Rattle.rules.specs.Given.{roomIn}
 use Rattle.rules.specs.Calls.{formIn, sheetIn, sliceIn, stateIn, fromRaw, asked, evalIn}
 use Rattle.rules.specs.declared.Refused.{Refused}
 use Rattle.rules.specs.declared.State.{State as Raw}
 use Rattle.rules.proofs.Acceptance.{lookup-some, accepted-form, accepted-trees, accepted-length}
 use Rattle.rules.proofs.WellMadeLaws.{check-numbers}
-use Rattle.error.specs.Refusals.{placeOf, refusalOf, place-code}
+use Rattle.rules.proofs.CodeLaws.{place-code}
+use Rattle.error.specs.Refusals.{refusalOf}
 use Rattle.layout.proofs.Sizes.{sized, nodes-length}
 use Rattle.state.proofs.Laws.{in-kept}
 use Rattle.outcome.proofs.NodeLaw.{at-tree}
@@ -78,7 +80,7 @@ module _ (b s words o : List ℕ) (x : Raw) (k : ℕ) where
     module _ (zf : f ≡ 0) where
       -- 7
       pub items-short : length words < 1792 → (q : Refused) → q ≡ record { number = 7; place = 0 } → Admits b s words o x k q
-      unfolding evalIn formIn sheetIn sliceIn _>>=_ if_then_else_
+      unfolding evalIn formIn sheetIn sliceIn roomIn _>>=_ if_then_else_
       items-short h q g =
           let (a, y) = check-accepted b r e z in
           refusing 7 q g (λ i. omega arith)
@@ -86,7 +88,7 @@ module _ (b s words o : List ℕ) (x : Raw) (k : ℕ) where
 
       module _ (long : 1792 ≤ length words) where
         pub answers-short : length o < 8240 → (q : Refused) → q ≡ record { number = 7; place = 0 } → Admits b s words o x k q
-        unfolding evalIn formIn sheetIn sliceIn _>>=_ if_then_else_
+        unfolding evalIn formIn sheetIn sliceIn roomIn _>>=_ if_then_else_
         answers-short h q g =
             let (a, y) = check-accepted b r e z in
             refusing 7 q g (λ i. omega arith)
@@ -95,7 +97,7 @@ module _ (b s words o : List ℕ) (x : Raw) (k : ℕ) where
         module _ (room : 8240 ≤ length o) (c : table.Checked) (says : Checks (sheetArea s) words c) where
           -- 30
           pub items-refused : not (c .good) ≡ true → (q : Refused) → q ≡ record { number = 30; place = 0 } → Admits b s words o x k q
-          unfolding evalIn formIn sheetIn sliceIn _>>=_ if_then_else_
+          unfolding evalIn formIn sheetIn sliceIn roomIn _>>=_ if_then_else_
           items-refused h q g =
               let (a, y) = check-accepted b r e z in
               refusing 30 q g (λ i. omega arith)
@@ -107,7 +109,7 @@ module _ (b s words o : List ℕ) (x : Raw) (k : ℕ) where
 
             -- 29
             pub state-refused : not t ≡ true → (q : Refused) → q ≡ record { number = 29; place = 0 } → Admits b s words o x k q
-            unfolding evalIn formIn sheetIn sliceIn _>>=_ if_then_else_
+            unfolding evalIn formIn sheetIn sliceIn roomIn _>>=_ if_then_else_
             state-refused h q g =
                 let (a, y) = check-accepted b r e z in
                 let bad : stateIn (c .count) x ≡ refused (refuse 29) = said ∙ rw (not-true t h) in
@@ -121,7 +123,7 @@ module _ (b s words o : List ℕ) (x : Raw) (k : ℕ) where
 
               -- 28
               pub node-refused : n ≤ k → (q : Refused) → q ≡ record { number = 28; place = 0 } → Admits b s words o x k q
-              unfolding evalIn formIn sheetIn sliceIn asked _>>=_ if_then_else_
+              unfolding evalIn formIn sheetIn sliceIn roomIn asked _>>=_ if_then_else_
               node-refused h q g =
                   let (a, y) = check-accepted b r e z in
                   let all : length (a .trees) ≡ nodeCount b = accepted-trees b a y ∙ ap (λ (f : Form). length (f .nodes)) (accepted-form b a y) ∙ nodes-length b in
@@ -154,7 +156,7 @@ module _ (b s words o : List ℕ) (x : Raw) (k : ℕ) where
 pub admitted-runs :
     (b s words o : List ℕ) (x : Raw) (k : ℕ) (i : Admitted b s words (length o) x k)
     → evalIn b s words o x k ≡ ok (eval parsedMark (i .holds .items) (i .tree) (fromRaw x))
-unfolding evalIn formIn sheetIn sliceIn asked _>>=_ if_then_else_
+unfolding evalIn formIn sheetIn sliceIn roomIn asked _>>=_ if_then_else_
 admitted-runs b s words o x k i =
     let stands : getElem? (i .result .trees) k ≡ some (i .tree) = sym (at-tree b (i .result) (i .accepts) k) ∙ i .node in
     rw (i .accepts, formIn, eq-eqb (sheetFault s) 0 (i .made), le-leb 1792 (length words) (i .wide), le-leb 8240 (length o) (i .room), i .holds .read, i .holds .count, i .good, stands)

@@ -5,12 +5,9 @@ use mathlib.Core.Option.{Option, some, none}
 use mathlib.Core.Path.{_≡_, refl, sym, ap, subst, _∙_}
 use Prim.Native.Nat.{ℕ, _+_, _-_}
 use native.Mathlib.Numerals.{add-one}
-use native.Mathlib.Omega.{arith}
-use lib.Dec.{eqb}
-use borrow.Author.Tests.{ne-eqb, not-true, not-false, eqb-true, eqb-false}
+use borrow.Author.Tests.{ne-eqb, not-true, not-false}
 use Rattle.utf8.specs.Utf8.{if_then_else_}
 use Rattle.rules.specs.Outcome.{Spot, Outcome, ok, refused, parseFlag559, takeArgument679, _>>=_, Refusal, refuseAt}
-use Rattle.rules.specs.Codes.{placeCode}
 use Rattle.rules.specs.Value.{Base, text, number, isNumber, Value, base, word, words}
 use Rattle.rules.specs.Tree.{Named, Position, Tree, Flag, Argument, Positional}
 use Rattle.rules.specs.Split.{Item}
@@ -20,6 +17,7 @@ use Rattle.rules.specs.Calls.{fromRaw}
 use Rattle.rules.specs.Eval.{visit, leaf, refuseMissing, notFound, flagValue, evalFlag, numberOf, failedAt, parseText, argumentValue, evalArgument, wrongPosition, placedValue, positionalValue, evalPositional, eval}
 use Rattle.rules.specs.Demands.{isNamed}
 use Rattle.rules.proofs.Nodes.{named-shown}
+use Rattle.rules.proofs.CodeLaws.{code-place}
 use Rattle.arg.specs.declared.Part.{Part}
 use Rattle.state.specs.declared.Numbers.{Numbers}
 use Rattle.state.specs.Lent.{stateOf}
@@ -38,14 +36,6 @@ use Rattle.outcome.specs.Told.{told, scalarWords, Evaluates}
 use Rattle.params.specs.Leaves.{valueRan, refusedRan, leafRun, Tells, refusalOf}
 
 -- ---- a text
-
-current-code : (c : ℕ) → placeCode (if eqb c 0 then none else some (c - 1)) ≡ c
-unfolding if_then_else_
-current-code c = go (eqb c 0) refl
-  where
-    go : (b : Bool) → eqb c 0 ≡ b → placeCode (if b then none else some (c - 1)) ≡ c
-    go true e = sym (eqb-true c 0 e)
-    go false e = let h = eqb-false c 0 e in omega arith
 
 module _ (place : ℕ) (bytes : List ℕ) (s : State) where
   abbrev numeral : Option ℕ → Outcome Value
@@ -80,7 +70,7 @@ module _ (place : ℕ) (bytes : List ℕ) (p : Numbers) (numeric : Bool) where
     bad-tells h r er = rw (er, not-false numeric e) (record {
       same = λ m.
           ap (λ (o : Outcome Value). told (leafRun o (stateOf m p))) (no-number place bytes (stateOf m p) (sym read ∙ ap optionOf h))
-          ∙ rw (current-code (p .current));
+          ∙ rw (code-place (p .current));
       kept = refl;
     })
 

@@ -5,7 +5,7 @@ use mathlib.Core.Option.{Option, some, none}
 use mathlib.Core.Path.{_≡_, refl, sym, ap, _∙_}
 use Prim.Native.Nat.{ℕ, suc, _+_, _-_, _≤_, _<_}
 use native.Mathlib.Omega.{arith}
-use borrow.Author.Tests.{ne-eqb, lt-ltb, le-ltb, leb-true}
+use borrow.Author.Tests.{leb-true}
 use lib.Dec.{eqb, leb}
 use lib.ListN.{length, replicate, take, length-append, length-replicate}
 use lib.Seq.{sets, sets-eq, length-sets}
@@ -16,9 +16,9 @@ use Rattle.rules.specs.Sheet.{sheetFault, arguments}
 use Rattle.rules.specs.Form.{Name, readForm, nameBytes, oneCharacter, nodeCount, fieldCount, nameCount, areaLength, countsGood, formLength}
 use Rattle.rules.specs.Accept.{Checked, accepted, refusedAt, Accepted, Letters, checkForm, lengthGood, lettersOf}
 use Rattle.rules.specs.Tree.{shortOf}
-use Rattle.rules.specs.Codes.{placeCode, checkCode}
+use Rattle.rules.specs.Codes.{checkCode, placeOf}
 use Rattle.rules.specs.Run.{Line, padded, split}
-use Rattle.rules.specs.Calls.{toRaw, Splitting, splitRefused, splitReport, splitChecked, callSplit}
+use Rattle.rules.specs.Calls.{toRaw, Splitting, splitRefused, splitReport, callSplit}
 use Rattle.rules.specs.declared.Refused.{Refused}
 use Rattle.rules.specs.declared.State.{State as Raw}
 use Rattle.named.specs.Codes.{Checked as GoodNames}
@@ -32,8 +32,10 @@ use Rattle.letters.proofs.Order.{same-letters}
 use Rattle.layout.proofs.Sizes.{names-length}
 use Rattle.rules.proofs.Acceptance.{accepted-form}
 use Rattle.rules.proofs.LetterLaws.{split-same}
+use Rattle.rules.proofs.CodeLaws.{place-code}
 use Rattle.args.proofs.Plain.{alike-ends}
-use Rattle.reader.specs.Reader.{placeOf, splittingOf, answerOf, Answers}
+use Rattle.rules.proofs.GivenLaws.{split-form, split-sheet, split-short, split-goes}
+use Rattle.reader.specs.Reader.{splittingOf, answerOf, Answers}
 use Rattle.reader.specs.Ready.{Ready}
 use Rattle.reader.proofs.Checks.{check-accepted, names-good}
 
@@ -47,44 +49,34 @@ refused-splitting l o number place e = record {
   marked = record { few = omega arith; within = omega arith };
 }
 
-before-next : (i : ℕ) → suc i - 1 ≡ i
-before-next i = omega arith
-
--- a place and its number
-pub place-code : (k : Option ℕ) → placeOf (placeCode k) ≡ k
-unfolding placeOf if_then_else_
-place-code none = refl
-place-code (some i) = rw (ne-eqb (suc i) 0 (λ e. omega arith)) (ap {B = Option ℕ} some (before-next i))
-
 -- ---- what is refused
 module _ (form sheet : List ℕ) (n : ℕ) (r : Refused) (e : r ≡ checkCode (checkForm form)) (items : List ℕ) (x : Ended) where
   pub form-refused : (r .number ≡ 0 → ⊥)
       → Answers (ok (splitRefused n (r .number) (placeOf (r .place)))) items x
       → Answers (callSplit form sheet n) items x
-  unfolding callSplit
   form-refused z h = go (checkForm form) refl
     where
       go : (c : Checked Accepted) → checkForm form ≡ c → Answers (callSplit form sheet n) items x
       go (accepted a) g = absurd (z (ap (λ (y : Refused). y .number) (e ∙ ap checkCode g)))
       go (refusedAt m k) g =
           let same = e ∙ ap checkCode g in
-          rw (g, callSplit) (rw (same, place-code k) at h)
+          rw (split-form form sheet n m k g) (rw (same, place-code k) at h)
 
   pub sheet-refused : r .number ≡ 0 → (m : ℕ) → m ≡ sheetFault sheet → (m ≡ 0 → ⊥)
       → Answers (ok (splitRefused n m (placeOf 0))) items x
       → Answers (callSplit form sheet n) items x
-  unfolding callSplit splitChecked if_then_else_ placeOf
+  unfolding placeOf
   sheet-refused z m f y h =
       let (a, g) = check-accepted form r e z in
-      rw (g, callSplit, lt-ltb 0 (sheetFault sheet) (omega (arith, f, y)), ← f) h
+      rw (split-sheet form sheet n a g (λ z. y (f ∙ z)), ← f) h
 
   pub slice-refused : r .number ≡ 0 → (m : ℕ) → m ≡ sheetFault sheet → m ≡ 0 → n < 1792
       → Answers (ok (splitRefused n 7 (placeOf 0))) items x
       → Answers (callSplit form sheet n) items x
-  unfolding callSplit splitChecked if_then_else_ placeOf
+  unfolding placeOf
   slice-refused z m f y k h =
       let (a, g) = check-accepted form r e z in
-      rw (g, callSplit, le-ltb 0 (sheetFault sheet) (omega (arith, f, y)), lt-ltb n 1792 k) h
+      rw (split-short form sheet n a g (sym f ∙ y) k) h
 
 pub all-ready :
     (form sheet : List ℕ) (n : ℕ) (r : Refused)
@@ -165,16 +157,15 @@ ready-names form sheet items r =
 pub ready-given : (form sheet items : List ℕ) → Ready form sheet items → Given sheet items
 ready-given form sheet items r = record { checked = r .checked; room = r .room }
 
-split-goes :
+split-is :
     (form sheet : List ℕ) (n : ℕ) (a : Accepted) (l : Line)
     → checkForm form ≡ accepted a
     → sheetFault sheet ≡ 0
     → 1792 ≤ n
     → split (readForm form) sheet ≡ ok l
     → callSplit form sheet n ≡ ok (splitReport n l)
-unfolding callSplit splitChecked if_then_else_ _>>=_
-split-goes form sheet n a l e f h g =
-    rw (e, callSplit, accepted-form form a e, f, le-ltb n 1792 h, g) refl
+unfolding _>>=_
+split-is form sheet n a l e f h g = split-goes form sheet n a e f h ∙ rw (accepted-form form a e, g)
 
 reports :
     (n : ℕ) (l : Line) (r : Ended) (out : List ℕ)
@@ -198,7 +189,7 @@ pub split-answers :
 unfolding split
 split-answers form sheet items out r g c = record {
   same =
-      split-goes form sheet (length items) (g .result) (c .line) (g .accepts) (g .checked) (g .room) (c .same)
+      split-is form sheet (length items) (g .result) (c .line) (g .accepts) (g .checked) (g .room) (c .same)
       ∙ ap ok (reports (length items) (c .line) r out (c .number) (c .place) (c .state) (c .words));
   marked = c .marked;
 }

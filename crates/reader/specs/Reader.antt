@@ -3,11 +3,9 @@ use mathlib.Core.Bool.{Bool, true, false}
 use mathlib.Core.List.{List}
 use mathlib.Core.Option.{Option, some, none}
 use mathlib.Core.Path.{_≡_}
-use Prim.Native.Nat.{ℕ, _-_}
-use lib.Dec.{eqb}
-use Rattle.utf8.specs.Utf8.{if_then_else_}
+use Prim.Native.Nat.{ℕ}
 use Rattle.rules.specs.Outcome.{Outcome, ok, refused, fault}
-use Rattle.rules.specs.Codes.{placeCode}
+use Rattle.rules.specs.Codes.{placeCode, placeOf}
 use Rattle.rules.specs.Calls.{Splitting}
 use Rattle.rules.specs.declared.Refused.{Refused}
 use Rattle.args.specs.declared.Ended.{Ended}
@@ -29,10 +27,6 @@ told code (fault x) = none
 abbrev pub yesCode : Bool → ℕ
 yesCode true = 1
 yesCode false = 0
-
--- a place from its number: 0 is none
-unfoldable pub placeOf : ℕ → Option ℕ
-placeOf c = if eqb c 0 then none else some (c - 1)
 
 -- what a split handed back, with the words of the item slice
 unfoldable pub splittingOf : SplitAnswer → List ℕ → Splitting

@@ -2,7 +2,7 @@
 use mathlib.Core.Bool.{Bool, true, false, _&&_, false≢true}
 use mathlib.Core.List.{List, [], _∷_, _++_}
 use mathlib.Core.Logic.{_⊎_, ⊎-elim}
-use mathlib.Core.Option.{Option, some, none, Option·some-injective, Option·none-ne-some}
+use mathlib.Core.Option.{Option, some, none, Option·none-ne-some}
 use mathlib.Core.Path.{_≡_, refl, sym, ap, ap₂, _∙_}
 use Prim.Native.Nat.{ℕ, zero, suc, _+_, _-_, _≤_, _<_}
 use native.Mathlib.Omega.{arith}
@@ -16,10 +16,12 @@ use Rattle.rules.specs.Value.{Value, absent, words}
 use Rattle.rules.specs.State.{State, Picked, presentAt, pickFrom, pickWinner, conflicts}
 use Rattle.rules.specs.Eval.{Ran as Run, Visit, ended, after, valueOf, side, picksFirst, picked, won, chosen, evalChoice}
 use Rattle.rules.specs.declared.Refused.{Refused}
+use Rattle.rules.specs.Codes.{placeOf, placeCode}
 use Rattle.rules.proofs.Places.{if-elim, Differs, pick-case}
+use Rattle.rules.proofs.CodeLaws.{code-place, place-some}
 use Rattle.state.specs.declared.Numbers.{Numbers}
 use Rattle.state.specs.declared.Picked.{Picked as Pair}
-use Rattle.state.specs.Lent.{stateOf, Fine, placeOf, pickOf}
+use Rattle.state.specs.Lent.{stateOf, Fine, pickOf}
 use Rattle.state.proofs.Laws.{fine-long, marked-is, marked-whole, marked-fine}
 use Rattle.take.specs.Takes.{Left}
 use Rattle.take.proofs.Laws.{left-same}
@@ -53,14 +55,15 @@ module _ (place n : ℕ) (m l : List ℕ) where
 module _ (m l : List ℕ) (p q : Numbers) (place : ℕ) (f : Fine m p) (e : q .count ≡ p .count) where
   won-is : won (stateOf m p) (stateOf l q) (placeOf place) ≡ stateOf (wonMarks place (p .count) m l) p
   unfolding won placeOf wonMarks if_then_else_
-  won-is = go (eqb place 0)
+  won-is = go (eqb place 0) refl
     where
       go :
           (b : Bool)
-          → won (stateOf m p) (stateOf l q) (if b then none else some (place - 1))
+          → eqb place 0 ≡ b
+          → won (stateOf m p) (stateOf l q) (placeOf place)
           ≡ stateOf (if b then m else conflicts (place - 1) (take (p .count) m) (take (p .count) l) ++ drop (p .count) m) p
-      go true = refl
-      go false = marked-is m l p q (place - 1) f e
+      go true t = rw (eqb-true place 0 t)
+      go false t = rw (place-some place (eqb-false place 0 t)) (marked-is m l p q (place - 1) f e)
 
   won-long : length (wonMarks place (p .count) m l) ≡ length m
   unfolding wonMarks if_then_else_
@@ -102,20 +105,14 @@ there (x ∷ m) zero h = omega arith
 there (x ∷ m) (suc i) h = let l = there m i h in omega arith
 
 place-within : (i n place : ℕ) → placeOf place ≡ some i → i < n → place ≤ n
-unfolding placeOf if_then_else_
-place-within i n place e h = go (eqb place 0) refl
-  where
-    go : (b : Bool) → eqb place 0 ≡ b → place ≤ n
-    go true t = omega (arith, eqb-true place 0 t)
-    go false t = let z : place - 1 ≡ i = Option·some-injective _ _ (rw t at e) in omega (arith, eqb-false place 0 t)
+place-within i n place e h =
+    let z : place ≡ suc i = sym (code-place place) ∙ ap placeCode e in
+    omega arith
 
 no-place : (n place : ℕ) → placeOf place ≡ none → place ≤ n
-unfolding placeOf if_then_else_
-no-place n place e = go (eqb place 0) refl
-  where
-    go : (b : Bool) → eqb place 0 ≡ b → place ≤ n
-    go true t = omega (arith, eqb-true place 0 t)
-    go false t = absurd (Option·none-ne-some _ (sym (rw t at e)))
+no-place n place e =
+    let z : place ≡ 0 = sym (code-place place) ∙ ap placeCode e in
+    omega arith
 
 pub picked-within :
     (n : ℕ) (m l : List ℕ) (k : Pair) → pickOf k ≡ pickFrom 0 (take n m) (take n l) → k .place ≤ n

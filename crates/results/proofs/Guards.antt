@@ -15,8 +15,8 @@ use Rattle.rules.specs.Value.{number, one, isYes, isText, isNumber, Value, base
 use Rattle.rules.specs.State.{State}
 use Rattle.rules.specs.Eval.{Ran as Run, Visit, ended, after, _then_, failedAt, guarded, evalGuard}
 use Rattle.state.specs.declared.Numbers.{Numbers}
-use Rattle.state.specs.Lent.{stateOf, placeOf}
-use Rattle.state.proofs.Laws.{code-of}
+use Rattle.state.specs.Lent.{stateOf}
+use Rattle.rules.proofs.CodeLaws.{code-place}
 use Rattle.structs.specs.Decisions.{guardBy}
 use Rattle.outcome.specs.declared.Ran.{Ran}
 use Rattle.outcome.specs.Told.{told, Numbered, answered, scalarWords}
@@ -34,8 +34,8 @@ one-word k len w = go (eqb len 0) (eqb len 1)
     go false false e = absurd (let z : _≡_ {A = ℕ} 0 1 = cc in omega arith)
 
 current-place : (m : List ℕ) (p : Numbers) → placeCode (stateOf m p .current) ≡ p .current
-unfolding stateOf fromRaw placeOf
-current-place m p = code-of (p .current)
+unfolding stateOf fromRaw
+current-place m p = code-place (p .current)
 
 module _ (lo hi : ℕ) (ran : Ran) where
   abbrev words-of : List ℕ

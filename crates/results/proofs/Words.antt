@@ -10,10 +10,10 @@ use lib.ListN.{length, take, getElem?}
 use borrow.Author.Tests.{eqb-true, eqb-false, leb-true}
 use Rattle.utf8.specs.Utf8.{if_then_else_}
 use Rattle.rules.specs.Base.{isSome}
-use Rattle.rules.specs.Codes.{kindCode}
+use Rattle.rules.specs.Codes.{baseCode, kindCode}
 use Rattle.rules.specs.Form.{Node, Name, Form, nodeCount, nameCount, readForm}
-use Rattle.rules.specs.Value.{yesNo, text, number, Kind, one, optional, list, listOfOptional, optionalList, name, BaseValue, isYes, isText, isNumber, baseOf, baseNumber, word}
-use Rattle.rules.specs.Tree.{Tree, Flag, Argument, Positional, Optional, Many, Some, Count, Last, Choice, Fallback, Guard, kindOf, shapeOf, innerBase, zeros, fallbackValue}
+use Rattle.rules.specs.Value.{yesNo, text, number, Kind, one, optional, list, listOfOptional, optionalList, name, BaseValue, isYes, isText, isNumber, baseOf, word}
+use Rattle.rules.specs.Tree.{Tree, Flag, Argument, Positional, Optional, Many, Some, Count, Last, Choice, Fallback, Guard, kindOf, zeros, fallbackValue}
 use Rattle.rules.specs.Accept.{Accepted, accepted, lengthGood, checkForm}
 use Rattle.rules.proofs.Acceptance.{if-some, bind-some, and-true, zeros-unused, lookup-inside, Made, flagMade, argumentMade, positionalMade, optionalMade, manyMade, someMade, countMade, lastMade, choiceMade, fallbackMade, guardMade, inside-same, tree-made, trees-length, accepted-length, accepted-passed}
 use Rattle.rules.proofs.KindLaws.{base-kind}
@@ -155,7 +155,7 @@ module _ (b : List ℕ) (n : ℕ) where
           d a (Fallback v c) (one (baseOf v)) e g (kind-of v c (tree-sound b a e n (Fallback v c) g .kind))
 
       pub text-word : k ≡ 2 → Word 256
-      unfolding kindCode shapeOf innerBase baseNumber baseOf
+      unfolding kindCode baseCode baseOf
       text-word t v c h = go v (own-of v c h) (sym t ∙ code-of v c h)
         where
           go : (v : BaseValue) → Own (readForm b) (nodeOf x) v → 2 ≡ kindCode (one (baseOf v)) → 256 ≡ word v
@@ -164,7 +164,7 @@ module _ (b : List ℕ) (n : ℕ) where
           go (isNumber y) o e = absurd (omega arith)
 
       pub zero-word : (k ≡ 2 → ⊥) → Word 0
-      unfolding kindCode shapeOf innerBase baseNumber baseOf
+      unfolding kindCode baseCode baseOf
       zero-word t v c h = go v (own-of v c h) (code-of v c h)
         where
           go : (v : BaseValue) → Own (readForm b) (nodeOf x) v → k ≡ kindCode (one (baseOf v)) → 0 ≡ word v

@@ -16,11 +16,12 @@ use Rattle.rules.specs.Outcome.{ok, _>>=_}
 use Rattle.rules.specs.Sheet.{argumentCount, sheetGood, sheetFault}
 use Rattle.rules.specs.Form.{nodeCount, fieldCount, nameCount, areaLength, countsGood, nodesAt, namesAt, areaAt, formLength, formEnd}
 use Rattle.rules.specs.Accept.{Checked, accepted, refusedAt, Accepted, lengthGood, checkForm}
-use Rattle.rules.specs.Run.{refusedInput, runChecked, run}
+use Rattle.rules.specs.Given.{formIn, inputIn}
+use Rattle.rules.specs.Run.{refusedInput, run}
 use Rattle.rules.specs.Bench.{benchText, bench}
 use Rattle.rules.proofs.WellMadeLaws.{counts-limits}
 use Rattle.rules.proofs.SheetLaws.{sheet-made, made-length}
-use Rattle.rules.proofs.InputFaults.{run-checked}
+use Rattle.rules.proofs.GivenLaws.{run-form, run-sheet}
 
 number-append : (w : ℕ) (b c : List ℕ) (i : ℕ) → i + w ≤ length b → numberAt w (b ++ c) i ≡ numberAt w b i
 unfolding numberAt
@@ -61,17 +62,16 @@ module _ (s c : List ℕ) (h : 33284 < length s) where
       go true e = (too-many (s ++ c) long (ap (ltb 256) same ∙ e) ∙ sym (too-many s h e), omega (arith, too-many s h e))
       go false e = (too-long (s ++ c) long (ap (ltb 256) same ∙ e) ∙ sym (too-long s h e), omega (arith, too-long s h e))
 
-  checked-behind : (a : Accepted) (ni na : ℕ) → runChecked ni na (s ++ c) a ≡ runChecked ni na s a
-  unfolding runChecked if_then_else_
-  checked-behind a ni na = let (same, more) = sheet-behind in rw (same, lt-ltb 0 (sheetFault s) more)
-
   run-behind : (b : List ℕ) (ni na : ℕ) → run b (s ++ c) ni na ≡ run b s ni na
-  unfolding run
   run-behind b ni na = go (checkForm b) refl
     where
       go : (o : Checked Accepted) → checkForm b ≡ o → run b (s ++ c) ni na ≡ run b s ni na
-      go (refusedAt n k) e = rw (e, run)
-      go (accepted a) e = run-checked b (s ++ c) ni na a e ∙ checked-behind a ni na ∙ sym (run-checked b s ni na a e)
+      go (refusedAt n k) e = run-form b (s ++ c) ni n k e na ∙ sym (run-form b s ni n k e na)
+      go (accepted a) e =
+          let (same, more) = sheet-behind in
+          run-sheet b (s ++ c) ni a e (λ z. omega arith) na
+          ∙ ap (λ (n : ℕ). ok (refusedInput ni na n none)) same
+          ∙ sym (run-sheet b s ni a e (λ z. omega arith) na)
 
 -- ---- the form
 module _ (b c : List ℕ) (h : 8 ≤ length b) where
@@ -106,7 +106,7 @@ form-most b e = let (nodes, fields, names, area) = counts-limits b e in omega ar
 
 -- counts out of limits: all form, and 1
 counts-bad : (b : List ℕ) → countsGood b ≡ false → bench b ≡ ok (benchText (refusedInput 1792 8240 1 none))
-unfolding bench run formEnd checkForm lengthGood if_then_else_ _>>=_
+unfolding bench run formEnd checkForm lengthGood if_then_else_ _>>=_ inputIn formIn
 counts-bad b e = rw (e, take-length b, run, e)
 
 module _ (b c : List ℕ) (h : length b ≡ 39213) where

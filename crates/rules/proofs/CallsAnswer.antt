@@ -24,13 +24,15 @@ use Rattle.rules.specs.Accept.{Checked, accepted, refusedAt, Accepted, c
 use Rattle.rules.specs.Split.{Item, Short, Long, ArgWord, Word, PosWord}
 use Rattle.rules.specs.State.{State, Scope, Found, position, matchShort, matchLong, sameName, before, onlyOnce, parsed, stateGood, emptyState, first, conflict, remove, setScope, adjacentScope}
 use Rattle.rules.specs.Take.{Took, took, Operand, isCommand, takeCommand, takeArg, takePositionalWord, takeCmd}
+use Rattle.rules.specs.Given.{roomIn}
 use Rattle.rules.specs.Run.{Line, parsedMark, padded, split}
 use Rattle.rules.specs.Calls.{callRemove, callPickWinner, callSaveConflicts, callSetScope, callAdjacentScope, callAvailableFrom, onItems, callGet, callConflict, operandOr20, callTakePositional, callOnlyOnce, onForm, keyOf, flagNames, argumentKey, commandName, callMatches, callTakeFlag, callTakeArg, callTakeCmd, callKind, callPortable, callText}
-use Rattle.rules.specs.Calls.{formIn, sheetIn, sliceIn, itemsFrom, trimmed, wholeRecords, itemsIn, fromRaw, toRaw, stateIn, asked, placeIn, scopeIn, handed, splitRefused, splitReport, splitChecked, callSplit, evaluatedWith, evaluated, unchanged, evalIn, callEval}
+use Rattle.rules.specs.Calls.{formIn, sheetIn, sliceIn, itemsFrom, trimmed, wholeRecords, itemsIn, fromRaw, toRaw, stateIn, asked, placeIn, scopeIn, handed, splitRefused, splitReport, callSplit, evaluatedWith, evaluated, unchanged, evalIn, callEval}
 use Rattle.rules.specs.declared.State.{State as Raw}
 use Rattle.rules.specs.Demands.{Good, Sound}
 use Rattle.rules.specs.Answered.{FormFault, badCounts, badName, badNode, badField, badUse, SheetFault, manyArguments, badSheet, AtFault, badForm, sheetAtFault, shortSlice, ItemsLeft}
 use Rattle.rules.specs.CallsAnswered.{OneOf, Answers, answers, refuses, Hands, Evaluates, SplitsLine, CallsAnswered}
+use Rattle.rules.proofs.GivenLaws.{split-form, split-sheet, split-short, split-goes}
 use Rattle.rules.proofs.StepLaws.{test-good, first-found, remove-step, set-scope-good, flag-takes, arg-takes, positional-takes}
 use Rattle.rules.proofs.Steps.{EndsOne}
 use Rattle.rules.proofs.EvalSound.{eval-sound}
@@ -132,8 +134,8 @@ sheet-answers s = go (eqb (sheetFault s) 0) refl
     go false e = refuses _ (sheet-number s (sheetFault s) (sheet-fault s (let z = eqb-false (sheetFault s) 0 e in omega arith)))
 
 slice-answers : (n : ℕ) (l : List ℕ) → Answers (7 ∷ []) (sliceIn n l)
-unfolding sliceIn
-slice-answers n l = if-answers 7 (leb n (length l)) l
+unfolding sliceIn roomIn all contains
+slice-answers n l = bind-answers (roomIn n (length l)) _ (if-answers 7 (leb n (length l)) (length l)) refl (λ _ _. answers l)
 
 items-answers : (area l : List ℕ) → Answers (30 ∷ []) (itemsIn area l)
 unfolding itemsIn
@@ -554,19 +556,15 @@ module _ (form sheet : List ℕ) (n : ℕ) where
   }
 
   module _ (a : Accepted) (accepts : checkForm form ≡ accepted a) where
-    split-checked : callSplit form sheet n ≡ splitChecked n sheet (a .form)
-    unfolding callSplit
-    split-checked = rw (accepts, callSplit)
-
     form-made : split (a .form) sheet ≡ split (readForm form) sheet
     form-made = ap (λ (f : Form). split f sheet) (accepted-form form a accepts)
 
     -- 0, 8 and 9
     line-split : (l : Line) → sheetFault sheet ≡ 0 → 1792 ≤ n → split (a .form) sheet ≡ ok l → SplitsLine form sheet n (callSplit form sheet n)
-    unfolding splitChecked splitReport if_then_else_ _>>=_
+    unfolding splitReport _>>=_
     line-split l z long e = record {
       splitting = splitReport n l;
-      answered = split-checked ∙ rw (z, le-ltb n 1792 long, e);
+      answered = split-goes form sheet n a accepts z long ∙ rw e;
       state = l .state;
       handed = refl;
       number = go (l .refusal) refl;
@@ -588,31 +586,30 @@ module _ (form sheet : List ℕ) (n : ℕ) where
             )
 
     accepted-split : SplitsLine form sheet n (callSplit form sheet n)
-    unfolding splitChecked if_then_else_ _>>=_
     accepted-split = sheeted (ltb 0 (sheetFault sheet)) refl
       where
         sliced : sheetFault sheet ≡ 0 → (t : Bool) → ltb n 1792 ≡ t → SplitsLine form sheet n (callSplit form sheet n)
         sliced z true e =
             split-refused 7 none (shortSlice (well-made form a accepts) (sheet-made sheet z) (inl (ltb-true n 1792 e))) (omega arith)
-            (split-checked ∙ rw (z, e))
+            (split-short form sheet n a accepts z (ltb-true n 1792 e))
         sliced z false e = let (l, h) = split-line (a .form) sheet in line-split l z (ltb-false n 1792 e) h
 
         sheeted : (t : Bool) → ltb 0 (sheetFault sheet) ≡ t → SplitsLine form sheet n (callSplit form sheet n)
         sheeted true e =
             let x = sheet-fault sheet (ltb-true 0 (sheetFault sheet) e) in
             split-refused (sheetFault sheet) none (sheetAtFault (sheetFault sheet) (well-made form a accepts) x)
-            (fault-small sheet (sheetFault sheet) x) (split-checked ∙ rw e)
+            (fault-small sheet (sheetFault sheet) x)
+            (split-sheet form sheet n a accepts (λ z. let h = ltb-true 0 (sheetFault sheet) e in omega arith))
         sheeted false e = let z = ltb-false 0 (sheetFault sheet) e in sliced (omega arith) (ltb n 1792) refl
 
   split-called : SplitsLine form sheet n (callSplit form sheet n)
-  unfolding callSplit
   split-called = go (checkForm form) refl
     where
       go : (c : Checked Accepted) → checkForm form ≡ c → SplitsLine form sheet n (callSplit form sheet n)
       go (accepted a) e = accepted-split a e
       go (refusedAt m k) e =
           let few = check-numbers form m k e .1 in
-          split-refused m k (badForm m k (check-fault form m k e)) (omega arith) (rw (e, callSplit))
+          split-refused m k (badForm m k (check-fault form m k e)) (omega arith) (split-form form sheet n m k e)
 
 -- ---- every single call
 pub calls-answered : CallsAnswered

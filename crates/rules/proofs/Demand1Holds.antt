@@ -6,7 +6,7 @@ use mathlib.Core.Option.{Option, some, none}
 use mathlib.Core.Path.{_≡_, refl, sym, ap, _∙_}
 use Prim.Native.Nat.{ℕ, zero, suc, _+_, _-_, _≤_, _<_}
 use native.Mathlib.Omega.{arith}
-use borrow.Author.Tests.{ltb-true, ltb-false, le-ltb, lt-ltb}
+use borrow.Author.Tests.{ltb-true, ltb-false, le-ltb}
 use lib.Dec.{ltb}
 use lib.ListN.{length, length-append, replicate, length-replicate, length-map}
 use Rattle.utf8.specs.Utf8.{if_then_else_}
@@ -17,16 +17,17 @@ use Rattle.rules.specs.Sheet.{sheetFault, arguments}
 use Rattle.rules.specs.Form.{Form, readForm, fieldCount}
 use Rattle.rules.specs.Accept.{Checked, accepted, refusedAt, Accepted, checkForm}
 use Rattle.rules.specs.Eval.{ended}
-use Rattle.rules.specs.Run.{Line, tooMany, padded, refusedInput, report, reportWith, shortSlices, split, runLine, runChecked, run}
+use Rattle.rules.specs.Run.{Line, tooMany, padded, refusedInput, report, reportWith, split, runLine, run}
 use Rattle.rules.specs.Answered.{AtFault, badForm, sheetAtFault, shortSlice, Ready, Demand1}
 use Rattle.rules.proofs.Acceptance.{accepted-form, accepted-fields}
 use Rattle.rules.proofs.WellMadeLaws.{well-made, refused-not-made, check-fault, check-numbers}
 use Rattle.rules.proofs.SheetLaws.{sheet-made, made-sheet, sheet-fault}
-use Rattle.rules.proofs.InputFaults.{padded-nil, run-checked, fault-small, cleared-left, line-fault, line-left}
+use Rattle.rules.proofs.InputFaults.{padded-nil, fault-small, cleared-left, line-fault, line-left}
 use Rattle.rules.proofs.FaultsTell.{fault-told}
 use Rattle.rules.proofs.SplitLaws.{some≢none, ok-injective, LineGood, split-line, line-law}
 use Rattle.rules.proofs.EvalSound.{Any}
 use Rattle.rules.proofs.Fields.{RunsAll}
+use Rattle.rules.proofs.GivenLaws.{run-form, run-sheet, run-short, run-cramped, run-goes}
 use Rattle.rules.proofs.Demand3Holds.{line-good, line-runs}
 
 -- ---- slices
@@ -65,6 +66,10 @@ input-refused b s ni na n k e h small unready = record {
   answers = padded-length na [] (omega arith);
 }
 
+-- 7
+unfoldable shortSlices : ℕ → ℕ → Bool
+shortSlices ni na = ltb ni 1792 || ltb na 8240
+
 short-slice : (ni na : ℕ) → shortSlices ni na ≡ true → (ni < 1792) ⊎ (na < 8240)
 unfolding shortSlices
 short-slice ni na = go (ltb ni 1792) refl
@@ -87,29 +92,29 @@ short-not-ready b s ni na e r = true≢false (sym e ∙ rw (le-ltb ni 1792 (r .i
 
 -- ---- the ways of a run
 module _ (b s : List ℕ) (ni na : ℕ) (a : Accepted) (form : checkForm b ≡ accepted a) where
-  runs-checked : run b s ni na ≡ runChecked ni na s a
-  runs-checked = run-checked b s ni na a form
-
   -- 5 and 6
   sheet-refused : 0 < sheetFault s → Demand1 b s ni na
-  unfolding runChecked if_then_else_
   sheet-refused h =
       let x = sheet-fault s h in
-      input-refused b s ni na (sheetFault s) none (runs-checked ∙ rw (lt-ltb 0 (sheetFault s) h))
+      input-refused b s ni na (sheetFault s) none (run-sheet b s ni a form (λ z. omega arith) na)
       (sheetAtFault (sheetFault s) (well-made b a form) x) (fault-small s (sheetFault s) x)
       (λ (r : Ready b s ni na). omega (arith, h, made-sheet s (r .sheet)))
 
   -- 7
   slices-refused : sheetFault s ≡ 0 → shortSlices ni na ≡ true → Demand1 b s ni na
-  unfolding runChecked if_then_else_
+  unfolding shortSlices
   slices-refused z e =
-      input-refused b s ni na 7 none (runs-checked ∙ rw (z, e))
+      input-refused b s ni na 7 none (go (ltb ni 1792) refl)
       (shortSlice (well-made b a form) (sheet-made s z) (short-slice ni na e)) (omega arith) (short-not-ready b s ni na e)
+    where
+      go : (t : Bool) → ltb ni 1792 ≡ t → run b s ni na ≡ ok (refusedInput ni na 7 none)
+      go true h = run-short b s ni a form z (ltb-true ni 1792 h) na
+      go false h = run-cramped b s ni a form z (ltb-false ni 1792 h) na (ltb-true na 8240 (rw h at e))
 
   module _ (l : Line) (sheet : sheetFault s ≡ 0) (slices : shortSlices ni na ≡ false) (splits : split (a .form) s ≡ ok l) where
     run-reports : run b s ni na ≡ report ni na l (runLine (a .fields) l)
-    unfolding runChecked if_then_else_ _>>=_
-    run-reports = runs-checked ∙ rw (sheet, slices, splits)
+    unfolding _>>=_
+    run-reports = run-goes b s ni a form sheet (long-slices ni na slices .0) na (long-slices ni na slices .1) ∙ rw splits
 
     records-fit : length (l .records) ≤ ni
     unfolding tooMany
@@ -208,12 +213,11 @@ module _ (b s : List ℕ) (ni na : ℕ) (a : Accepted) (form : checkForm b ≡ a
       go false h = let z = ltb-false 0 (sheetFault s) h in sliced (omega arith) (shortSlices ni na) refl
 
 pub demand1 : (b s : List ℕ) (ni na : ℕ) → Demand1 b s ni na
-unfolding run
 demand1 b s ni na = go (checkForm b) refl
   where
     go : (c : Checked Accepted) → checkForm b ≡ c → Demand1 b s ni na
     go (accepted a) e = accepted-answered b s ni na a e
     go (refusedAt n k) e =
         let h = check-numbers b n k e in
-        input-refused b s ni na n k (rw (e, run)) (badForm n k (check-fault b n k e)) (omega arith)
+        input-refused b s ni na n k (run-form b s ni n k e na) (badForm n k (check-fault b n k e)) (omega arith)
         (λ (r : Ready b s ni na). refused-not-made b n k e (r .form))

@@ -1,24 +1,22 @@
 -- Demand 3: one theorem over every accepted form and every sheet that splits.
-use mathlib.Core.Bool.{false}
 use mathlib.Core.List.{List, [], _∷_}
 use mathlib.Core.Logic.{⊎-elim}
 use mathlib.Core.Option.{none}
 use mathlib.Core.Path.{_≡_, refl, sym, ap, _∙_}
 use Prim.Native.Nat.{ℕ, _≤_}
-use borrow.Author.Tests.{le-ltb}
 use lib.ListN.{length}
-use Rattle.utf8.specs.Utf8.{if_then_else_}
 use Rattle.rules.specs.Outcome.{ok, _>>=_}
 use Rattle.rules.specs.Sheet.{sheetFault, arguments}
 use Rattle.rules.specs.Accept.{Accepted, accepted, checkForm}
 use Rattle.rules.specs.Value.{BaseValue}
 use Rattle.rules.specs.State.{parsed}
 use Rattle.rules.specs.Eval.{Visit, statesOf}
-use Rattle.rules.specs.Run.{Line, split, runLine, tooMany, parsedMark, shortSlices, report, runChecked, run}
+use Rattle.rules.specs.Run.{Line, split, runLine, tooMany, parsedMark, report, run}
 use Rattle.rules.specs.Demands.{All, Counted, Bytes, Means, Faultless, WholeRun, Demand3}
 use Rattle.rules.specs.WellMade.{SheetMade}
 use Rattle.rules.proofs.Acceptance.{accepted-sound}
 use Rattle.rules.proofs.SheetLaws.{made-sheet}
+use Rattle.rules.proofs.GivenLaws.{run-goes}
 use Rattle.rules.proofs.Uses.{leaves-law}
 use Rattle.rules.proofs.SplitLaws.{some≢none, LineGood, line-law, split-line}
 use Rattle.rules.proofs.Steps.{Visited}
@@ -64,13 +62,9 @@ module _ (b s : List ℕ) (a : Accepted) (form : checkForm b ≡ accepted a) whe
         rw unrefused (all-means 1 refl (l .items) M means (a .fields) sound fallbacks (l .state) (line-good a s l splits unrefused .good))
 
     -- what is reported is this run's
-    checked-run : (ni na : ℕ) → sheetFault s ≡ 0 → shortSlices ni na ≡ false → runChecked ni na s a ≡ report ni na l (runLine (a .fields) l)
-    unfolding runChecked if_then_else_ _>>=_
-    checked-run ni na sheet slices = rw (sheet, slices, splits)
-
     run-reported : (ni na : ℕ) → sheetFault s ≡ 0 → 1792 ≤ ni → 8240 ≤ na → run b s ni na ≡ report ni na l (runLine (a .fields) l)
-    unfolding run shortSlices
-    run-reported ni na sheet i o = rw (form, run) (checked-run ni na sheet (rw (le-ltb ni 1792 i, le-ltb na 8240 o)))
+    unfolding _>>=_
+    run-reported ni na sheet i o = run-goes b s ni a form sheet i na o ∙ rw splits
 
     pub whole-run : Bytes b → sheetFault s ≡ 0 → WholeRun M b s a l
     whole-run bytes sheet =

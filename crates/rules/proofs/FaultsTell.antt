@@ -7,7 +7,7 @@ use mathlib.Core.Path.{_≡_, refl, sym, ap, _∙_, subst}
 use Prim.Native.Nat.{ℕ, zero, suc, _+_, _≤_, _<_}
 use native.Mathlib.Nat.{zero-add}
 use native.Mathlib.Omega.{arith}
-use borrow.Author.Tests.{eq-eqb, eqb-true, lt-ltb, le-ltb, ltb-false}
+use borrow.Author.Tests.{eq-eqb, eqb-true, lt-ltb, le-ltb, ltb-true, ltb-false}
 use lib.Dec.{ltb}
 use lib.ListN.{length, take, getElem?}
 use Rattle.utf8.specs.Utf8.{if_then_else_}
@@ -19,7 +19,7 @@ use Rattle.rules.specs.Tree.{Tree}
 use Rattle.rules.specs.Accept.{Checked, accepted, refusedAt, Accepted, lengthGood, treesFrom, uses, usedOnce, treesAt, checkUse, checkRecords, checkForm}
 use Rattle.rules.specs.Split.{Split, itemsOf}
 use Rattle.rules.specs.Eval.{ended}
-use Rattle.rules.specs.Run.{Line, tooMany, lineOf, refusedInput, Report, report, reportWith, shortSlices, split, runLine, runChecked, run}
+use Rattle.rules.specs.Run.{Line, tooMany, lineOf, refusedInput, Report, report, reportWith, split, runLine, run}
 use Rattle.rules.specs.Demands.{All}
 use Rattle.rules.specs.WellMade.{NameMade, NodesMade, CountsMade, WellMade, SheetMade}
 use Rattle.rules.specs.Answered.{FormFault, badCounts, badName, badNode, badField, badUse, SheetFault, manyArguments, badSheet, Splits, AtFault, badForm, sheetAtFault, shortSlice, manyItems, ambiguousLetter}
@@ -27,7 +27,8 @@ use Rattle.rules.proofs.Acceptance.{All-at, good-no-fault, no-fault, nu
 use Rattle.rules.proofs.Uses.{used-once}
 use Rattle.rules.proofs.WellMadeLaws.{length-counts, counts-length, name-made, each-good, node-count, trees-count, nodes-made, nodes-trees, fields-made, fields-is, first-number, trees-refused, lower-made, next-not-made, made-accepted}
 use Rattle.rules.proofs.SheetLaws.{sheet-made, made-sheet}
-use Rattle.rules.proofs.InputFaults.{run-checked, stopped, few-line}
+use Rattle.rules.proofs.InputFaults.{stopped, few-line}
+use Rattle.rules.proofs.GivenLaws.{run-form, run-sheet, run-short, run-cramped, run-goes}
 use Rattle.rules.proofs.SplitLaws.{ok-injective}
 
 -- ---- the form
@@ -196,29 +197,28 @@ record Refused (b s : List ℕ) (ni na n : ℕ) (k : Option ℕ) : Type 0 where
   number : report .number ≡ n
   place : report .place ≡ k
 
-short-slices : (ni na : ℕ) → (ni < 1792) ⊎ (na < 8240) → shortSlices ni na ≡ true
-unfolding shortSlices
-short-slices ni na (inl h) = rw (lt-ltb ni 1792 h)
-short-slices ni na (inr h) = go (ltb ni 1792)
-  where
-    go : (t : Bool) → (t || ltb na 8240) ≡ true
-    go true = refl
-    go false = lt-ltb na 8240 h
+module _ (b s : List ℕ) (ni na : ℕ) where
+  input-told : (n : ℕ) (k : Option ℕ) → run b s ni na ≡ ok (refusedInput ni na n k) → Refused b s ni na n k
+  unfolding refusedInput
+  input-told n k e = record { report = refusedInput ni na n k; answered = e; number = refl; place = refl }
 
-module _ (b s : List ℕ) (ni na : ℕ) (w : WellMade b) where
   module _ (a : Accepted) (form : checkForm b ≡ accepted a) where
-    checked-refused : (n : ℕ) → runChecked ni na s a ≡ ok (refusedInput ni na n none) → Refused b s ni na n none
-    unfolding refusedInput
-    checked-refused n e = record { report = refusedInput ni na n none; answered = run-checked b s ni na a form ∙ e; number = refl; place = refl }
-
     sheet-told : (n : ℕ) → SheetFault s n → Refused b s ni na n none
-    unfolding runChecked if_then_else_
-    sheet-told n x = let (e, h) = fault-sheet s n x in checked-refused n (rw (e, lt-ltb 0 n h))
+    sheet-told n x =
+        let (e, h) = fault-sheet s n x in
+        input-told n none (run-sheet b s ni a form (λ z. omega arith) na ∙ ap (λ (m : ℕ). ok (refusedInput ni na m none)) e)
 
     module _ (sheet : SheetMade s) where
+      items-told : ni < 1792 → Refused b s ni na 7 none
+      items-told h = input-told 7 none (run-short b s ni a form (made-sheet s sheet) h na)
+
       slice-told : (ni < 1792) ⊎ (na < 8240) → Refused b s ni na 7 none
-      unfolding runChecked if_then_else_
-      slice-told h = checked-refused 7 (rw (made-sheet s sheet, short-slices ni na h))
+      slice-told (inl h) = items-told h
+      slice-told (inr h) = go (ltb ni 1792) refl
+        where
+          go : (t : Bool) → ltb ni 1792 ≡ t → Refused b s ni na 7 none
+          go true e = items-told (ltb-true ni 1792 e)
+          go false e = input-told 7 none (run-cramped b s ni a form (made-sheet s sheet) (ltb-false ni 1792 e) na h)
 
       line-told :
           (l : Line) (e : Refusal)
@@ -227,18 +227,10 @@ module _ (b s : List ℕ) (ni na : ℕ) (w : WellMade b) where
           → split (readForm b) s ≡ ok l
           → l .refusal ≡ some e
           → Refused b s ni na (e .number) (e .place)
-      unfolding runChecked shortSlices report reportWith runLine ended if_then_else_ _>>=_
+      unfolding report reportWith runLine ended _>>=_
       line-told l e items answers h u = record {
         report = reportWith ni na l (ended (refused e) (l .state)) (e .number) (e .place) [];
-        answered = run-checked b s ni na a form ∙ rw (
-          made-sheet s sheet,
-          le-ltb ni 1792 items,
-          le-ltb na 8240 answers,
-          accepted-form b a form,
-          h,
-          u,
-          runLine,
-        );
+        answered = run-goes b s ni a form (made-sheet s sheet) items na answers ∙ rw (accepted-form b a form, h, u, runLine);
         number = refl;
         place = refl;
       }
@@ -258,21 +250,16 @@ unfolding split _>>=_
 few-split b s x i h few a = rw h (few-line b s x i h few a)
 
 faults-told : (b s : List ℕ) (ni na n : ℕ) (k : Option ℕ) → AtFault b s ni na n k → Refused b s ni na n k
-unfolding run refusedInput tooMany refuse refuseAt
-faults-told b s ni na n k (badForm m j x) = record {
-  report = refusedInput ni na m j;
-  answered = rw (fault-checked b m j x, run);
-  number = refl;
-  place = refl;
-}
-faults-told b s ni na n k (sheetAtFault m w x) = let (a, e) = made-accepted b w in sheet-told b s ni na w a e m x
-faults-told b s ni na n k (shortSlice w sheet h) = let (a, e) = made-accepted b w in slice-told b s ni na w a e sheet h
+unfolding tooMany refuse refuseAt
+faults-told b s ni na n k (badForm m j x) = input-told b s ni na m j (run-form b s ni m j (fault-checked b m j x) na)
+faults-told b s ni na n k (sheetAtFault m w x) = let (a, e) = made-accepted b w in sheet-told b s ni na a e m x
+faults-told b s ni na n k (shortSlice w sheet h) = let (a, e) = made-accepted b w in slice-told b s ni na a e sheet h
 faults-told b s ni na n k (manyItems x w sheet items answers h many) =
     let (a, e) = made-accepted b w in
-    line-told b s ni na w a e sheet tooMany (refuse 8) items answers (many-split b s x h many) refl
+    line-told b s ni na a e sheet tooMany (refuse 8) items answers (many-split b s x h many) refl
 faults-told b s ni na n k (ambiguousLetter x i w sheet items answers h few u) =
     let (a, e) = made-accepted b w in
-    line-told b s ni na w a e sheet (stopped s x i) (refuseAt 9 i) items answers (few-split b s x i h few u) refl
+    line-told b s ni na a e sheet (stopped s x i) (refuseAt 9 i) items answers (few-split b s x i h few u) refl
 
 -- what is at fault is the number and the place that is reported
 pub fault-told :

@@ -16,7 +16,7 @@ use Rattle.rules.specs.Form.{readForm}
 use Rattle.rules.specs.Accept.{accepted, Accepted, checkForm, lettersOf}
 use Rattle.rules.specs.Split.{Split, splitFrom, itemsOf, recordsFrom}
 use Rattle.rules.specs.State.{State, emptyState, construct}
-use Rattle.rules.specs.Run.{Line, tooMany, ambiguity, parsedMark, lineOf, padded, split, runChecked, run}
+use Rattle.rules.specs.Run.{Line, tooMany, ambiguity, parsedMark, lineOf, padded, split}
 use Rattle.rules.specs.Demands.{All}
 use Rattle.rules.specs.WellMade.{WellMade, SheetMade}
 use Rattle.rules.specs.Answered.{SheetFault, manyArguments, badSheet, Splits, AtFault, manyItems, ambiguousLetter, ItemsLeft}
@@ -25,11 +25,6 @@ use Rattle.rules.proofs.SplitLaws.{some≢none, ok-injective, ambiguous
 pub padded-nil : (n : ℕ) → padded n [] ≡ replicate n 0
 unfolding padded
 padded-nil n = ap (λ (k : ℕ). replicate k 0) (sub-zero n)
-
--- an accepted form is run
-pub run-checked : (b s : List ℕ) (ni na : ℕ) (a : Accepted) → checkForm b ≡ accepted a → run b s ni na ≡ runChecked ni na s a
-unfolding run
-run-checked b s ni na a e = rw (e, run)
 
 pub fault-small : (s : List ℕ) (n : ℕ) → SheetFault s n → n ≤ 8
 fault-small s n (manyArguments c h) = omega arith

@@ -1,6 +1,9 @@
 -- Lines and spots, by computing
+pub mod Opened
 pub mod LinesHold
 pub mod Witnesses
+-- Codes
+pub mod CodeLaws
 -- What the proofs hand on
 pub mod Steps
 -- States and takes
@@ -35,6 +38,8 @@ pub mod FaultsTell
 pub mod BenchLaws
 -- Single calls
 pub mod CallsAnswer
+-- The tests before a call
+pub mod GivenLaws
 -- The demands
 pub mod Demand3Holds
 pub mod Demand1Holds

@@ -1,5 +1,5 @@
 -- What the definitions give where the Rust would panic, and which states a run passes through: computed.
-use mathlib.Core.Bool.{true, false, xor}
+use mathlib.Core.Bool.{true, false}
 use mathlib.Core.List.{List, [], _∷_}
 use mathlib.Core.Option.{some, none}
 use mathlib.Core.Path.{_≡_, refl}
@@ -13,35 +13,24 @@ use Rattle.rules.specs.Accept.{Letters}
 use Rattle.rules.specs.Split.{Item, Short, Word}
 use Rattle.rules.specs.State.{State}
 use Rattle.rules.specs.Eval.{Visit}
-use Rattle.utf8.specs.Utf8.{if_then_else_, table, holds, fits, leadBits, continued, scalar, decodeBy, decode, decodeAt}
-use Rattle.utf8.specs.Utf8.{wellFormedAfter, wellFormed}
-use Rattle.rules.specs.Base.{null, all, contains, same, occurrences, numbers, concatMap, firstFault, isSome, _>>?_, minus}
-use Rattle.rules.specs.Base.{write, sliceFrom, slice}
-use Rattle.rules.specs.Outcome.{_>>=_, at, refuse, refuseAt, isMissing, canCatch, wrongInput, combineWith}
-use Rattle.rules.specs.Value.{listOf, baseNumber, sameBase, baseOf, isBase, isOptional, isList, hasKind, ofKind, basesOf}
-use Rattle.rules.specs.Value.{word, size, answerWords, words, elements}
-use Rattle.rules.specs.Tree.{optionalKind, listKind, countKind, lastKind, shapeOf, innerBase, sameKind, choiceKind}
-use Rattle.rules.specs.Tree.{baseKind, kindOf, hasRepeat, zeros, namesOf, shortOf, longOf, namedBy, namedOf, flagOf}
-use Rattle.rules.specs.Tree.{argumentOf, positionOf, positionalOf, fitting, repeatOf, fallbackValue, fallbackOf, guardOf}
-use Rattle.rules.specs.Tree.{childOf, caughtOf, choiceOf, treeOf}
-use Rattle.rules.specs.Split.{dash, equals, beforeEquals, behindEquals, parts, splitLong, shortBody, splitShort, behindDash}
-use Rattle.rules.specs.Split.{splitOsArgument, clusterFrom, pickLetter, lookUp, disambiguateShort, flagItems, argumentItems}
-use Rattle.rules.specs.Split.{clusterItems, ambiguousAt, plain, clusterGroup, shortGroup, longGroup, partsGroup, wordGroup}
-use Rattle.rules.specs.Split.{splitArgument, positionals, joined, splitFrom, itemsOf, recordWords, bit, partOffset}
-use Rattle.rules.specs.Split.{recordWith, itemRecord, itemWords, recordsFrom}
-use Rattle.rules.specs.State.{parsed, present, winner, construct, emptyState, inScope, presentAt, presentFrom, unused, get}
-use Rattle.rules.specs.State.{findIn, find, first, used, remove, withCurrent, pickFrom, pickWinner, conflicts}
-use Rattle.rules.specs.State.{saveConflicts, conflictAt, conflict, countPresent, setScope, untilPresent, proposed}
-use Rattle.rules.specs.State.{adjacentScope, span, adjacentlyAvailableFrom, matchShort, matchLong, position, sameName}
-use Rattle.rules.specs.State.{before, onlyOnce, markGood, currentGood, stateGood}
-use Rattle.rules.specs.Take.{took, containsName, matchesArg, takeFlag, valueText, takeValue, takeArg, isOperand, isPosWord}
-use Rattle.rules.specs.Take.{textOf, operand, takePositionalWord, commandText, isCommand, takeCommand, takeCmd}
-use Rattle.rules.specs.Eval.{ended, after, _then_, visit, statesOf, leaf, refuseMissing, shownName, notFound, flagValue}
-use Rattle.rules.specs.Eval.{evalFlag, isDigit, digits, unsigned, numberOf, failedAt, parseText, argumentValue}
-use Rattle.rules.specs.Eval.{evalArgument, wrongPosition, placedValue, positionalValue, evalPositional, fewer, swallowed}
-use Rattle.rules.specs.Eval.{parseOption, evalOptional, idle, repeat, repeated, evalMany, evalSome, evalCount, lastOf}
-use Rattle.rules.specs.Eval.{evalLast, side, picksFirst, won, valueOf, picked, chosen, evalChoice, evalFallback, guarded}
-use Rattle.rules.specs.Eval.{evalGuard, eval}
+use Rattle.rules.specs.Base.{same}
+use Rattle.rules.specs.Base.{write}
+use Rattle.rules.specs.Outcome.{at, refuseAt}
+use Rattle.rules.specs.Value.{ofKind}
+use Rattle.rules.specs.Value.{word}
+use Rattle.rules.specs.Tree.{kindOf}
+use Rattle.rules.specs.Split.{clusterFrom}
+use Rattle.rules.specs.Split.{shortGroup}
+use Rattle.rules.specs.State.{present, construct}
+use Rattle.rules.specs.State.{first, used, remove}
+use Rattle.rules.specs.State.{conflict, setScope}
+use Rattle.rules.specs.State.{adjacentScope}
+use Rattle.rules.specs.State.{before, onlyOnce}
+use Rattle.rules.specs.Eval.{after}
+use Rattle.rules.specs.Eval.{repeat}
+use Rattle.rules.specs.Eval.{side}
+use Rattle.rules.specs.Eval.{eval}
+use Rattle.rules.proofs.Opened.{formats, forms, splitting, states, evaluation}
 
 -- ---- what the lines below run on
 unfoldable named-v : Named
@@ -144,7 +133,8 @@ spots :
     × (ofKind none (there absent) ≡ false)
     -- a repeat with one turn's fuel
     × (repeat false false 1 none (eval 1 flagItem (Flag 0 named-v true)) (forged (0 ∷ []) 1 0 1) .outcome ≡ fault endless)
-unfolding xor if_then_else_ table holds fits leadBits continued scalar decodeBy decode decodeAt wellFormedAfter wellFormed null all contains same occurrences numbers concatMap firstFault isSome _>>?_ minus write sliceFrom slice _>>=_ at refuse refuseAt isMissing canCatch wrongInput combineWith listOf baseNumber sameBase baseOf isBase isOptional isList hasKind ofKind basesOf word size answerWords words elements optionalKind listKind countKind lastKind shapeOf innerBase sameKind choiceKind baseKind kindOf hasRepeat zeros namesOf shortOf longOf namedBy namedOf flagOf argumentOf positionOf positionalOf fitting repeatOf fallbackValue fallbackOf guardOf childOf caughtOf choiceOf treeOf dash equals beforeEquals behindEquals parts splitLong shortBody splitShort behindDash splitOsArgument clusterFrom pickLetter lookUp disambiguateShort flagItems argumentItems clusterItems ambiguousAt plain clusterGroup shortGroup longGroup partsGroup wordGroup splitArgument positionals joined splitFrom itemsOf recordWords bit partOffset recordWith itemRecord itemWords recordsFrom parsed present winner construct emptyState inScope presentAt presentFrom unused get findIn find first used remove withCurrent pickFrom pickWinner conflicts saveConflicts conflictAt conflict countPresent setScope untilPresent proposed adjacentScope span adjacentlyAvailableFrom matchShort matchLong position sameName before onlyOnce markGood currentGood stateGood took containsName matchesArg takeFlag valueText takeValue takeArg isOperand isPosWord textOf operand takePositionalWord commandText isCommand takeCommand takeCmd ended after _then_ visit statesOf leaf refuseMissing shownName notFound flagValue evalFlag isDigit digits unsigned numberOf failedAt parseText argumentValue evalArgument wrongPosition placedValue positionalValue evalPositional fewer swallowed parseOption evalOptional idle repeat repeated evalMany evalSome evalCount lastOf evalLast side picksFirst won valueOf picked chosen evalChoice evalFallback guarded evalGuard eval named-v named-q flagItem twoItems valueItems wordItem fresh after-one after-zero after-choice one-word word-used nothing forged noNames noLetters visited gaveYes missingV
+unfolding formats forms splitting states evaluation named-v named-q flagItem twoItems valueItems wordItem fresh after-one
+    after-zero after-choice one-word word-used nothing forged noNames noLetters visited gaveYes missingV
 spots = (refl, refl, refl, refl, refl, refl, refl, refl, refl, refl, refl, refl, refl, refl, refl, refl, refl, refl, refl)
 
 -- ---- states passed through
@@ -168,7 +158,8 @@ passed-through :
     ≡ (visited yesNo one-word gaveYes word-used
     ∷ record { kind = none; given = one-word; outcome = fault wrongKind; left = word-used }
     ∷ []))
-unfolding xor if_then_else_ table holds fits leadBits continued scalar decodeBy decode decodeAt wellFormedAfter wellFormed null all contains same occurrences numbers concatMap firstFault isSome _>>?_ minus write sliceFrom slice _>>=_ at refuse refuseAt isMissing canCatch wrongInput combineWith listOf baseNumber sameBase baseOf isBase isOptional isList hasKind ofKind basesOf word size answerWords words elements optionalKind listKind countKind lastKind shapeOf innerBase sameKind choiceKind baseKind kindOf hasRepeat zeros namesOf shortOf longOf namedBy namedOf flagOf argumentOf positionOf positionalOf fitting repeatOf fallbackValue fallbackOf guardOf childOf caughtOf choiceOf treeOf dash equals beforeEquals behindEquals parts splitLong shortBody splitShort behindDash splitOsArgument clusterFrom pickLetter lookUp disambiguateShort flagItems argumentItems clusterItems ambiguousAt plain clusterGroup shortGroup longGroup partsGroup wordGroup splitArgument positionals joined splitFrom itemsOf recordWords bit partOffset recordWith itemRecord itemWords recordsFrom parsed present winner construct emptyState inScope presentAt presentFrom unused get findIn find first used remove withCurrent pickFrom pickWinner conflicts saveConflicts conflictAt conflict countPresent setScope untilPresent proposed adjacentScope span adjacentlyAvailableFrom matchShort matchLong position sameName before onlyOnce markGood currentGood stateGood took containsName matchesArg takeFlag valueText takeValue takeArg isOperand isPosWord textOf operand takePositionalWord commandText isCommand takeCommand takeCmd ended after _then_ visit statesOf leaf refuseMissing shownName notFound flagValue evalFlag isDigit digits unsigned numberOf failedAt parseText argumentValue evalArgument wrongPosition placedValue positionalValue evalPositional fewer swallowed parseOption evalOptional idle repeat repeated evalMany evalSome evalCount lastOf evalLast side picksFirst won valueOf picked chosen evalChoice evalFallback guarded evalGuard eval named-v named-q flagItem twoItems valueItems wordItem fresh after-one after-zero after-choice one-word word-used nothing forged noNames noLetters visited gaveYes missingV
+unfolding formats forms splitting states evaluation named-v named-q flagItem twoItems valueItems wordItem fresh after-one
+    after-zero after-choice one-word word-used nothing forged noNames noLetters visited gaveYes missingV
 passed-through = (refl, refl, refl, refl, refl)
 
 -- ---- decisions that are easily made otherwise
@@ -181,5 +172,6 @@ decided :
     -- and so does one on the other side
     × (eval 1 flagItem (Choice (Fallback (isNumber 9) (Argument 1 named-q number false)) (Argument 0 named-v number false)) one-word .outcome
     ≡ refused (refuseAt 22 0))
-unfolding xor if_then_else_ table holds fits leadBits continued scalar decodeBy decode decodeAt wellFormedAfter wellFormed null all contains same occurrences numbers concatMap firstFault isSome _>>?_ minus write sliceFrom slice _>>=_ at refuse refuseAt isMissing canCatch wrongInput combineWith listOf baseNumber sameBase baseOf isBase isOptional isList hasKind ofKind basesOf word size answerWords words elements optionalKind listKind countKind lastKind shapeOf innerBase sameKind choiceKind baseKind kindOf hasRepeat zeros namesOf shortOf longOf namedBy namedOf flagOf argumentOf positionOf positionalOf fitting repeatOf fallbackValue fallbackOf guardOf childOf caughtOf choiceOf treeOf dash equals beforeEquals behindEquals parts splitLong shortBody splitShort behindDash splitOsArgument clusterFrom pickLetter lookUp disambiguateShort flagItems argumentItems clusterItems ambiguousAt plain clusterGroup shortGroup longGroup partsGroup wordGroup splitArgument positionals joined splitFrom itemsOf recordWords bit partOffset recordWith itemRecord itemWords recordsFrom parsed present winner construct emptyState inScope presentAt presentFrom unused get findIn find first used remove withCurrent pickFrom pickWinner conflicts saveConflicts conflictAt conflict countPresent setScope untilPresent proposed adjacentScope span adjacentlyAvailableFrom matchShort matchLong position sameName before onlyOnce markGood currentGood stateGood took containsName matchesArg takeFlag valueText takeValue takeArg isOperand isPosWord textOf operand takePositionalWord commandText isCommand takeCommand takeCmd ended after _then_ visit statesOf leaf refuseMissing shownName notFound flagValue evalFlag isDigit digits unsigned numberOf failedAt parseText argumentValue evalArgument wrongPosition placedValue positionalValue evalPositional fewer swallowed parseOption evalOptional idle repeat repeated evalMany evalSome evalCount lastOf evalLast side picksFirst won valueOf picked chosen evalChoice evalFallback guarded evalGuard eval named-v named-q flagItem twoItems valueItems wordItem fresh after-one after-zero after-choice one-word word-used nothing forged noNames noLetters visited gaveYes missingV
+unfolding formats forms splitting states evaluation named-v named-q flagItem twoItems valueItems wordItem fresh after-one
+    after-zero after-choice one-word word-used nothing forged noNames noLetters visited gaveYes missingV
 decided = (refl, refl, refl)

@@ -9,32 +9,20 @@ use Rattle.utf8.specs.Utf8.{if_then_else_}
 use Rattle.rules.specs.Base.{_>>?_}
 use Rattle.rules.specs.Outcome.{Outcome, ok, refused, fault, _>>=_, Refusal, refuse}
 use Rattle.rules.specs.Value.{Kind, Value, words}
-use Rattle.rules.specs.Sheet.{sheetFault, sheetArea}
-use Rattle.rules.specs.Form.{Form, nameBytes, portable}
+use Rattle.rules.specs.Form.{nameBytes, portable}
 use Rattle.rules.specs.Tree.{Named, Tree, Flag, Argument, Positional, Optional, Many, Some, Count, Last, Choice, Fallback, Guard, zeros, kindOf}
-use Rattle.rules.specs.Accept.{Accepted, accepted, refusedAt, checkForm}
+use Rattle.rules.specs.Accept.{Accepted}
 use Rattle.rules.specs.Split.{Item, Short, Long, ArgWord, Word, PosWord, ItemRecord}
 use Rattle.rules.specs.State.{State, emptyState, parsed, stateGood, get, remove, Conflict, conflict, Picked, pickWinner, saveConflicts, Scope, setScope, adjacentScope, adjacentlyAvailableFrom, onlyOnce}
 use Rattle.rules.specs.Take.{Took, took, Taken, Operand, matchesArg, textOf, takeFlag, takeArg, takePositionalWord, takeCmd}
 use Rattle.rules.specs.Eval.{Ran, eval}
+use Rattle.rules.specs.Given.{inputIn}
+unfoldable pub use Rattle.rules.specs.Given.{formIn, sheetIn, sliceIn}
 use Rattle.rules.specs.Run.{padded, parsedMark, Line, split}
-use Rattle.rules.specs.Codes.{placeCode}
+use Rattle.rules.specs.Codes.{placeCode, placeOf}
 use Rattle.rules.specs.declared.State.{State as Raw}
 
--- ---- what a call is given
--- 1 to 4
-unfoldable pub formIn : List ℕ → Outcome Accepted
-formIn b = elim (checkForm b)
-    [ refusedAt n k ↦ refused (record { number = n; place = k; missing = [] }) | accepted a ↦ ok a ]
-
--- 6 and 5; the sheet's area
-unfoldable pub sheetIn : List ℕ → Outcome (List ℕ)
-sheetIn s = if eqb (sheetFault s) 0 then ok (sheetArea s) else refused (refuse (sheetFault s))
-
--- 7, for the one slice that the call has
-unfoldable pub sliceIn : ℕ → List ℕ → Outcome (List ℕ)
-sliceIn least l = if leb least (length l) then ok l else refused (refuse 7)
-
+-- ---- what a call is given, after the tests of Given
 -- 30: an item record of unknown kind, with adjacent above 1, a non-zero unused word or a part outside the area
 unfoldable pub partIn : List ℕ → ℕ → ℕ → Option (List ℕ)
 partIn area offset size = if leb (offset + size) (length area) then some (take size (drop offset area)) else none
@@ -104,7 +92,7 @@ unfoldable pub fromRaw : Raw → State
 fromRaw x = record {
   marks = take (x .count) (x .marks);
   remaining = x .remaining;
-  current = if eqb (x .current) 0 then none else some (x .current - 1);
+  current = placeOf (x .current);
   start = x .start;
   end = x .end;
 }
@@ -283,15 +271,12 @@ splitReport n l = record {
   items = padded n (l .records);
 }
 
-unfoldable pub splitChecked : ℕ → List ℕ → Form → Outcome Splitting
-splitChecked n s f =
-    if ltb 0 (sheetFault s)
-    then ok (splitRefused n (sheetFault s) none)
-    else (if ltb n 1792 then ok (splitRefused n 7 none) else (split f s >>= λ l. ok (splitReport n l)))
-
 unfoldable pub callSplit : List ℕ → List ℕ → ℕ → Outcome Splitting
-callSplit form sheet n = elim (checkForm form)
-    [ refusedAt m k ↦ ok (splitRefused n m k) | accepted a ↦ splitChecked n sheet (a .form) ]
+callSplit form sheet n = elim (inputIn form sheet n) [
+  | ok a ↦ split (a .form) sheet >>= λ l. ok (splitReport n l)
+  | refused e ↦ ok (splitRefused n (e .number) (e .place))
+  | fault x ↦ fault x
+]
 
 -- ---- the text of an answer word: a part of the sheet or of the form
 unfoldable pub recordText : Accepted → ℕ → Option (List ℕ)

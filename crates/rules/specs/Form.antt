@@ -1,5 +1,5 @@
 -- The form: header of counts, field numbers, nodes of 16 bytes, names of 6 bytes, the area.
-use mathlib.Core.Bool.{Bool, true, false, _&&_}
+use mathlib.Core.Bool.{Bool, true, false, _&&_, _||_}
 use mathlib.Core.List.{List, map}
 use mathlib.Core.Option.{Option, some, none}
 use Prim.Native.Nat.{ℕ, _+_, _*_}
@@ -106,7 +106,7 @@ nameGood a x = leb (x .offset + x .size) (length a) && typeGood (x .type) (nameB
 
 -- The portable mark: every name record of type 0 is one of A..Z, a..z
 unfoldable pub isLetter : ℕ → Bool
-isLetter c = if leb c 90 then leb 65 c else leb 97 c && leb c 122
+isLetter c = (leb 65 c && leb c 90) || (leb 97 c && leb c 122)
 
 unfoldable pub portableName : List ℕ → Name → Bool
 portableName a x =

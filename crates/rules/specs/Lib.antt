@@ -10,6 +10,7 @@ pub mod Split
 pub mod State
 pub mod Take
 pub mod Eval
+pub mod Given
 pub mod Run
 pub mod Bench
 pub mod Codes

@@ -1,5 +1,4 @@
 -- The run: the whole answer to a form and a sheet, with what both slices hold.
-use mathlib.Core.Bool.{Bool, _||_}
 use mathlib.Core.List.{List, [], _∷_, _++_}
 use mathlib.Core.Option.{Option, some, none}
 use Prim.Native.Nat.{ℕ, _+_, _-_}
@@ -8,13 +7,14 @@ use lib.ListN.{length, replicate}
 use Rattle.utf8.specs.Utf8.{if_then_else_}
 use Rattle.rules.specs.Outcome.{Outcome, ok, refused, fault, _>>=_, Refusal, refuse, refuseAt}
 use Rattle.rules.specs.Value.{Value, answerWords}
-use Rattle.rules.specs.Sheet.{sheetFault, arguments}
+use Rattle.rules.specs.Sheet.{arguments}
 use Rattle.rules.specs.Form.{Form}
 use Rattle.rules.specs.Tree.{Tree}
-use Rattle.rules.specs.Accept.{accepted, refusedAt, Accepted, checkForm, lettersOf}
+use Rattle.rules.specs.Accept.{lettersOf}
 use Rattle.rules.specs.Split.{Item, Split, splitFrom, itemsOf, recordsFrom}
 use Rattle.rules.specs.State.{State, Found, construct, emptyState, first}
 use Rattle.rules.specs.Eval.{Ran, ended, _then_, eval}
+use Rattle.rules.specs.Given.{roomIn, inputIn}
 
 -- ---- a sheet, split under a form
 -- the items, their records, the state, and 8 or 9 if splitting refuses
@@ -107,18 +107,10 @@ report ni na l r = elim (r .outcome) [
   | fault x ↦ fault x
 ]
 
--- 7: item slice under 1,792 words or answer slice under 8,240
-unfoldable pub shortSlices : ℕ → ℕ → Bool
-shortSlices ni na = ltb ni 1792 || ltb na 8240
-
-unfoldable pub runChecked : ℕ → ℕ → List ℕ → Accepted → Outcome Report
-runChecked ni na s a =
-    if ltb 0 (sheetFault s)
-    then ok (refusedInput ni na (sheetFault s) none)
-    else (if shortSlices ni na
-    then ok (refusedInput ni na 7 none)
-    else (split (a .form) s >>= λ l. report ni na l (runLine (a .fields) l)))
-
 -- form bytes, sheet bytes, and the lengths of the item slice and the answer slice
 unfoldable pub run : List ℕ → List ℕ → ℕ → ℕ → Outcome Report
-run b s ni na = elim (checkForm b) [ refusedAt n k ↦ ok (refusedInput ni na n k) | accepted a ↦ runChecked ni na s a ]
+run b s ni na = elim (inputIn b s ni >>= λ a. roomIn 8240 na >>= λ _. ok a) [
+  | ok a ↦ split (a .form) s >>= λ l. report ni na l (runLine (a .fields) l)
+  | refused e ↦ ok (refusedInput ni na (e .number) (e .place))
+  | fault x ↦ fault x
+]

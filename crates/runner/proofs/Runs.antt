@@ -9,26 +9,27 @@ use native.Mathlib.Omega.{arith}
 use lib.Dec.{ltb}
 use lib.ListN.{length, getD, replicate, length-append, length-replicate}
 use lib.Seq.{sets, length-sets}
-use borrow.Author.Tests.{lt-ltb, le-ltb, ltb-false}
-use Rattle.utf8.specs.Utf8.{if_then_else_}
+use borrow.Author.Tests.{lt-ltb, le-ltb, ltb-true, ltb-false}
 use Rattle.rules.specs.Outcome.{Outcome, ok, refused, fault, _>>=_, Refusal}
 use Rattle.rules.specs.Value.{Value}
-use Rattle.rules.specs.Codes.{placeCode, checkCode}
+use Rattle.rules.specs.Codes.{placeCode, checkCode, placeOf}
 use Rattle.rules.specs.Form.{readForm}
 use Rattle.rules.specs.Sheet.{sheetArea, sheetFault, arguments}
 use Rattle.rules.specs.Accept.{Checked as Tested, accepted, refusedAt, Accepted, checkForm, lettersOf}
 use Rattle.rules.specs.State.{parsed, emptyState}
 use Rattle.rules.specs.Eval.{Ran as Run}
 use Rattle.rules.specs.Eval as eval
-use Rattle.rules.specs.Run.{Line, split, padded, refusedInput, reportWith, report, shortSlices, runChecked, run, runAll, runLine, parsedMark}
+use Rattle.rules.specs.Run.{Line, split, padded, refusedInput, reportWith, report, run, runAll, runLine, parsedMark}
 use Rattle.rules.specs.Calls.{toRaw}
 use Rattle.rules.specs.declared.State.{State as Raw}
 use Rattle.rules.specs.declared.Refused.{Refused}
 use Rattle.rules.proofs.Acceptance.{accepted-form, accepted-length, accepted-passed, good-no-fault}
 use Rattle.rules.proofs.SplitLaws.{LineGood, line-accepted, line-refusal}
 use Rattle.state.specs.declared.Numbers.{Numbers}
-use Rattle.state.specs.Lent.{rawOf, numbersOf, stateOf, placeOf, Fine}
-use Rattle.state.proofs.Laws.{raw-back, code-of}
+use Rattle.state.specs.Lent.{rawOf, numbersOf, stateOf, Fine}
+use Rattle.rules.proofs.CodeLaws.{place-code, code-place}
+use Rattle.rules.proofs.GivenLaws.{run-form, run-sheet, run-short, run-cramped, run-goes}
+use Rattle.state.proofs.Laws.{raw-back}
 use Rattle.named.specs.Codes.{Coded}
 use Rattle.named.specs.Items.{Table}
 use Rattle.known.specs.Known.{Matchable, Known}
@@ -39,8 +40,8 @@ use Rattle.args.specs.Construct.{rawOf as begun, Unmarked, Ends, refusalNumber,
 use Rattle.reader.proofs.Checks.{check-accepted}
 use Rattle.line.specs.Line.{Starts, toldAll, Reaches, refusedWith}
 use Rattle.line.specs.declared.Reached.{Reached}
-use Rattle.runner.specs.Runner.{Ended, runAnswer, ended, answerOf, Checked, Begins}
-use Rattle.runner.proofs.States.{place-back, from-to, zero-at, raw-fine}
+use Rattle.runner.specs.Runner.{Ended, runAnswer, ended, answerOf, shortSlices, Checked, Begins}
+use Rattle.runner.proofs.States.{from-to, zero-at, raw-fine}
 use Rattle.runner.proofs.Back.{line-table}
 
 -- ---- slices
@@ -51,10 +52,6 @@ short-items i a h = sym (rw (lt-ltb i 1792 h))
 pub short-answers : (i a : ℕ) → 1792 ≤ i → ltb a 8240 ≡ shortSlices i a
 unfolding shortSlices
 short-answers i a h = sym (rw (le-ltb i 1792 h))
-
-long-enough : (i a : ℕ) → 1792 ≤ i → 8240 ≤ a → shortSlices i a ≡ false
-unfolding shortSlices
-long-enough i a h k = rw (le-ltb i 1792 h, le-ltb a 8240 k)
 
 enough-long : (i a : ℕ) → shortSlices i a ≡ false → (1792 ≤ i) × (8240 ≤ a)
 unfolding shortSlices
@@ -99,7 +96,7 @@ pub refused-answer :
     → runAnswer (ok (refusedInput (length i) (length a) number (placeOf place))) ≡ ended (answerOf r (replicate 256 0)) i′ a′
 unfolding runAnswer refusedInput toRaw emptyState padded
 refused-answer number place i a i′ a′ r p q e =
-    rw e (answer-same refl (code-of place) refl refl refl
+    rw e (answer-same refl (code-place place) refl refl refl
     (nothing-padded (length i) ∙ sym (p ∙ all-zero i (length i) refl))
     (nothing-padded (length a) ∙ sym (q ∙ all-zero a (length a) refl)))
 
@@ -115,7 +112,6 @@ module _ (b s : List ℕ) (ni na : ℕ) (r : Refused) (e : r ≡ checkCode (chec
   pub form-refused : (r .number ≡ 0 → ⊥) → (x : Option Ended)
       → runAnswer (ok (refusedInput ni na (r .number) (placeOf (r .place)))) ≡ x
       → runAnswer (run b s ni na) ≡ x
-  unfolding run
   form-refused z x h = go (checkForm b) refl
     where
       go : (c : Tested Accepted) → checkForm b ≡ c → runAnswer (run b s ni na) ≡ x
@@ -123,25 +119,29 @@ module _ (b s : List ℕ) (ni na : ℕ) (r : Refused) (e : r ≡ checkCode (chec
       go (refusedAt m k) g =
           let same = e ∙ ap checkCode g in
           let told = ap (λ (y : Refused). runAnswer (ok (refusedInput ni na (y .number) (placeOf (y .place))))) same in
-          rw (g, run) (sym (told ∙ ap (λ (j : Option ℕ). runAnswer (ok (refusedInput ni na m j))) (place-back k)) ∙ h)
+          rw (run-form b s ni m k g na) (sym (told ∙ ap (λ (j : Option ℕ). runAnswer (ok (refusedInput ni na m j))) (place-code k)) ∙ h)
 
   module _ (z : r .number ≡ 0) (f : ℕ) (t : f ≡ sheetFault s) where
     pub sheet-refused : (f ≡ 0 → ⊥) → (x : Option Ended)
         → runAnswer (ok (refusedInput ni na f (placeOf 0))) ≡ x
         → runAnswer (run b s ni na) ≡ x
-    unfolding run runChecked if_then_else_ placeOf
+    unfolding placeOf
     sheet-refused y x h =
         let (a, g) = check-accepted b r e z in
-        rw (g, run, lt-ltb 0 (sheetFault s) (omega (arith, t, y)), ← t) h
+        rw (run-sheet b s ni a g (λ z. y (t ∙ z)) na, ← t) h
 
     module _ (y : f ≡ 0) (short : Bool) (w : short ≡ shortSlices ni na) where
       pub slices-refused : short ≡ true → (x : Option Ended)
           → runAnswer (ok (refusedInput ni na 7 (placeOf 0))) ≡ x
           → runAnswer (run b s ni na) ≡ x
-      unfolding run runChecked if_then_else_ placeOf
-      slices-refused q x h =
-          let (a, g) = check-accepted b r e z in
-          rw (g, run, le-ltb 0 (sheetFault s) (omega (arith, t, y)), sym w ∙ q) h
+      unfolding shortSlices placeOf
+      slices-refused q x h = rw (go (ltb ni 1792) refl) h
+        where
+          go : (c : Bool) → ltb ni 1792 ≡ c → run b s ni na ≡ ok (refusedInput ni na 7 none)
+          go true l = let (a, g) = check-accepted b r e z in run-short b s ni a g (sym t ∙ y) (ltb-true ni 1792 l) na
+          go false l =
+              let (a, g) = check-accepted b r e z in
+              run-cramped b s ni a g (sym t ∙ y) (ltb-false ni 1792 l) na (ltb-true na 8240 (rw l at (sym w ∙ q)))
 
       pub all-checked : short ≡ false → (items answers : List ℕ) → length items ≡ ni → length answers ≡ na → Checked b s items answers
       all-checked q items answers i o =
@@ -166,8 +166,8 @@ run-is :
     → 8240 ≤ na
     → split (a .form) s ≡ ok l
     → run b s ni na ≡ report ni na l (runLine (a .fields) l)
-unfolding run runChecked if_then_else_ _>>=_
-run-is b s ni na a l e f i o h = rw (e, run, f, long-enough ni na i o, h)
+unfolding _>>=_
+run-is b s ni na a l e f i o h = run-goes b s ni a e f i na o ∙ rw h
 
 abbrev with-outcome : Run (List Value) → Outcome (List Value) → Run (List Value)
 with-outcome r o = record { outcome = o; state = r .state; tries = r .tries; trace = r .trace }

@@ -1,33 +1,25 @@
 -- States as they are handed over, and zeros.
 use mathlib.Core.Bool.{true}
-use mathlib.Core.Option.{Option, some, none}
 use mathlib.Core.Path.{_≡_, refl, sym, subst}
 use Prim.Native.Nat.{ℕ, zero, suc, _-_, _≤_}
 use native.Mathlib.Omega.{arith}
 use lib.ListN.{length, getD, replicate}
 use lib.Seq.{take-append-seam, drop-append-seam}
-use borrow.Author.Tests.{ne-eqb}
-use Rattle.utf8.specs.Utf8.{if_then_else_}
 use Rattle.rules.specs.Base.{all}
 use Rattle.rules.specs.Tree.{zeros}
-use Rattle.rules.specs.Codes.{placeCode}
 use Rattle.rules.specs.State.{State}
 use Rattle.rules.specs.Run.{padded}
 use Rattle.rules.specs.Calls.{fromRaw, toRaw}
 use Rattle.rules.specs.Demands.{Good}
-use Rattle.state.specs.Lent.{numbersOf, stateOf, placeOf, Fine}
-
-pub place-back : (k : Option ℕ) → placeOf (placeCode k) ≡ k
-unfolding placeOf if_then_else_
-place-back none = refl
-place-back (some i) = let z : suc i - 1 ≡ i = omega arith in rw (ne-eqb (suc i) 0 (λ e. omega arith), z)
+use Rattle.rules.proofs.CodeLaws.{place-code}
+use Rattle.state.specs.Lent.{numbersOf, stateOf, Fine}
 
 pub from-to : (s : State) → fromRaw (toRaw s) ≡ s
-unfolding fromRaw toRaw padded placeOf
+unfolding fromRaw toRaw padded
 from-to s = λ i. record {
   marks = take-append-seam (s .marks) (replicate (256 - length (s .marks)) 0) i;
   remaining = s .remaining;
-  current = place-back (s .current) i;
+  current = place-code (s .current) i;
   start = s .start;
   end = s .end;
 }

@@ -1,8 +1,10 @@
 -- What the run hands back, for what the rules report.
+use mathlib.Core.Bool.{Bool, _||_}
 use mathlib.Core.List.{List}
 use mathlib.Core.Option.{Option, some, none}
 use mathlib.Core.Path.{_≡_}
 use Prim.Native.Nat.{ℕ, _≤_}
+use lib.Dec.{ltb}
 use lib.ListN.{length, getD}
 use Rattle.rules.specs.Outcome.{Outcome, ok, refused, fault}
 use Rattle.rules.specs.Codes.{placeCode}
@@ -52,6 +54,10 @@ answerOf r m = record {
   words = r .words;
   state = rawOf m (r .numbers);
 }
+
+-- 7, as it is tested: the lengths of the item slice and of the answer slice
+unfoldable pub shortSlices : ℕ → ℕ → Bool
+shortSlices ni na = ltb ni 1792 || ltb na 8240
 
 -- ---- what is known once every test is passed
 pub record Checked (form sheet items answers : List ℕ) : Type 0 where

@@ -5,11 +5,13 @@ ghost use lib.ListN.{length, replicate};
 ghost use Rattle.rules.specs.Outcome.{ok};
 ghost use Rattle.rules.specs.Sheet.{sheetArea};
 ghost use Rattle.rules.specs.Accept.{Accepted, accepted, checkForm};
-ghost use Rattle.rules.specs.Run.{refusedInput, shortSlices, run as reported};
-ghost use Rattle.state.specs.Lent.{rawOf, placeOf};
+ghost use Rattle.rules.specs.Run.{refusedInput};
+ghost use Rattle.rules.specs.Run as Run;
+ghost use Rattle.rules.specs.Codes.{placeOf};
+ghost use Rattle.state.specs.Lent.{rawOf};
 ghost use Rattle.args.specs.Construct.{Unmarked};
 ghost use Rattle.line.specs.Line.{refusedWith, Starts, Reaches};
-ghost use Rattle.runner.specs.Runner.{runAnswer, ended, answerOf, Checked, Begins};
+ghost use Rattle.runner.specs.Runner.{runAnswer, ended, answerOf, Checked, Begins, shortSlices};
 use line::Reached;
 use rules::State;
 use state::Numbers;
@@ -126,7 +128,7 @@ fn run_checked(
     marks: &mut [u16; 256],
 ) -> Reached
     requires { ⌜ Checked (now form) (now sheet) (now items) (now answers) × Unmarked (now marks) ⌝ }
-    ensures { λ r. ⌜ runAnswer (reported (now (form .entry)) (now (sheet .entry)) (length (now (items .entry))) (length (now (answers .entry)))) ≡ ended (answerOf r (now (marks .exit))) (now (items .exit)) (now (answers .exit)) ⌝ }
+    ensures { λ r. ⌜ runAnswer (Run.run (now (form .entry)) (now (sheet .entry)) (length (now (items .entry))) (length (now (answers .entry)))) ≡ ended (answerOf r (now (marks .exit))) (now (items .exit)) (now (answers .exit)) ⌝ }
 {
     wire::fill(answers, 0, answers.len(), 0);
     let mut codes = no_codes();
@@ -158,7 +160,7 @@ fn run_input(
     marks: &mut [u16; 256],
 ) -> Reached
     requires { ⌜ Unmarked (now marks) ⌝ }
-    ensures { λ r. ⌜ runAnswer (reported (now (form .entry)) (now (sheet .entry)) (length (now (items .entry))) (length (now (answers .entry)))) ≡ ended (answerOf r (now (marks .exit))) (now (items .exit)) (now (answers .exit)) ⌝ }
+    ensures { λ r. ⌜ runAnswer (Run.run (now (form .entry)) (now (sheet .entry)) (length (now (items .entry))) (length (now (answers .entry)))) ≡ ended (answerOf r (now (marks .exit))) (now (items .exit)) (now (answers .exit)) ⌝ }
 {
     let checked = form::check(form);
     if checked.number != 0 {
@@ -176,7 +178,7 @@ fn run_input(
 
 // A form and a sheet, to items, answer words and a state. The state is put together once, here.
 pub fn run(form: &[u8], sheet: &[u8], items: &mut [u32], answers: &mut [u32]) -> RunAnswer
-    ensures { λ r. ⌜ runAnswer (reported (now (form .entry)) (now (sheet .entry)) (length (now (items .entry))) (length (now (answers .entry)))) ≡ some (record { answer = r; items = now (items .exit); answers = now (answers .exit) }) ⌝ }
+    ensures { λ r. ⌜ runAnswer (Run.run (now (form .entry)) (now (sheet .entry)) (length (now (items .entry))) (length (now (answers .entry)))) ≡ some (record { answer = r; items = now (items .exit); answers = now (answers .exit) }) ⌝ }
 {
     let mut marks = args::unmarked();
     let all = run_input(form, sheet, items, answers, &mut marks);

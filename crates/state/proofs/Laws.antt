@@ -2,14 +2,14 @@
 use mathlib.Core.Path.{_≡_, refl, sym, ap, subst, _∙_}
 use mathlib.Core.Bool.{Bool, true, false, not, _&&_, false≢true}
 use mathlib.Core.List.{List, [], _∷_, _++_}
-use mathlib.Core.Option.{Option, some, none}
+use mathlib.Core.Option.{some}
 use Prim.Native.Nat.{ℕ, zero, suc, _+_, _-_, _≤_, _<_}
 use native.Mathlib.Nat.{not-suc-le-zero, le-of-suc-le-suc}
 use native.Mathlib.Omega.{arith}
 use lib.Dec.{leb, eqb}
 use lib.ListN.{length, getD, take, drop, set, getElem?, replicate, length-append, length-take, length-drop, length-set, take-append-drop}
 use lib.Seq.{length-take-le, take-set-lt, drop-set-lt, take-at, drop-at}
-use borrow.Author.Tests.{eq-eqb, ne-eqb, lt-ltb, le-ltb, le-leb, lt-leb, eqb-true, eqb-false, ltb-true, leb-true, not-true}
+use borrow.Author.Tests.{eq-eqb, lt-ltb, le-ltb, le-leb, lt-leb, eqb-true, eqb-false, ltb-true, leb-true, not-true}
 use Rattle.utf8.specs.Utf8.{if_then_else_}
 use Rattle.rules.specs.Base.{all}
 use Rattle.rules.specs.Outcome.{ok, refused, refuse, _>>=_, at}
@@ -17,12 +17,13 @@ use Rattle.rules.specs.Tree.{zeros}
 use Rattle.rules.specs.State.{State, parsed, presentAt, presentFrom, unused, inScope, remove, withCurrent, conflicts, saveConflicts, countPresent, markGood, currentGood, stateGood}
 use Rattle.rules.specs.Calls.{fromRaw, toRaw, stateIn}
 use Rattle.rules.specs.Run.{padded}
-use Rattle.rules.specs.Codes.{placeCode}
+use Rattle.rules.specs.Codes.{placeOf}
 use Rattle.rules.specs.Demands.{Good}
 use Rattle.rules.specs.declared.State.{State as Raw}
-use Rattle.rules.proofs.Places.{if-elim, left, right, from-same, count-from, conflicts-length, conflicts-present, conflicts-good}
+use Rattle.rules.proofs.Places.{left, right, from-same, count-from, conflicts-length, conflicts-present, conflicts-good}
+use Rattle.rules.proofs.CodeLaws.{code-place, place-next}
 use Rattle.rules.proofs.StepLaws.{Free, removed, removed-good, removed-left, remove-free, test-good, good-test}
-use Rattle.state.specs.Lent.{rawOf, numbersOf, stateOf, placeOf, Fine, Removed}
+use Rattle.state.specs.Lent.{rawOf, numbersOf, stateOf, Fine, Removed}
 use Rattle.state.specs.declared.Numbers.{Numbers}
 use Rattle.state.proofs.Marks.{is-present, is-used, from-take}
 
@@ -82,10 +83,8 @@ module _ (mark : ℕ) (m : List ℕ) (p : Numbers) (i : ℕ) (f : Fine m p) (tol
 
   removed-is : i < p .count → removed mark (stateOf m p) i
       ≡ stateOf (set m i mark) (record { count = p .count; remaining = p .remaining - 1; current = i + 1; start = p .start; end = p .end })
-  unfolding stateOf fromRaw if_then_else_
-  removed-is h =
-      let z : i + 1 - 1 ≡ i = omega arith in
-      rw (take-set-lt (p .count) m i mark h, ne-eqb (i + 1) 0 (λ e. omega arith), z)
+  unfolding stateOf fromRaw
+  removed-is h = rw (take-set-lt (p .count) m i mark h, place-next i)
 
   pub used-now : (a b : ℕ) → a ≡ p .start → b ≡ p .end → a ≤ i → i < b → (getD m i 0 ≡ 1 → ⊥)
       → Removed mark m p i (set m i mark) (record { count = p .count; remaining = p .remaining - 1; current = i + 1; start = p .start; end = p .end })
@@ -169,19 +168,15 @@ small-test true true c d e f h = refl
 small-test true false c d e f h = absurd (false≢true h)
 small-test false b c d e f h = absurd (false≢true h)
 
-current-test : (n c : ℕ) → c ≤ n → currentGood n (if eqb c 0 then none else some (c - 1)) ≡ true
-unfolding currentGood
-current-test n c h = if-elim (λ (o : Option ℕ). currentGood n o ≡ true) (eqb c 0) none (some (c - 1))
-    (λ _. refl)
-    (λ e. lt-ltb (c - 1) n (omega (arith, eqb-false c 0 e)))
+current-test : (n c : ℕ) → c ≤ n → currentGood n (placeOf c) ≡ true
+unfolding currentGood placeOf
+current-test n zero h = refl
+current-test n (suc i) h = lt-ltb i n (omega arith)
 
-test-current : (n c : ℕ) → currentGood n (if eqb c 0 then none else some (c - 1)) ≡ true → c ≤ n
-unfolding currentGood if_then_else_
-test-current n c h = go (eqb c 0) refl h
-  where
-    go : (b : Bool) → eqb c 0 ≡ b → currentGood n (if b then none else some (c - 1)) ≡ true → c ≤ n
-    go true e h = omega (arith, eqb-true c 0 e)
-    go false e h = omega (arith, ltb-true (c - 1) n h)
+test-current : (n c : ℕ) → currentGood n (placeOf c) ≡ true → c ≤ n
+unfolding currentGood placeOf
+test-current n zero h = omega arith
+test-current n (suc i) h = omega (arith, ltb-true i n h)
 
 module _ (n : ℕ) (x : Raw) where
   test-kept : test n x ≡ true → Kept n x
@@ -293,14 +288,6 @@ zeros-all (x ∷ l) h =
     let z : 0 ≡ x = eqb-true 0 x (left (eqb 0 x) (all (eqb 0) l) h) in
     rw (← z) (ap (λ (k : List ℕ). 0 ∷ k) (zeros-all l (right (eqb 0 x) (all (eqb 0) l) h)))
 
-pub code-of : (c : ℕ) → placeCode (placeOf c) ≡ c
-unfolding placeOf if_then_else_
-code-of c = go (eqb c 0) refl
-  where
-    go : (b : Bool) → eqb c 0 ≡ b → placeCode (if b then none else some (c - 1)) ≡ c
-    go true e = sym (eqb-true c 0 e)
-    go false e = omega (arith, eqb-false c 0 e)
-
 module _ (m : List ℕ) (p : Numbers) (f : Fine m p) where
   pub fine-in : stateIn (p .count) (rawOf m p) ≡ ok (stateOf m p)
   unfolding stateOf fromRaw
@@ -315,12 +302,12 @@ module _ (m : List ℕ) (p : Numbers) (f : Fine m p) where
   })
 
   pub raw-back : length m ≡ 256 → toRaw (stateOf m p) ≡ rawOf m p
-  unfolding stateOf fromRaw toRaw padded placeOf
+  unfolding stateOf fromRaw toRaw padded
   raw-back long =
       let l : length (take (p .count) m) ≡ p .count = f .good .long in
       let d : length (drop (p .count) m) ≡ 256 - p .count = length-drop (p .count) m ∙ rw long in
       let z : replicate (256 - p .count) 0 ≡ drop (p .count) m = sym (zeros-all (drop (p .count) m) (f .rest) ∙ rw d) in
-      rw (l, z, take-append-drop (p .count) m, code-of (p .current))
+      rw (l, z, take-append-drop (p .count) m, code-place (p .current))
 
 pub kept-fine : (n : ℕ) (x : Raw) → Kept n x → Fine (x .marks) (numbersOf x)
 unfolding stateOf
@@ -339,7 +326,7 @@ kept-fine n x k =
 module _ (m : List ℕ) (p : Numbers) (c : ℕ) where
   pub current-is : withCurrent (placeOf c) (stateOf m p)
       ≡ stateOf m (record { count = p .count; remaining = p .remaining; current = c; start = p .start; end = p .end })
-  unfolding withCurrent stateOf fromRaw placeOf
+  unfolding withCurrent stateOf fromRaw
   current-is = refl
 
   pub current-fine : Fine m p → c ≤ p .count

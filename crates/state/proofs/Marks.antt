@@ -15,8 +15,10 @@ use borrow.Author.Tests.{eq-eqb, ne-eqb, eqb-true, ltb-true, ltb-false, le-leb, 
 use Rattle.utf8.specs.Utf8.{if_then_else_}
 use Rattle.rules.specs.Base.{all}
 use Rattle.rules.specs.State.{parsed, present, presentAt, presentFrom, countPresent, pickFrom, conflicts, markGood}
+use Rattle.rules.specs.Codes.{placeOf}
 use Rattle.rules.proofs.Places.{conflicts-length}
-use Rattle.state.specs.Lent.{firstOr, placeOf, pickOf, conflictMark, Alike}
+use Rattle.rules.proofs.CodeLaws.{place-next}
+use Rattle.state.specs.Lent.{firstOr, pickOf, conflictMark, Alike}
 
 -- ---- one mark
 
@@ -211,10 +213,8 @@ module _ (a b : List ℕ) (count i : ℕ) (s : Picking a b count i) (la : count 
   pick-step h = sym (s .same) ∙ rw (part-cons a count i h la, part-cons b count i h lb, add-one i)
 
   pick-at : (x : Bool) → pickOf (record { first = x; place = i + 1 }) ≡ record { first = x; place = some i }
-  unfolding pickOf placeOf if_then_else_
-  pick-at x =
-      let z : i + 1 - 1 ≡ i = omega arith in
-      rw (ne-eqb (i + 1) 0 (λ e. omega arith), z)
+  unfolding pickOf
+  pick-at x = rw (place-next i)
 
   pub picking-hit : i < count → (x y d : Bool) → x ≡ parsed (getD a i 0) → y ≡ parsed (getD b i 0) → d ≡ xor x y → d ≡ true
       → pickOf (record { first = x; place = i + 1 }) ≡ pickFrom 0 (take count a) (take count b)

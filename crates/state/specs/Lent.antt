@@ -2,14 +2,13 @@
 use mathlib.Core.Path.{_≡_}
 use mathlib.Core.Bool.{true, _&&_}
 use mathlib.Core.List.{List, [], _∷_}
-use mathlib.Core.Option.{Option, some, none}
-use Prim.Native.Nat.{ℕ, _+_, _-_, _≤_, _<_}
-use lib.Dec.{eqb}
+use Prim.Native.Nat.{ℕ, _+_, _≤_, _<_}
 use lib.ListN.{length, drop, getD}
 use Rattle.utf8.specs.Utf8.{if_then_else_}
 use Rattle.rules.specs.Outcome.{ok}
 use Rattle.rules.specs.Tree.{zeros}
 use Rattle.rules.specs.State.{State, parsed, present, remove, Picked as Pick}
+use Rattle.rules.specs.Codes.{placeOf}
 use Rattle.rules.specs.Calls.{fromRaw}
 use Rattle.rules.specs.Demands.{Good}
 use Rattle.rules.specs.declared.State.{State as Raw}
@@ -58,10 +57,6 @@ pub record Removed (mark : ℕ) (m : List ℕ) (p : Numbers) (i : ℕ) (m′ : L
 unfoldable pub firstOr : ℕ → List ℕ → ℕ
 firstOr d [] = d
 firstOr d (x ∷ xs) = x
-
--- a place plus 1, or 0 for none
-unfoldable pub placeOf : ℕ → Option ℕ
-placeOf c = if eqb c 0 then none else some (c - 1)
 
 unfoldable pub pickOf : Picked → Pick
 pickOf r = record { first = r .first; place = placeOf (r .place) }

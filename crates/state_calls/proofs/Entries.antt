@@ -17,7 +17,7 @@ use Rattle.rules.specs.Calls.{callRemove, callPickWinner, callSaveConflicts, ca
 use Rattle.rules.specs.declared.State.{State as Raw}
 use Rattle.state.specs.Lent.{pickOf}
 use Rattle.state.specs.declared.Picked.{Picked}
-use Rattle.state.proofs.Laws.{code-of}
+use Rattle.rules.proofs.CodeLaws.{code-place}
 use Rattle.calls.specs.Options.{handedOver, rangeOf, scopeOf}
 use Rattle.calls.specs.declared.Scope.{Scope}
 use Rattle.calls.specs.declared.ScopeOption.{ScopeOption}
@@ -222,7 +222,7 @@ module _ (x y : Raw) (b : Bool) (g : Tested (bothIn x y) y b) where
         → r ≡ answerWith 0 0 (coded a (p .place) 0) → answerOf pickCode (callPickWinner x y) ≡ some r
     unfolding callPickWinner pickOf _>>=_
     pick-done p a r d h f =
-        accepted-answer pickCode x _ (pickOf p) (fromRaw x) (rw (both-fine good .0, both-fine good .1, d)) r (rw (code-of (p .place), ← h) f)
+        accepted-answer pickCode x _ (pickOf p) (fromRaw x) (rw (both-fine good .0, both-fine good .1, d)) r (rw (code-place (p .place), ← h) f)
 
     module _ (n w : ℕ) (e : n ≡ x .count) (r : StateAnswer) where
       pub conflicts-past : n ≤ w → r ≡ stateWith 28 (coded 0 0 0) x → stateAnswerOf yesCode (callSaveConflicts x y w) ≡ some r

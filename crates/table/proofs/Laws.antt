@@ -17,6 +17,7 @@ use Rattle.rules.specs.Sheet.{argumentCount, sheetArea, sheetFault}
 use Rattle.rules.specs.Split.{Item}
 use Rattle.rules.specs.State.{State}
 use Rattle.rules.specs.Tree.{zeros}
+use Rattle.rules.specs.Given.{roomIn}
 use Rattle.rules.specs.Calls.{itemFrom, recordsIn, wholeRecords, trimmed, itemsFrom, itemsIn, sheetIn, sliceIn, fromRaw, stateIn}
 use Rattle.rules.specs.declared.State.{State as Raw}
 use Rattle.rules.proofs.Acceptance.{bind-some, lookup-some}
@@ -127,11 +128,11 @@ module _ (s words : List ℕ) where
   given-fault h = rw (ne-eqb (sheetFault s) 0 h)
 
   given-short : sheetFault s ≡ 0 → length words < 1792 → itemsGiven s words ≡ refused (refuse 7)
-  unfolding itemsGiven sheetIn sliceIn _>>=_ if_then_else_
+  unfolding itemsGiven sheetIn sliceIn roomIn _>>=_ if_then_else_
   given-short e h = rw (eq-eqb (sheetFault s) 0 e, lt-leb 1792 (length words) h)
 
   given-long : sheetFault s ≡ 0 → 1792 ≤ length words → itemsGiven s words ≡ itemsIn (sheetArea s) words
-  unfolding itemsGiven sheetIn sliceIn _>>=_ if_then_else_
+  unfolding itemsGiven sheetIn sliceIn roomIn _>>=_ if_then_else_
   given-long e h = rw (eq-eqb (sheetFault s) 0 e, le-leb 1792 (length words) h)
 
   module _ (f : ℕ) (ef : f ≡ sheetFault s) where

@@ -8,7 +8,7 @@ use native.Mathlib.Numerals.{add-one}
 use native.Mathlib.Omega.{arith}
 use lib.Dec.{ltb, eqb}
 use lib.ListN.{length, getD, getElem?}
-use borrow.Author.Tests.{le-leb, lt-ltb, le-ltb, ltb-true, not-true, not-false, ne-eqb}
+use borrow.Author.Tests.{le-leb, lt-ltb, le-ltb, ltb-true, not-true, not-false}
 use types.Run.{OneOf}
 use denote.Enum.Declared.{tagOf}
 use Rattle.utf8.specs.Utf8.{if_then_else_}
@@ -23,6 +23,8 @@ use Rattle.rules.specs.Demands.{Good}
 use Rattle.rules.proofs.Acceptance.{lookup-some}
 use Rattle.rules.proofs.Places.{left}
 use Rattle.rules.proofs.StepLaws.{current-good}
+use Rattle.rules.proofs.CodeLaws.{place-next}
+use Rattle.rules.specs.Codes.{placeOf}
 use Rattle.arg.specs.declared.Part.{Part}
 use Rattle.arg.specs.declared.Item.{Item}
 use Rattle.arg.specs.declared.Item.the-variants.{ArgWord, Word}
@@ -75,11 +77,11 @@ first-in is i l x e = rw e
 
 -- `current` set to a place
 pub current-set : (m : List ℕ) (p : Numbers) (i : ℕ) → withCurrent (some i) (stateOf m p) ≡ stateOf m (setCurrent (i + 1) p)
-unfolding withCurrent stateOf fromRaw if_then_else_
-current-set m p i = let z : i + 1 - 1 ≡ i = omega arith in rw (ne-eqb (i + 1) 0 (λ e. omega arith), z)
+unfolding withCurrent stateOf fromRaw
+current-set m p i = rw (place-next i)
 
 pub current-none : (m : List ℕ) (p : Numbers) → withCurrent none (stateOf m p) ≡ stateOf m (setCurrent 0 p)
-unfolding withCurrent stateOf fromRaw if_then_else_
+unfolding withCurrent stateOf fromRaw placeOf
 current-none m p = refl
 
 module _ (m : List ℕ) (p : Numbers) (f : Fine m p) where
@@ -96,7 +98,7 @@ module _ (m : List ℕ) (p : Numbers) (f : Fine m p) where
   here-fine i h q e = rw e (set-fine i h)
 
   pub none-fine : Fine m (setCurrent 0 p)
-  unfolding stateOf fromRaw currentGood if_then_else_ unused
+  unfolding stateOf fromRaw placeOf currentGood unused
   none-fine = record {
     order = f .order;
     inside = f .inside;

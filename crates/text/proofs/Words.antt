@@ -15,24 +15,21 @@ use Rattle.rules.specs.Sheet.{sheetArea}
 use Rattle.rules.specs.Split.{Item}
 use Rattle.rules.specs.Take.{textOf}
 use Rattle.rules.specs.Accept.{Checked, accepted, refusedAt, Accepted, checkForm}
-use Rattle.rules.specs.Codes.{placeCode, checkCode}
+use Rattle.rules.specs.Codes.{checkCode, placeOf}
 use Rattle.rules.specs.Calls.{formIn, asked, itemFrom, recordText, callText}
 use Rattle.rules.specs.declared.Refused.{Refused}
 use Rattle.rules.proofs.Acceptance.{lookup-some, accepted-form}
+use Rattle.rules.proofs.CodeLaws.{place-code, code-place}
 use Rattle.arg.specs.Items.{recordAt}
 use Rattle.layout.specs.Layout.{HasName}
 use Rattle.layout.proofs.Sizes.{names-length}
 use Rattle.kinds.proofs.Steps.{lookup-none}
 use Rattle.fields.proofs.Given.{has-name}
-use Rattle.state.specs.Lent.{placeOf as statePlaceOf}
-use Rattle.state.proofs.Laws.{code-of}
 use Rattle.named.specs.Search.{HasItem}
 use Rattle.table.specs.Given.{HasTable, Gives}
 use Rattle.table.specs.declared.Input.{Input}
 use Rattle.table.proofs.Laws.{onTable, table-refused, table-given}
-use Rattle.reader.specs.Reader.{placeOf}
 use Rattle.reader.proofs.Checks.{check-accepted, check-names, form-passed}
-use Rattle.reader.proofs.Splits.{place-code}
 use Rattle.text.specs.declared.TextPart.{TextPart}
 use Rattle.text.specs.Text.{textSays, TextOf, sourceOf, partText, refusedPart, itemPart, recordPart, callPart, partTold, PartOf, Finds, Tells}
 
@@ -45,10 +42,6 @@ wordPart b s words w a is = if ltb w 256 then (getElem? is w >>? λ _. some (ite
 
 abbrev refusal : ℕ → ℕ → Refusal
 refusal number place = record { number = number; place = placeOf place; missing = [] }
-
-code-place : (n : ℕ) → placeCode (placeOf n) ≡ n
-unfolding placeOf statePlaceOf
-code-place n = code-of n
 
 module _ (b s words : List ℕ) (w : ℕ) where
   -- the tests before it, whatever is asked for

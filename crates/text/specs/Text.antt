@@ -12,10 +12,9 @@ use Rattle.rules.specs.Outcome.{Outcome, ok, refused, fault, _>>=_}
 use Rattle.rules.specs.Form.{areaAt}
 use Rattle.rules.specs.Sheet.{argumentCount}
 use Rattle.rules.specs.Accept.{Accepted}
-use Rattle.rules.specs.Codes.{placeCode}
+use Rattle.rules.specs.Codes.{placeCode, placeOf}
 use Rattle.rules.specs.Calls.{formIn, sheetIn, sliceIn, itemsIn, asked, callText}
 use Rattle.arg.specs.Items.{recordAt}
-use Rattle.reader.specs.Reader.{placeOf}
 use Rattle.text.specs.declared.TextPart.{TextPart}
 
 -- a text with the two numbers beside it, as the rules' outcome: number 0 is accepted

@@ -1,0 +1,75 @@
+-- How the tests before a run and a split end.
+use mathlib.Core.List.{List, []}
+use mathlib.Core.Option.{Option, none}
+use mathlib.Core.Path.{_≡_}
+use Prim.Native.Nat.{ℕ, _≤_, _<_}
+use borrow.Author.Tests.{eq-eqb, ne-eqb, le-leb, lt-leb}
+use Rattle.utf8.specs.Utf8.{if_then_else_}
+use Rattle.rules.specs.Outcome.{ok, refused, _>>=_, refuse}
+use Rattle.rules.specs.Sheet.{sheetFault}
+use Rattle.rules.specs.Accept.{accepted, refusedAt, Accepted, checkForm}
+use Rattle.rules.specs.Given.{formIn, sheetIn, roomIn, inputIn}
+use Rattle.rules.specs.Run.{split, runLine, refusedInput, report, run}
+use Rattle.rules.specs.Calls.{splitRefused, splitReport, callSplit}
+
+module _ (b s : List ℕ) (ni : ℕ) where
+  -- 1 to 4
+  module _ (n : ℕ) (k : Option ℕ) (form : checkForm b ≡ refusedAt n k) where
+    pub input-form : inputIn b s ni ≡ refused (record { number = n; place = k; missing = [] })
+    unfolding inputIn formIn _>>=_
+    input-form = rw (form, formIn)
+
+    pub run-form : (na : ℕ) → run b s ni na ≡ ok (refusedInput ni na n k)
+    unfolding run _>>=_
+    run-form na = rw (input-form, run)
+
+    pub split-form : callSplit b s ni ≡ ok (splitRefused ni n k)
+    unfolding callSplit
+    split-form = rw (input-form, callSplit)
+
+  module _ (a : Accepted) (form : checkForm b ≡ accepted a) where
+    -- 6 and 5
+    module _ (sheet : sheetFault s ≡ 0 → ⊥) where
+      pub input-sheet : inputIn b s ni ≡ refused (refuse (sheetFault s))
+      unfolding inputIn formIn sheetIn _>>=_ if_then_else_
+      input-sheet = rw (form, formIn, ne-eqb (sheetFault s) 0 sheet)
+
+      pub run-sheet : (na : ℕ) → run b s ni na ≡ ok (refusedInput ni na (sheetFault s) none)
+      unfolding run refuse _>>=_
+      run-sheet na = rw (input-sheet, run)
+
+      pub split-sheet : callSplit b s ni ≡ ok (splitRefused ni (sheetFault s) none)
+      unfolding callSplit refuse
+      split-sheet = rw (input-sheet, callSplit)
+
+    module _ (sheet : sheetFault s ≡ 0) where
+      -- 7
+      module _ (short : ni < 1792) where
+        pub input-short : inputIn b s ni ≡ refused (refuse 7)
+        unfolding inputIn formIn sheetIn roomIn _>>=_ if_then_else_
+        input-short = rw (form, formIn, eq-eqb (sheetFault s) 0 sheet, lt-leb 1792 ni short)
+
+        pub run-short : (na : ℕ) → run b s ni na ≡ ok (refusedInput ni na 7 none)
+        unfolding run refuse _>>=_
+        run-short na = rw (input-short, run)
+
+        pub split-short : callSplit b s ni ≡ ok (splitRefused ni 7 none)
+        unfolding callSplit refuse
+        split-short = rw (input-short, callSplit)
+
+      module _ (long : 1792 ≤ ni) where
+        pub input-good : inputIn b s ni ≡ ok a
+        unfolding inputIn formIn sheetIn roomIn _>>=_ if_then_else_
+        input-good = rw (form, formIn, eq-eqb (sheetFault s) 0 sheet, le-leb 1792 ni long)
+
+        pub split-goes : callSplit b s ni ≡ (split (a .form) s >>= λ l. ok (splitReport ni l))
+        unfolding callSplit
+        split-goes = rw (input-good, callSplit)
+
+        pub run-cramped : (na : ℕ) → na < 8240 → run b s ni na ≡ ok (refusedInput ni na 7 none)
+        unfolding run roomIn refuse _>>=_ if_then_else_
+        run-cramped na h = rw (input-good, run, lt-leb 8240 na h)
+
+        pub run-goes : (na : ℕ) → 8240 ≤ na → run b s ni na ≡ (split (a .form) s >>= λ l. report ni na l (runLine (a .fields) l))
+        unfolding run roomIn _>>=_ if_then_else_
+        run-goes na h = rw (input-good, run, le-leb 8240 na h)
