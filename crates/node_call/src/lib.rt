@@ -1,6 +1,7 @@
 // `eval` of one node of a form on a state, as an entry point.
 ghost use mathlib.Core.Path.{_≡_};
 ghost use mathlib.Core.Option.{some};
+ghost use Prim.Native.Nat.{_≤_};
 ghost use lib.ListN.{length, replicate};
 ghost use Rattle.rules.specs.Sheet.{sheetArea, sheetFault};
 ghost use Rattle.rules.specs.Tree.{Tree};

@@ -49,7 +49,7 @@ fn words(rng: &mut Rng, table: &[[u32; 7]]) -> Vec<u32> {
     }
     let more = rng.below(2) * rng.below(300) + rng.below(7);
     words.resize(words.len() + more, 0);
-    if rng.chance(1, 4) {
+    if !words.is_empty() && rng.chance(1, 4) {
         let back = 1 + rng.below(9).min(words.len() - 1);
         let at = words.len() - back;
         words[at] = 1 + rng.below(5) as u32;
