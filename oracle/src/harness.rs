@@ -575,6 +575,11 @@ impl Held {
         got.is_some()
     }
 
+    /// The text of the item at the place.
+    pub fn text(&self, place: usize) -> Option<Vec<u8>> {
+        self.state.items.get(place).map(|item| item.os_str().as_bytes().to_vec())
+    }
+
     pub fn conflict(&self) -> Option<(usize, usize)> {
         self.state.conflict()
     }

@@ -32,6 +32,8 @@ pub fn list(layer: &str, seed: u64, count: usize) -> Option<String> {
         #[cfg(live)]
         "run" => run_line,
         #[cfg(live)]
+        "text" => text_line,
+        #[cfg(live)]
         "calls" => calls_line,
         _ => return None,
     };
@@ -136,6 +138,39 @@ fn run_line(rng: &mut Rng) -> String {
     let a = &ran.answer;
     let head = format!("{} {} {} {} {}", hex(&case.form), hex(&case.sheet), a.number, place(a.place), a.tries);
     format!("{head} {}{} {}", a.words.len(), words(&a.words), state(&ran.state))
+}
+
+/// Form, sheet, answer word, refusal and the bytes of the text: bpaf's own for an item, the record's for a fallback.
+#[cfg(live)]
+fn text_line(rng: &mut Rng) -> String {
+    let wanted = rng.below(20);
+    loop {
+        let case = short_case(rng, usize::from(wanted == 0));
+        let head = |word: usize| format!("{} {} {word}", hex(&case.form), hex(&case.sheet));
+        let checked = Form::check(&case.form).and_then(|f| Sheet::check(&case.sheet).map(|s| (f, s)));
+        let (form, sheet) = match checked {
+            Ok(both) => both,
+            Err(refused) => return format!("{} {} {} -", head(rng.below(300)), refused.number, place(refused.place)),
+        };
+        let (held, records, _) = Held::split(&form, &sheet);
+        let texts: Vec<usize> = (0..form.names.len()).filter(|n| form.names[*n].ty == TEXT).collect();
+        let word = match wanted {
+            1 => rng.below(records.len() + 1),
+            2 => 256 + rng.below(form.names.len() + 1),
+            3..=8 if texts.is_empty() => continue,
+            3..=8 => 256 + *rng.pick(&texts),
+            _ if records.is_empty() => continue,
+            _ => rng.below(records.len()),
+        };
+        let text = match word.checked_sub(256) {
+            None => held.text(word),
+            Some(record) => texts.contains(&record).then(|| form.name(record).to_vec()),
+        };
+        return match text {
+            Some(bytes) => format!("{} 0 - {}", head(word), hex(&bytes)),
+            None => format!("{} 28 - -", head(word)),
+        };
+    }
 }
 
 /// Form, sheet; the state given, the call, its answer and the state left, set apart by `;`. A call on two states names

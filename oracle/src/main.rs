@@ -24,9 +24,9 @@ oracle compare LAYER [SEED COUNT]  the proved code against the Rust, in this pro
 oracle read FORM [ARGUMENT..]      a command line read under a form: items and values, by the proved code
 oracle split FORM [ARGUMENT..]     a command line split into items, by the proved code
 oracle utf8 [ARGUMENT..]           each argument's characters, by the proved code
-oracle list LAYER SEED COUNT       a fixed list of a layer: utf8, check, and live: split, run, calls
+oracle list LAYER SEED COUNT       a fixed list of a layer: utf8, check, and live: split, run, text, calls
 oracle lists FILE..                make each list again by its first line and compare
-oracle replay FILE..               the lists of check, split, run and calls, by the proved code
+oracle replay FILE..               fixed lists, by the proved code
 live, with bpaf's source:
 oracle bench                       form and sheet joined on standard input; prints what bench prints
 oracle show                        the same, then item records and the state
@@ -57,13 +57,19 @@ fn main() -> ExitCode {
         "read" if words.len() >= 2 => compare::show_run(&words[1]),
         "split" if words.len() >= 2 => compare::show_split(&words[1]),
         "list" if words.len() == 4 => print_list(&words),
-        "replay" => words[1..].iter().map(|file| replayed(file)).fold(true, |a, b| a && b),
-        "lists" => words[1..].iter().map(|file| same_list(file)).fold(true, |a, b| a && b),
+        "replay" => each_file(&words[1..], replayed),
+        "lists" => each_file(&words[1..], same_list),
         _ => live(first, &words),
     };
     if good { ExitCode::SUCCESS } else { ExitCode::FAILURE }
 }
 
+/// Whether there is a file and all are good: every one is looked at.
+fn each_file(files: &[String], good: fn(&str) -> bool) -> bool {
+    !files.is_empty() && files.iter().map(|file| good(file)).fold(true, |a, b| a && b)
+}
+
+/// A comparison over no cases shows nothing, and fails.
 fn compare(words: &[String]) -> bool {
     let count = words.get(3).map(|_| number(words, 3, 0));
     match compare::compare(&words[1], number(words, 2, 1), count) {
@@ -77,7 +83,7 @@ fn compare(words: &[String]) -> bool {
                 println!("answered {}", numbers.join(", "));
             }
             println!("{}: {} cases, {} differ", words[1], compared.cases, compared.differ);
-            compared.differ == 0
+            count != Some(0) && compared.cases > 0 && compared.differ == 0
         }
     }
 }
@@ -93,13 +99,13 @@ fn print_list(words: &[String]) -> bool {
     true
 }
 
-/// Whether the proved code gives the answers of a list. A layer whose code cannot be called yet is left out, and said so.
+/// Whether the proved code gives the answers of a list. One that is not run has not passed.
 fn replayed(file: &str) -> bool {
     let text = std::fs::read_to_string(file).unwrap_or_else(|e| panic!("{file}: {e}"));
     match compare::replay(&text) {
         None => {
-            println!("{file}: left out");
-            true
+            println!("{file}: no such layer");
+            false
         }
         Some((cases, differ)) => {
             println!("{file}: {cases} cases, {differ} differ");
@@ -108,7 +114,7 @@ fn replayed(file: &str) -> bool {
     }
 }
 
-/// Whether a committed list is the one that its first line makes. A layer that this build lacks is left out, and said so.
+/// Whether a committed list is the one that its first line makes. One that this build cannot make has not passed.
 fn same_list(file: &str) -> bool {
     let text = std::fs::read_to_string(file).unwrap_or_else(|e| panic!("{file}: {e}"));
     let head: Vec<&str> = text.lines().next().unwrap_or("").split(' ').collect();
@@ -123,12 +129,12 @@ fn same_list(file: &str) -> bool {
     };
     match lists::list(layer, seed, count) {
         None => {
-            println!("{file}: left out, this build has no layer {layer}");
-            true
+            println!("{file}: this build has no layer {layer}");
+            false
         }
         Some(made) if made == text => {
             println!("{file}: {count} cases, the same");
-            true
+            count > 0
         }
         Some(made) => {
             let differs = made.lines().zip(text.lines()).position(|(a, b)| a != b);
@@ -170,7 +176,7 @@ fn live(first: &str, words: &[String]) -> bool {
         "test" => {
             let tests = lines::all();
             println!("oracle: {} passed, {} failed", tests.passed, tests.failed);
-            tests.failed == 0
+            tests.passed > 0 && tests.failed == 0
         }
         _ => {
             print!("{USAGE}");

@@ -15,12 +15,14 @@ use Rattle.reader.specs.Reader.{splittingOf}
 use Rattle.reader.specs.declared.SplitAnswer.{SplitAnswer}
 use Rattle.runner.specs.Runner.{runAnswer, ended}
 use Rattle.runner.specs.declared.RunAnswer.{RunAnswer}
-use Rattle.tokens.specs.Compare.{Follows, WordsFollow, StateFollows, refusalText, spaced, stateText}
+use Rattle.text.specs.Text.{TextOf}
+use Rattle.tokens.specs.Compare.{Follows, WordsFollow, StateFollows, refusalText, spaced, stateText, hexText}
 use Rattle.tokens.proofs.Standing.{joined}
 use Rattle.tokens.specs.Laws.{alone}
 use Rattle.replay.specs.CheckList.{firstRefusal, CheckTold}
 use Rattle.replay.specs.SplitList.{splitText, SplitTold}
 use Rattle.replay.specs.RunList.{runText, RunTold}
+use Rattle.replay.specs.TextList.{textText, TextTold}
 
 pub check-told :
     (form sheet text : List ℕ) (r : Refused) (end : ℕ)
@@ -99,4 +101,36 @@ module _ (form sheet text : List ℕ) (ni na : ℕ) (ei : 1792 ≡ ni) (ea : 824
         same = alone text _ end (joined text 0 _ d worded _ end left) all;
         marks = state .rest;
         rest = words .rest;
+      }
+
+module _ (form sheet text : List ℕ) (ni : ℕ) (ei : 1792 ≡ ni) where
+  pub text-told :
+      (split : SplitAnswer) (items : List ℕ)
+      → callSplit form sheet ni ≡ ok (splittingOf split items)
+      → (word number place : ℕ) (bytes : List ℕ)
+      → TextOf form sheet items word number place bytes
+      → (a : ℕ)
+      → Follows text 0 (spaced word) a
+      → (b : ℕ)
+      → Follows text a (refusalText number place) b
+      → (d : ℕ)
+      → Follows text b (32 ∷ []) d
+      → (end : ℕ)
+      → Follows text d (hexText bytes) end
+      → eqb end (length text) ≡ true
+      → TextTold form sheet text
+  unfolding textText
+  text-told split items splits word number place bytes says a f b g d h end k t =
+      let asked = joined text 0 _ a f _ b g in
+      let last = joined text b (32 ∷ []) d h (hexText bytes) end k in
+      record {
+        split = split;
+        items = items;
+        splits = rw ei splits;
+        word = word;
+        number = number;
+        place = place;
+        bytes = bytes;
+        says = says;
+        same = alone text _ end (joined text 0 _ b asked _ end last) (eqb-true end (length text) t);
       }

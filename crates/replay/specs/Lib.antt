@@ -4,4 +4,5 @@ pub mod Utf8List
 pub mod CheckList
 pub mod SplitList
 pub mod RunList
+pub mod TextList
 pub mod Layer

@@ -7,6 +7,7 @@ use crate::check_list;
 use crate::list::Tally;
 use crate::run_list;
 use crate::split_list;
+use crate::text_list;
 use crate::utf8_list;
 use tokens::read;
 
@@ -15,6 +16,7 @@ pub enum Layer {
     Check,
     Split,
     Run,
+    Text,
     Calls,
 }
 
@@ -27,6 +29,7 @@ fn line_matches(layer: Layer, line: &[u8]) -> bool
         Layer::Check => check_list::line_matches(line),
         Layer::Split => split_list::line_matches(line),
         Layer::Run => run_list::line_matches(line),
+        Layer::Text => text_list::line_matches(line),
         Layer::Calls => calls_list::line_matches(line),
     }
 }

@@ -5,6 +5,7 @@ mod layer;
 mod list;
 mod run_list;
 mod split_list;
+mod text_list;
 mod utf8_list;
 
 use layer::Layer;
@@ -24,6 +25,7 @@ fn main() {
     replay(Layer::Split, b"split-2.list", b"split-2");
     replay(Layer::Run, b"run-1.list", b"run-1");
     replay(Layer::Run, b"run-2.list", b"run-2");
+    replay(Layer::Text, b"text.list", b"text");
     replay(Layer::Calls, b"calls-1.list", b"calls-1");
     replay(Layer::Calls, b"calls-2.list", b"calls-2");
 }

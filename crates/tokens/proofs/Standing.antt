@@ -14,7 +14,7 @@ use Rattle.rules.specs.Base.{all, concatMap}
 use Rattle.rules.specs.Bench.{decimal}
 use Rattle.rules.specs.Tree.{zeros}
 use Rattle.rules.specs.declared.State.{State}
-use Rattle.tokens.specs.Compare.{Follows, placeText, spaced, wordsText, refusalText, WordsFollow, stateText, StateFollows}
+use Rattle.tokens.specs.Compare.{Follows, placeText, spaced, wordsText, refusalText, hexDigit, byteText, hexText, WordsFollow, stateText, StateFollows}
 use Rattle.tokens.proofs.Decimal.{decimal-one, decimal-more}
 
 module _ (line : List ℕ) (at : ℕ) where
@@ -72,13 +72,14 @@ refusal-follows line at number place n s r f g h =
     joined line at (spaced number) n f (32 ∷ placeText place) r (joined line n (32 ∷ []) s g (placeText place) r h)
 
 -- ---- words
+concat-last : (f : ℕ → List ℕ) (l : List ℕ) (x : ℕ) → concatMap f (l ++ (x ∷ [])) ≡ concatMap f l ++ f x
+unfolding concatMap
+concat-last f [] x = append-nil (f x)
+concat-last f (y ∷ l) x = ap (λ (t : List ℕ). f y ++ t) (concat-last f l x) ∙ sym (append-assoc (f y) (concatMap f l) (f x))
+
 words-last : (l : List ℕ) (x : ℕ) → wordsText (l ++ (x ∷ [])) ≡ wordsText l ++ spaced x
-unfolding wordsText concatMap
-words-last l x = go l
-  where
-    go : (l : List ℕ) → concatMap spaced (l ++ (x ∷ [])) ≡ concatMap spaced l ++ spaced x
-    go [] = append-nil (spaced x)
-    go (y ∷ l) = ap (λ (t : List ℕ). spaced y ++ t) (go l) ∙ sym (append-assoc (spaced y) (concatMap spaced l) (spaced x))
+unfolding wordsText
+words-last l x = concat-last spaced l x
 
 module _ (line : List ℕ) (at : ℕ) (words : List ℕ) where
   pub words-none : Follows line at (wordsText (take 0 words)) at
@@ -92,6 +93,33 @@ module _ (line : List ℕ) (at : ℕ) (words : List ℕ) where
 
     pub words-all : length words ≤ i → Follows line at (wordsText words) end
     words-all l = rw (take-all i words l) at inv
+
+-- ---- bytes in hexadecimal
+module _ (line : List ℕ) (at : ℕ) where
+  pub hex-byte : (b h l m r : ℕ) → h ≡ hexDigit (b / 16) → Follows line at (h ∷ []) m → l ≡ hexDigit (b % 16) → Follows line m (l ∷ []) r → Follows line at (byteText b) r
+  unfolding byteText
+  hex-byte b h l m r e f d g = rw (← e, ← d) (joined line at (h ∷ []) m f (l ∷ []) r g)
+
+  module _ (bytes : List ℕ) where
+    pub hex-start : Follows line at (concatMap byteText (take 0 bytes)) at
+    unfolding concatMap
+    hex-start = none line at
+
+    module _ (i end : ℕ) (inv : Follows line at (concatMap byteText (take i bytes)) end) where
+      pub hex-more : i < length bytes → (r : ℕ) → Follows line end (byteText (getD bytes i 0)) r → Follows line at (concatMap byteText (take (i + 1) bytes)) r
+      hex-more l r g =
+          rw (add-one, take-suc bytes i 0 l, concat-last byteText (take i bytes) (getD bytes i 0)) (joined line at (concatMap byteText (take i bytes)) end inv (byteText (getD bytes i 0)) r g)
+
+      pub hex-all : length bytes ≤ i → Follows line at (concatMap byteText bytes) end
+      hex-all l = rw (take-all i bytes l) at inv
+
+    pub hex-dashed : (r : ℕ) → length bytes ≡ 0 → Follows line at (45 ∷ []) r → Follows line at (hexText bytes) r
+    unfolding hexText if_then_else_
+    hex-dashed r e f = rw e f
+
+    pub hex-follows : (r : ℕ) → (length bytes ≡ 0 → ⊥) → Follows line at (concatMap byteText bytes) r → Follows line at (hexText bytes) r
+    unfolding hexText if_then_else_
+    hex-follows r e f = rw (ne-eqb (length bytes) 0 e) f
 
 -- ---- words that are all 0
 module _ (words : List ℕ) (i : ℕ) (inv : zeros words ≡ zeros (drop i words)) where

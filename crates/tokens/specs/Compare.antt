@@ -2,8 +2,8 @@
 use mathlib.Core.Path.{_≡_}
 use mathlib.Core.Bool.{true}
 use mathlib.Core.List.{List, [], _∷_, _++_}
-use Prim.Native.Nat.{ℕ, _-_, _≤_}
-use lib.Dec.{eqb}
+use Prim.Native.Nat.{ℕ, _+_, _-_, _/_, _%_, _≤_}
+use lib.Dec.{eqb, ltb}
 use lib.ListN.{length, take, drop}
 use Rattle.utf8.specs.Utf8.{if_then_else_}
 use Rattle.rules.specs.Base.{concatMap}
@@ -32,6 +32,17 @@ wordsText ws = concatMap spaced ws
 
 unfoldable pub refusalText : ℕ → ℕ → List ℕ
 refusalText number place = spaced number ++ (32 ∷ placeText place)
+
+-- 0 to 9, a to f
+unfoldable pub hexDigit : ℕ → ℕ
+hexDigit n = if ltb n 10 then 48 + n else 87 + n
+
+unfoldable pub byteText : ℕ → List ℕ
+byteText b = hexDigit (b / 16) ∷ hexDigit (b % 16) ∷ []
+
+-- two digits for each byte; a dash for none
+unfoldable pub hexText : List ℕ → List ℕ
+hexText bytes = if eqb (length bytes) 0 then 45 ∷ [] else concatMap byteText bytes
 
 -- the first n words, and zeros behind them
 pub record WordsStand (line : List ℕ) (at : ℕ) (words : List ℕ) (n r : ℕ) : Type 0 where

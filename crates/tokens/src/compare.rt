@@ -6,7 +6,8 @@ ghost use Prim.Native.Nat.{_+_, _≤_, _<_};
 ghost use lib.ListN.{length};
 ghost use Rattle.rules.specs.Bench.{decimal};
 ghost use Rattle.rules.specs.Tree.{zeros};
-ghost use Rattle.tokens.specs.Compare.{Follows, placeText, spaced, wordsText, refusalText, WordsFollow, StateFollows};
+ghost use Rattle.rules.specs.Base.{concatMap};
+ghost use Rattle.tokens.specs.Compare.{Follows, placeText, spaced, wordsText, refusalText, hexDigit, byteText, hexText, WordsFollow, StateFollows};
 use rules::State;
 
 fn past_end(line: &[u8]) -> usize
@@ -82,6 +83,42 @@ pub fn after_refusal(line: &[u8], at: usize, number: u32, place: u32) -> usize
     let numbered = after_word(line, at, number);
     let space = after_byte(line, numbered, b' ');
     after_place(line, space, place)
+}
+
+fn hex_digit(n: u8) -> u8
+    requires { ⌜ n < 16 ⌝ }
+    ensures { λ r. ⌜ r ≡ hexDigit n ⌝ }
+{
+    if n < 10 { 48 + n } else { 87 + n }
+}
+
+fn after_hex_byte(line: &[u8], at: usize, b: u8) -> usize
+    ensures { λ r. ⌜ Follows (now (line .entry)) at (byteText b) r ⌝ }
+{
+    let high = after_byte(line, at, hex_digit(b / 16));
+    after_byte(line, high, hex_digit(b % 16))
+}
+
+fn after_hex_bytes(line: &[u8], at: usize, bytes: &[u8]) -> usize
+    ensures { λ r. ⌜ Follows (now (line .entry)) at (concatMap byteText (now (bytes .entry))) r ⌝ }
+{
+    let mut end = at;
+    let mut i = 0;
+    while i < bytes.len() {
+        end = after_hex_byte(line, end, bytes[i]);
+        i += 1;
+    }
+    end
+}
+
+// Bytes in hexadecimal; a dash for none.
+pub fn after_hex(line: &[u8], at: usize, bytes: &[u8]) -> usize
+    ensures { λ r. ⌜ Follows (now (line .entry)) at (hexText (now (bytes .entry))) r ⌝ }
+{
+    if bytes.len() == 0 {
+        return after_byte(line, at, b'-');
+    }
+    after_hex_bytes(line, at, bytes)
 }
 
 fn all_zero(words: &[u32]) -> bool

@@ -2,7 +2,7 @@
 
 use line::forged::{self, records, Call, Lent, State, ANSWER_WORDS, ITEM_WORDS};
 
-use super::{calls, calls::Answer, checks, run, split};
+use super::{calls, calls::Answer, checks, run, split, utf8};
 
 /// The tokens of a line, read from the left.
 struct Tokens<'a>(std::str::Split<'a, char>);
@@ -38,6 +38,12 @@ impl Tokens<'_> {
     }
 }
 
+/// Bytes, whether they are UTF-8, the first character and its size.
+fn utf8_line(text: &str) -> bool {
+    let (bytes, answer) = text.split_once(' ').expect("a line with an answer");
+    utf8::listed(&Tokens(bytes.split(' ')).bytes()) == answer
+}
+
 /// Form, sheet, and the first refusal of the two checks.
 fn check_line(tokens: &mut Tokens) -> bool {
     let (form, sheet) = (tokens.bytes(), tokens.bytes());
@@ -68,6 +74,16 @@ fn run_line(tokens: &mut Tokens) -> bool {
     let (mut items, mut answers) = (vec![u32::MAX; ITEM_WORDS], vec![u32::MAX; ANSWER_WORDS]);
     let ours = run::run(&form, &sheet, &mut items, &mut answers);
     ours == theirs && answers == run::padded(&words, ANSWER_WORDS)
+}
+
+/// Form, sheet, answer word, refusal and the bytes of the text, on the items of the sheet.
+fn text_line(tokens: &mut Tokens) -> bool {
+    let (form, sheet, word) = (tokens.bytes(), tokens.bytes(), tokens.number());
+    let (number, place, bytes) = (tokens.number(), tokens.place(), tokens.bytes());
+    let mut items = vec![u32::MAX; ITEM_WORDS];
+    let state = split::split(&form, &sheet, &mut items).state;
+    let lent = Lent { form: &form, sheet: &sheet, items: &items, state: &state };
+    run::text(&lent, word) == if number == 0 { Ok(&bytes[..]) } else { Err((number, place)) }
 }
 
 /// A call by its words and its second state; none for `eval`.
@@ -142,13 +158,15 @@ fn calls_line(text: &str) -> bool {
     }
 }
 
-/// Cases and differences of a list, or none if no code of its layer can be called yet.
+/// Cases and differences of a list, or none if there is no such layer.
 pub fn replay(text: &str) -> Option<(usize, usize)> {
     let layer = text.split(' ').nth(3)?;
     let line: fn(&str) -> bool = match layer {
+        "utf8" => utf8_line,
         "check" => |l| check_line(&mut Tokens(l.split(' '))),
         "split" => |l| split_line(&mut Tokens(l.split(' '))),
         "run" => |l| run_line(&mut Tokens(l.split(' '))),
+        "text" => |l| text_line(&mut Tokens(l.split(' '))),
         "calls" => calls_line,
         _ => return None,
     };

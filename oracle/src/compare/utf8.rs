@@ -34,6 +34,13 @@ fn expected(s: &[u8], at: usize) -> Decoding {
     Decoding { found: character.is_some(), character: code, size }
 }
 
+/// Whether bytes are valid, their first character and its size, in the words of a list.
+pub fn listed(bytes: &[u8]) -> String {
+    let first = decode(bytes, 0);
+    let character = if first.found { first.character.to_string() } else { "-".to_string() };
+    format!("{} {character} {}", u8::from(valid(bytes)), first.size)
+}
+
 /// Each of this program's own arguments: its characters, or the byte where it stops being UTF-8.
 pub fn show_arguments() -> bool {
     for argument in std::env::args_os().skip(2) {

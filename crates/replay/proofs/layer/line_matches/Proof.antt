@@ -33,6 +33,12 @@ enum-told-5 c = search needs
 line-matches-requires-5 : tie.Need-line-matches-requires-5
 line-matches-requires-5 c κs = search needs
 
+enum-told-6 : tie.Need-enum-told-6
+enum-told-6 c = search needs
+
+line-matches-requires-6 : tie.Need-line-matches-requires-6
+line-matches-requires-6 c κs = search needs
+
 returns : tie.Need-returns
 returns c = λ t. rw (c .before .enum-told .given .1) (c .line-matches .ensures t)
 
@@ -48,6 +54,9 @@ returns-4 c = λ t. rw (c .before .enum-told4 .given .1) (c .line-matches4 .ensu
 returns-5 : tie.Need-returns-5
 returns-5 c = λ t. rw (c .before .enum-told5 .given .1) (c .line-matches5 .ensures t)
 
+returns-6 : tie.Need-returns-6
+returns-6 c = λ t. rw (c .before .enum-told6 .given .1) (c .line-matches6 .ensures t)
+
 pub line-matches-spec : {M : Type 1} → statement M
 line-matches-spec =
     tie.close
@@ -62,8 +71,11 @@ line-matches-spec =
     line-matches-requires-4
     enum-told-5
     line-matches-requires-5
+    enum-told-6
+    line-matches-requires-6
     returns
     returns-2
     returns-3
     returns-4
-    returns-5)
+    returns-5
+    returns-6)
