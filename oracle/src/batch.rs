@@ -171,7 +171,7 @@ impl Probe {
         let numbers: Vec<String> = self.numbers.iter().map(|(n, c)| format!("{n}: {c}")).collect();
         println!("{what}: {} cases, {} evaluations, {} broken", self.cases, self.visits, self.broken);
         println!("answers {}", numbers.join(", "));
-        self.broken == 0
+        self.cases > 0 && self.broken == 0
     }
 }
 
@@ -219,7 +219,7 @@ pub fn calls(seed: u64, count: u64) -> bool {
         }
     }
     println!("calls: {made} made, {broken} broken");
-    broken == 0
+    made > 0 && broken == 0
 }
 
 /// The bytes of a word of the table of differences: `\\xHH` is a byte.

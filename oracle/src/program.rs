@@ -75,5 +75,5 @@ pub fn compare(program: &str, seed: u64, count: u64) -> bool {
         each(&case.joined(), "");
     }
     println!("bench: {cases_run} inputs, {differ} differ");
-    differ == 0
+    cases_run > 0 && differ == 0
 }

@@ -312,7 +312,7 @@ fn main() -> ExitCode {
     println!("{} forms refused, {} sheets that no arguments give", c.forms_refused, c.sheets_left_out);
     println!("{} forms from nodes, {} too large for it", c.rebuilt, c.too_large);
     println!("{} lines, {} differ", c.lines, c.differ);
-    if c.differ == 0 {
+    if c.lines > 0 && c.differ == 0 {
         ExitCode::SUCCESS
     } else {
         ExitCode::FAILURE
