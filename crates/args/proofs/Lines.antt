@@ -14,7 +14,7 @@ use Rattle.utf8.specs.Utf8.{if_then_else_}
 use Rattle.wire.specs.Wire.{numberAt, offset, entryOf, HasEntry}
 use Rattle.wire.specs.Laws.{good-table}
 use Rattle.rules.specs.Base.{concatMap}
-use Rattle.rules.specs.Outcome.{Outcome, ok, refused, fault, _>>=_, refuseAt, refuse}
+use Rattle.rules.specs.Outcome.{Outcome, ok, refused, fault, _>>=_, refuse}
 use Rattle.rules.specs.Codes.{placeCode}
 use Rattle.rules.specs.Sheet.{argumentCount, arguments}
 use Rattle.rules.specs.Accept.{Letters}
@@ -326,7 +326,7 @@ module _ (l : Letters) (s : List ℕ) (n : ℕ) (o : List ℕ) (k at m : ℕ) (h
 
     -- ---- 8
     pub too-many : 256 - at < r .count → (q : List ℕ) → q ≡ sets p 0 (replicate (7 * at) 0) → Ends l s n q (record { number = 8; place = 0; count = 0; marker = 0 })
-    unfolding tooMany refuse padded
+    unfolding tooMany padded
     too-many c q e =
         let same : p ≡ o = w .words ∙ sym (no-room o at (length (w .group .items)) _ (omega (arith, count, z .few))) in
         let zero : n - 0 ≡ n = omega arith in
@@ -412,7 +412,7 @@ module _ (l : Letters) (s : List ℕ) (n : ℕ) (o : List ℕ) (k at m : ℕ) (h
           omega (arith, last-total, place-code, ambiguous-law l (arguments s) (z .whole) (at + place .0) (z .all) whole-ambiguous .1)
 
       pub ambiguous-letter : Ends l s n p (record { number = 9; place = at + r .ambiguous; count = at + r .count; marker = 0 })
-      unfolding ambiguity refuseAt recordsFrom
+      unfolding ambiguity recordsFrom
       ambiguous-letter =
           let records : recordsFrom 0 (arguments s) (z .whole .groups) ≡ z .words ++ recs =
           ap (recordsFrom 0 (arguments s)) last-groups ∙ more-records [] ∙ append-nil (z .words ++ recs) in

@@ -15,7 +15,7 @@ use Rattle.rules.specs.Split.{Item}
 use Rattle.rules.specs.State.{State, parsed, presentFrom, countPresent, unused, winner, construct, findIn, find, first, remove, pickFrom, pickWinner, saveConflicts, conflicts, conflictAt, conflict, setScope, untilPresent, proposed, adjacentScope, adjacentlyAvailableFrom}
 use Rattle.rules.specs.Run.{padded, parsedMark}
 use Rattle.rules.specs.Calls.{fromRaw, toRaw, stateIn}
-use Rattle.rules.specs.Demands.{Good}
+use Rattle.rules.specs.Sound.{Good}
 use Rattle.rules.specs.declared.State.{State as Raw}
 use Rattle.rules.specs.Codes.{placeOf}
 use Rattle.rules.proofs.Places.{at-below, slice-below, minus-below, write-below, count-from}

@@ -33,12 +33,12 @@ unfolding refusedOf refusalOf
 refusal-refused e = ap (λ (p : Option ℕ). record { number = e .number; place = p; missing = [] }) (place-code (e .place))
 
 -- ---- only the number counts, and the place is handed on
-pub can-catch-number : (e : Refusal) → canCatch e ≡ canCatch (refuse (e .number))
-unfolding canCatch refuse
+pub can-catch-number : (e : Refusal) → canCatch e ≡ canCatch (refuse (e .number) none)
+unfolding canCatch
 can-catch-number e = refl
 
-pub wrong-input-number : (e : Refusal) → wrongInput e ≡ wrongInput (refuse (e .number))
-unfolding wrongInput refuse
+pub wrong-input-number : (e : Refusal) → wrongInput e ≡ wrongInput (refuse (e .number) none)
+unfolding wrongInput
 wrong-input-number e = refl
 
 pub combine-forgets :
@@ -66,30 +66,30 @@ from-first : (P : ℕ → Type 0) (k n : ℕ) → k ≤ n → P k → (k < n →
 from-first P k n h p q = ⊎-elim (λ e. subst P e p) q (eq-or-lt-of-le h)
 
 module _ (n : ℕ) where
-  pub not-caught : (20 ≡ n → ⊥) → (21 ≡ n → ⊥) → (24 ≡ n → ⊥) → canCatch (refuse n) ≡ false
-  unfolding canCatch contains refuse
+  pub not-caught : (20 ≡ n → ⊥) → (21 ≡ n → ⊥) → (24 ≡ n → ⊥) → canCatch (refuse n none) ≡ false
+  unfolding canCatch contains
   not-caught a b c = rw (ne-eqb 20 n a, ne-eqb 21 n b, ne-eqb 24 n c)
 
   pub not-wrong :
-      (9 ≡ n → ⊥) → (22 ≡ n → ⊥) → (23 ≡ n → ⊥) → (24 ≡ n → ⊥) → (27 ≡ n → ⊥) → wrongInput (refuse n) ≡ false
-  unfolding wrongInput contains refuse
+      (9 ≡ n → ⊥) → (22 ≡ n → ⊥) → (23 ≡ n → ⊥) → (24 ≡ n → ⊥) → (27 ≡ n → ⊥) → wrongInput (refuse n none) ≡ false
+  unfolding wrongInput contains
   not-wrong a b c d e = rw (ne-eqb 9 n a, ne-eqb 22 n b, ne-eqb 23 n c, ne-eqb 24 n d, ne-eqb 27 n e)
 
-  pub caught : 20 ≤ n → n ≤ 21 → canCatch (refuse n) ≡ true
-  unfolding canCatch contains refuse
+  pub caught : 20 ≤ n → n ≤ 21 → canCatch (refuse n none) ≡ true
+  unfolding canCatch contains
   caught h k =
-      from-first (λ (m : ℕ). canCatch (refuse m) ≡ true) 20 n h refl (λ (l : 20 < n).
-      from-first (λ (m : ℕ). canCatch (refuse m) ≡ true) 21 n l refl (λ (m : 21 < n). absurd (omega arith)))
+      from-first (λ (m : ℕ). canCatch (refuse m none) ≡ true) 20 n h refl (λ (l : 20 < n).
+      from-first (λ (m : ℕ). canCatch (refuse m none) ≡ true) 21 n l refl (λ (m : 21 < n). absurd (omega arith)))
 
-  pub wrong : 22 ≤ n → n ≤ 24 → wrongInput (refuse n) ≡ true
-  unfolding wrongInput contains refuse
+  pub wrong : 22 ≤ n → n ≤ 24 → wrongInput (refuse n none) ≡ true
+  unfolding wrongInput contains
   wrong h k =
-      from-first (λ (m : ℕ). wrongInput (refuse m) ≡ true) 22 n h refl (λ (l : 22 < n).
-      from-first (λ (m : ℕ). wrongInput (refuse m) ≡ true) 23 n l refl (λ (j : 23 < n).
-      from-first (λ (m : ℕ). wrongInput (refuse m) ≡ true) 24 n j refl (λ (m : 24 < n). absurd (omega arith))))
+      from-first (λ (m : ℕ). wrongInput (refuse m none) ≡ true) 22 n h refl (λ (l : 22 < n).
+      from-first (λ (m : ℕ). wrongInput (refuse m none) ≡ true) 23 n l refl (λ (j : 23 < n).
+      from-first (λ (m : ℕ). wrongInput (refuse m none) ≡ true) 24 n j refl (λ (m : 24 < n). absurd (omega arith))))
 
-  pub missing-caught : canCatch (refuse n) ≡ false → n ≡ 20 → ⊥
-  unfolding canCatch contains refuse
+  pub missing-caught : canCatch (refuse n none) ≡ false → n ≡ 20 → ⊥
+  unfolding canCatch contains
   missing-caught h e = false≢true (sym (rw e at h))
 
 module _ (a b : Refused) where
@@ -104,10 +104,10 @@ module _ (a b : Refused) where
   unfolding refusedOf refusalOf combineWith isMissing if_then_else_
   combine-second p q = rw (eq-eqb _ _ p, q) (sym (refused-refusal b))
 
-  pub combine-caught : (a .number ≡ 20 → ⊥) → canCatch (refuse (a .number)) ≡ true → b ≡ combined
-  unfolding refusedOf refusalOf combineWith isMissing canCatch refuse if_then_else_
+  pub combine-caught : (a .number ≡ 20 → ⊥) → canCatch (refuse (a .number) none) ≡ true → b ≡ combined
+  unfolding refusedOf refusalOf combineWith isMissing canCatch if_then_else_
   combine-caught p h = rw (ne-eqb _ _ p, h) (sym (refused-refusal b))
 
-  pub combine-first : canCatch (refuse (a .number)) ≡ false → a ≡ combined
-  unfolding refusedOf refusalOf combineWith isMissing canCatch refuse if_then_else_
+  pub combine-first : canCatch (refuse (a .number) none) ≡ false → a ≡ combined
+  unfolding refusedOf refusalOf combineWith isMissing canCatch if_then_else_
   combine-first h = rw (ne-eqb _ _ (missing-caught (a .number) h), h) (sym (refused-refusal a))

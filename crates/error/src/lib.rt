@@ -1,11 +1,12 @@
 // Refusals, by their number: which can be caught, which are for wrong input, and two as one.
+ghost use mathlib.Core.Option.{none};
 ghost use mathlib.Core.Path.{_≡_};
 ghost use Rattle.rules.specs.Outcome.{refuse, canCatch, wrongInput, combineWith};
 ghost use Rattle.error.specs.Refusals.{refusalOf, refusedOf};
 
 // 20 Missing, 21 ParseSome, 24 NonStrictPos
 pub fn can_catch(number: u32) -> bool
-    ensures { λ r. ⌜ r ≡ canCatch (refuse number) ⌝ }
+    ensures { λ r. ⌜ r ≡ canCatch (refuse number none) ⌝ }
 {
     match number {
         20 | 21 | 24 => true,
@@ -15,7 +16,7 @@ pub fn can_catch(number: u32) -> bool
 
 // 9 Ambiguity, 22 NoArgument, 23 StrictPos, 24 NonStrictPos, 27 Unconsumed
 pub fn wrong_input(number: u32) -> bool
-    ensures { λ r. ⌜ r ≡ wrongInput (refuse number) ⌝ }
+    ensures { λ r. ⌜ r ≡ wrongInput (refuse number none) ⌝ }
 {
     match number {
         9 | 22 | 23 | 24 | 27 => true,

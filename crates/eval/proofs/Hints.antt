@@ -11,7 +11,7 @@ use native.Mathlib.Omega.{arith}
 use lib.ListN.{length, getD, take}
 use borrow.Author.Tests.{lt-ltb, le-ltb}
 use Rattle.utf8.specs.Utf8.{if_then_else_}
-use Rattle.rules.specs.Outcome.{Outcome, ok, refused, fault, Refusal, refuseAt, _>>=_}
+use Rattle.rules.specs.Outcome.{Outcome, ok, refused, fault, Refusal, _>>=_, refuse}
 use Rattle.rules.specs.Value.{Base, Value, absent, present}
 use Rattle.rules.specs.Tree.{Named, Position, Tree, Flag, Argument, Positional, Optional, Many, Some, Count, Last, Choice, Fallback, Guard}
 use Rattle.rules.specs.Split.{Item}
@@ -19,7 +19,7 @@ use Rattle.rules.specs.State.{State, Found, parsed, presentAt, unused, get, fin
 use Rattle.rules.specs.Take.{Took, took, Taken, matchesArg, takeFlag, valueText, takeValue, takeArg, isOperand, operand, takePositionalWord}
 use Rattle.rules.specs.Calls.{fromRaw}
 use Rattle.rules.specs.Eval.{Ran as Run, ended, after, _then_, visit, leaf, flagValue, evalFlag, argumentValue, evalArgument, positionalValue, evalPositional, swallowed, parseOption, evalOptional, evalGuard, eval}
-use Rattle.rules.specs.Demands.{Good}
+use Rattle.rules.specs.Sound.{Good}
 use Rattle.rules.proofs.Acceptance.{lookup-some}
 use Rattle.rules.proofs.Places.{mark-present}
 use Rattle.rules.proofs.Steps.{Step}
@@ -201,7 +201,7 @@ module _ (k : ℕ) (told : parsed k ≡ true) (is : List Item) (s : State) (g : 
           → (o : Option (List ℕ)) → valueText (get is s (suc (x .place))) ≡ o
           → Goes is (matchesArg m adjacent) s (evalArgument k is n m b adjacent s .state)
       key x e f none v =
-          inl (leaf-refused s (takeArg k is m adjacent s) (argumentValue n m b) (refuseAt 22 (x .place)) (rw (e, v)))
+          inl (leaf-refused s (takeArg k is m adjacent s) (argumentValue n m b) (refuse 22 (some (x .place))) (rw (e, v)))
       key x e f (some t) v = value x e f t v
 
       go : (x : Option Found) → find is (matchesArg m adjacent) s ≡ ok x → Finds is (matchesArg m adjacent) s x

@@ -15,7 +15,7 @@ use Rattle.rules.specs.Tree.{Tree, Count, Last, hasRepeat}
 use Rattle.rules.specs.Split.{Item}
 use Rattle.rules.specs.State.{State, parsed}
 use Rattle.rules.specs.Eval.{Ran as Run, repeated, evalCount, evalLast, eval}
-use Rattle.rules.specs.Demands.{Good, Sound, leaves}
+use Rattle.rules.specs.Sound.{Good, Sound, leaves}
 use Rattle.rules.proofs.EvalSound.{sound-count, sound-last, Any, eval-went}
 use Rattle.rules.proofs.Repeats.{Listed, repeated-went}
 use Rattle.rules.proofs.Steps.{most}

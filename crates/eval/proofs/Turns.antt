@@ -18,7 +18,7 @@ use Rattle.rules.specs.Split.{Item}
 use Rattle.rules.specs.State.{State}
 use Rattle.rules.specs.Calls.{fromRaw}
 use Rattle.rules.specs.Eval.{Ran as Run, Visit, ended, fewer, swallowed, idle, repeat, repeated, eval}
-use Rattle.rules.specs.Demands.{leaves}
+use Rattle.rules.specs.Sound.{leaves}
 use Rattle.rules.proofs.Steps.{Step, most, Runs}
 use Rattle.structs.specs.declared.Counting.{Counting}
 use Rattle.structs.specs.declared.Counting.the-variants.{Counted, Uncounted, Absent, PassedOn}
@@ -97,7 +97,7 @@ map-length (v ∷ vs) = ap suc (map-length vs)
 -- ---- what is decided
 counted-fewer : (n : ℕ) (catch : Bool) (given left : ℕ) (len : Option ℕ) → optionWay n catch given left len ≡ Counted → fewer left len ≡ true
 unfolding optionWay if_then_else_
-counted-fewer n catch given left len = go (eqb n 0) (fewer left len) (swallowed catch (refuse n) (withRemaining given) (withRemaining left))
+counted-fewer n catch given left len = go (eqb n 0) (fewer left len) (swallowed catch (refuse n none) (withRemaining given) (withRemaining left))
   where
     go : (a b c : Bool) → (if a then (if b then Counted else Uncounted) else (if c then Absent else PassedOn)) ≡ Counted → b ≡ true
     go true true c e = refl

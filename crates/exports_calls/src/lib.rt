@@ -1,7 +1,7 @@
 // The library for C and Rust: single calls on states, items, nodes and refusals. A slice is passed as two arguments, the pointer and
 // the count.
 ghost use mathlib.Core.Path.{_≡_};
-ghost use mathlib.Core.Option.{some};
+ghost use mathlib.Core.Option.{some, none};
 ghost use Rattle.rules.specs.Outcome.{refuse, canCatch, wrongInput, combineWith};
 ghost use Rattle.rules.specs.Calls.{callRemove, callPickWinner, callSaveConflicts, callSetScope, callAdjacentScope, callAvailableFrom};
 ghost use Rattle.rules.specs.Calls.{callConflict, callTakePositional, callOnlyOnce};
@@ -66,14 +66,14 @@ pub extern "C" fn silverpoise_adjacently_available_from(s: State, from: usize) -
 
 #[no_mangle]
 pub extern "C" fn silverpoise_can_catch(number: u32) -> bool
-    ensures { λ r. ⌜ r ≡ canCatch (refuse number) ⌝ }
+    ensures { λ r. ⌜ r ≡ canCatch (refuse number none) ⌝ }
 {
     error::can_catch(number)
 }
 
 #[no_mangle]
 pub extern "C" fn silverpoise_wrong_input(number: u32) -> bool
-    ensures { λ r. ⌜ r ≡ wrongInput (refuse number) ⌝ }
+    ensures { λ r. ⌜ r ≡ wrongInput (refuse number none) ⌝ }
 {
     error::wrong_input(number)
 }

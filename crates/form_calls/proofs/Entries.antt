@@ -40,7 +40,7 @@ use Rattle.form_calls.proofs.Tests.{accepted-names, refused-state, refu
 use Rattle.form_calls.proofs.Keys.{past, command-name, command-word, has-name}
 
 -- what a call asks of the form or of the items is there, or it is refused
-asked-none : {A B : Type 0} (o : Option A) (g : A → Outcome B) → o ≡ none → (asked o >>= g) ≡ refused (refuse 28)
+asked-none : {A B : Type 0} (o : Option A) (g : A → Outcome B) → o ≡ none → (asked o >>= g) ≡ refused (refuse 28 none)
 unfolding asked _>>=_
 asked-none o g e = rw e
 
@@ -103,14 +103,14 @@ module _ (form sheet words : List ℕ) (x : Raw) (r : Refused) (t : Tests form s
       done : {B : Type 0} (g : Outcome _ → B) (o : Outcome (Took A)) → f (t .good z .result) these (fromRaw x) ≡ o → g (onForm form sheet words x f) ≡ g (handed x o)
       done g o e = ap g (passed form sheet words x f (t .good z) ∙ ap (handed x) e)
 
-      none-state : (code : A → Coded) → f (t .good z .result) these (fromRaw x) ≡ refused (refuse 28)
+      none-state : (code : A → Coded) → f (t .good z .result) these (fromRaw x) ≡ refused (refuse 28 none)
           → (y : StateAnswer) → y ≡ stateWith 28 0 (coded 0 0 0) x → stateAnswerOf code (onForm form sheet words x f) ≡ some y
-      unfolding stateAnswerOf handed codedOr0 refuse
+      unfolding stateAnswerOf handed codedOr0
       none-state code e y h = done (stateAnswerOf code) _ e ∙ ap some (sym h)
 
-      none-answer : (code : A → Coded) → f (t .good z .result) these (fromRaw x) ≡ refused (refuse 28)
+      none-answer : (code : A → Coded) → f (t .good z .result) these (fromRaw x) ≡ refused (refuse 28 none)
           → (y : Answer) → y ≡ answerWith 28 0 (coded 0 0 0) → answerOf code (onForm form sheet words x f) ≡ some y
-      unfolding answerOf handed codedOr0 refuse
+      unfolding answerOf handed codedOr0
       none-answer code e y h = done (answerOf code) _ e ∙ ap some (sym h)
 
     -- ---- nodes

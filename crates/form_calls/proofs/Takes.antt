@@ -7,7 +7,7 @@ use Prim.Native.Nat.{ℕ, suc, _+_, _≤_, _<_}
 use native.Mathlib.Numerals.{add-one}
 use native.Mathlib.Omega.{arith}
 use lib.ListN.{length}
-use Rattle.rules.specs.Outcome.{Outcome, ok, refused, fault, _>>=_, refuseAt}
+use Rattle.rules.specs.Outcome.{Outcome, ok, refused, fault, _>>=_, refuse}
 use Rattle.rules.specs.Form.{nameCount}
 use Rattle.rules.specs.Sheet.{sheetFault, sheetArea}
 use Rattle.rules.specs.Split.{Item}
@@ -16,7 +16,7 @@ use Rattle.rules.specs.State.{State, Found, parsed, find, get, withCurrent}
 use Rattle.rules.specs.Run.{parsedMark}
 use Rattle.rules.specs.Take.{Took, took, Taken, matchesArg, takeFlag, valueText, takeValue, takeArg, takeCmd}
 use Rattle.rules.specs.Calls.{fromRaw, itemFrom, handed}
-use Rattle.rules.specs.Demands.{Good}
+use Rattle.rules.specs.Sound.{Good}
 use Rattle.rules.specs.declared.State.{State as Raw}
 use Rattle.rules.proofs.StepLaws.{Free, Finds, free-below, find-good, remove-step, get-free, current-good}
 use Rattle.state.specs.declared.Numbers.{Numbers}
@@ -71,9 +71,9 @@ module _ {A : Type 0} (code : A → Coded) (x : Raw) where
   unfolding took stateAnswerOf handed codedOr0
   took-hands o v m q e f l = rw (e, raw-back m q f l) refl
 
-  refused-hands : (o : Outcome (Took A)) (n i : ℕ) → o ≡ refused (refuseAt n i)
+  refused-hands : (o : Outcome (Took A)) (n i : ℕ) → o ≡ refused (refuse n (some i))
       → stateAnswerOf code (handed x o) ≡ some (stateWith n (i + 1) (coded 0 0 0) x)
-  unfolding stateAnswerOf handed codedOr0 refuseAt
+  unfolding stateAnswerOf handed codedOr0
   refused-hands o n i e = rw (e, add-one i) refl
 
 module _ (sheet words : List ℕ) (x : Raw) (p : Numbers) (e : p ≡ numbersOf x) (long : length (x .marks) ≡ 256) (m : List ℕ) (y : Raw) where
@@ -126,7 +126,7 @@ Within n (fault f) = Unit {0}
 
 module _ (k : ℕ) (told : parsed k ≡ true) (is : List Item) (s : State) (g : Good (length is) s) where
   value-within : (key : ℕ) → Free s key → (o : Option Item) → get is s (suc key) ≡ o → Within (length is) (takeValue k s key (valueText o))
-  unfolding takeValue valueText refuseAt _>>=_ took
+  unfolding takeValue valueText _>>=_ took
   value-within key f none e = λ i h. subst (λ (j : ℕ). j < length is) (Option·some-injective key i h) (free-below (length is) s key g f)
   value-within key f (some x) e = go (valueText (some x))
     where
@@ -156,7 +156,7 @@ pub arg-small :
     → Ready area words m p mark
     → TakesArg mark area words n adjacent m p m′ t
     → SmallValue (t .value)
-unfolding took refuseAt
+unfolding took
 arg-small mark area words n adjacent m p m′ t q h = go (t .value) refl
   where
     within : Within (length (q .items)) (valueOf area m′ (t .numbers) (t .value))

@@ -1,6 +1,6 @@
 -- What the tests of the input say of a call.
 use mathlib.Core.List.{List, []}
-use mathlib.Core.Option.{some}
+use mathlib.Core.Option.{some, none}
 use mathlib.Core.Path.{_≡_, refl, ap, _∙_}
 use Prim.Native.Nat.{ℕ}
 use lib.ListN.{length}
@@ -79,13 +79,13 @@ module _ (form sheet words : List ℕ) (x : Raw) (r : Refused) (e : r ≡ checkC
           }
 
   pub state-tests : r .number ≡ 0 → (n : ℕ) → GivesState sheet words x n → Tests form sheet words x (record { number = n; place = 0 })
-  unfolding givenIn refuse
+  unfolding givenIn
   state-tests z n g =
       let (a, h) = check-accepted form r e z in
       record {
         good = λ w. record { result = a; accepts = h; state = g .good w };
         bad = λ w. record {
-          refusal = refuse n;
+          refusal = refuse n none;
           same = form-passed form a (λ _. itemsGiven sheet words >>= λ is. stateIn (length is) x) h ∙ g .bad w;
           number = refl;
           place = refl;

@@ -18,7 +18,7 @@ use Rattle.rules.specs.Take.{Took, took, Operand as RulesOperand, isOperand, op
 use Rattle.rules.specs.Run.{parsedMark}
 use Rattle.rules.specs.Calls.{fromRaw, toRaw, stateIn, placeIn, itemFrom, handed, onItems, operandOr20, callGet, callConflict, callTakePositional, callOnlyOnce}
 use Rattle.rules.specs.declared.State.{State as Raw}
-use Rattle.rules.specs.Demands.{Good}
+use Rattle.rules.specs.Sound.{Good}
 use Rattle.rules.specs.Codes.{placeOf}
 use Rattle.rules.proofs.Acceptance.{lookup-some}
 use Rattle.rules.proofs.StepLaws.{Finds, find-good, free-below}
@@ -53,7 +53,7 @@ same-state x g long = raw-back (x .marks) (numbersOf x) (given-fine (x .count) x
 module _ {A : Type 0} (s words : List ℕ) (x : Raw) (f : List Item → State → Outcome (Took A)) where
   pub items-refused : (n : ℕ) → GivesState s words x n → (n ≡ 0 → ⊥)
       → onItems s words x f ≡ ok (record { number = n; place = none; answer = none; state = x })
-  unfolding onItems handed refuse
+  unfolding onItems handed
   items-refused n g h = ap (handed x) (state-refused s words x f n g h)
 
   pub items-given : (h : HasState s words x) → onItems s words x f ≡ handed x (f (h .table .holds .items) (fromRaw x))
@@ -154,7 +154,7 @@ module _ (s words : List ℕ) (x : Raw) (n : ℕ) (g : GivesState s words x n) w
           items-given s words x _ h ∙ ap (λ (y : Outcome (Took (Option RulesOperand))). handed x (y >>= operandOr20)) (taken h ∙ d)
 
       pub positional-missing : r .operand ≡ Missing → stateAnswerOf operandCode (callTakePositional s words x) ≡ some (unchangedWith 20 x)
-      unfolding handed operandOr20 took refuse stateAnswerOf codedOr0 _>>=_
+      unfolding handed operandOr20 took stateAnswerOf codedOr0 _>>=_
       positional-missing d = ap (stateAnswerOf operandCode) (handed-back _ (ap (operandOf (sheetArea s) m (r .numbers)) d))
 
       module _ (i : ℕ) (strict : Bool) (part : Part) (d : r .operand ≡ Taken i strict part) where
@@ -183,16 +183,16 @@ module _ (s words : List ℕ) (x : Raw) (n : ℕ) (g : GivesState s words x n) w
 
 module _ (s words : List ℕ) (i : ℕ) (r : Input) (g : Gives s words r) where
   pub once-refused : (r .number ≡ 0 → ⊥) → plainAnswer placeOrNone (callOnlyOnce s words i) ≡ some (answerWith (r .number) 0 (coded 0 0 0))
-  unfolding callOnlyOnce plainAnswer refuse
+  unfolding callOnlyOnce plainAnswer
   once-refused h = ap (plainAnswer placeOrNone) (table-refused s words _ r g h)
 
   module _ (e : r .number ≡ 0) where
     pub once-beyond : r .count ≤ i → plainAnswer placeOrNone (callOnlyOnce s words i) ≡ some (answerWith 28 0 (coded 0 0 0))
-    unfolding callOnlyOnce plainAnswer placeIn refuse _>>=_ if_then_else_
+    unfolding callOnlyOnce plainAnswer placeIn _>>=_ if_then_else_
     once-beyond h =
         let t = g .good e in
         let l : length (t .holds .items) ≤ i = omega (arith, t .holds .count) in
-        let step : callOnlyOnce s words i ≡ refused (refuse 28) = table-given s words _ (r .count) t ∙ rw (le-ltb i (length (t .holds .items)) l) in
+        let step : callOnlyOnce s words i ≡ refused (refuse 28 none) = table-given s words _ (r .count) t ∙ rw (le-ltb i (length (t .holds .items)) l) in
         ap (plainAnswer placeOrNone) step
 
     module _ (h : i < r .count) where
@@ -202,11 +202,11 @@ module _ (s words : List ℕ) (i : ℕ) (r : Input) (g : Gives s words r) where
           record { made = t .made; items = t .holds .items; table = t .holds .table; below = omega (arith, t .holds .count) }
 
       pub once-wide : 4294967295 < i → plainAnswer placeOrNone (callOnlyOnce s words i) ≡ some (answerWith 28 0 (coded 0 0 0))
-      unfolding callOnlyOnce plainAnswer placeIn refuse _>>=_ if_then_else_
+      unfolding callOnlyOnce plainAnswer placeIn _>>=_ if_then_else_
       once-wide w =
           let t = g .good e in
           let l : i < length (t .holds .items) = omega (arith, t .holds .count) in
-          let step : callOnlyOnce s words i ≡ refused (refuse 28) =
+          let step : callOnlyOnce s words i ≡ refused (refuse 28 none) =
           table-given s words _ (r .count) t ∙ rw (lt-ltb i (length (t .holds .items)) l, le-ltb i 4294967296 (omega arith)) in
           ap (plainAnswer placeOrNone) step
 
@@ -296,9 +296,9 @@ module _ (s words : List ℕ) (x : Raw) (i n : ℕ) (g : GivesState s words x n)
         items-given s words x _ h ∙ ap (handed x) (d (h .table .holds .items) (h .table .holds .table) (h .table .holds .count))
 
     pub get-beyond : (w : ℕ) → w ≡ x .count → w ≤ i → Gets s words x i (nothingGot 28)
-    unfolding gotOf gotWords placeOf placeIn handed refuse _>>=_ if_then_else_
+    unfolding gotOf gotWords placeOf placeIn handed _>>=_ if_then_else_
     get-beyond w ew l = record {
-      same = called (refused (refuse 28)) (λ is t k. rw (le-ltb i (length is) (omega arith)));
+      same = called (refused (refuse 28 none)) (λ is t k. rw (le-ltb i (length is) (omega arith)));
       item = refl;
     }
 

@@ -112,11 +112,11 @@ module _ (form sheet : List ℕ) (k : ℕ) (r : Refused) (e : r ≡ checkCode (c
 
     module _ (f : ℕ) (ef : f ≡ sheetFault sheet) where
       pub start-sheet : (f ≡ 0 → ⊥) → (g : Search) → g ≡ stoppedAt f 0 → Started form sheet k g
-      unfolding sheetIn refuse if_then_else_
+      unfolding sheetIn if_then_else_
       start-sheet n g t = record {
         good = λ w. absurd (n (sym (ap (λ (y : Search). y .number) t) ∙ w));
         bad = λ _. record {
-          refusal = refuse f;
+          refusal = refuse f none;
           same = form-passed form (start-accepted .0) (λ _. sheetIn sheet) (start-accepted .1) ∙ rw (← ef, ne-eqb f 0 n);
           number = ap (λ (y : Search). y .number) t;
           place = ap (λ (y : Search). y .place) t;
@@ -243,12 +243,12 @@ module _ (s : Raw) (g : Search) (d : Seen) (r : Answer) where
     by e = record { good = λ _. e; bad = λ w. absurd (w z) }
 
     pub finish-bad : c ≡ 1 → r ≡ answerWith 30 0 (coded 0 0 0) → Finishes s g d r
-    unfolding ended plainAnswer refuse if_then_else_
+    unfolding ended plainAnswer if_then_else_
     finish-bad h e = by (rw (eq-eqb c 1 h) (ap some (sym e)))
 
-    module _ (h : c ≡ 1 → ⊥) (b : Bool) (said : stateIn n s ≡ (if b then ok (fromRaw s) else refused (refuse 29))) where
+    module _ (h : c ≡ 1 → ⊥) (b : Bool) (said : stateIn n s ≡ (if b then ok (fromRaw s) else refused (refuse 29 none))) where
       pub finish-state : not b ≡ true → r ≡ answerWith 29 0 (coded 0 0 0) → Finishes s g d r
-      unfolding ended plainAnswer refuse if_then_else_ _>>=_
+      unfolding ended plainAnswer if_then_else_ _>>=_
       finish-state t e = by (rw (ne-eqb c 1 h, said, not-true b t) (ap some (sym e)))
 
       module _ (t : not b ≡ false) where
@@ -257,7 +257,7 @@ module _ (s : Raw) (g : Search) (d : Seen) (r : Answer) where
         finish-near = in-kept n s (said ∙ rw (not-false b t)) .small
 
         pub finish-node : g .key .kind ≡ 0 → r ≡ answerWith 28 0 (coded 0 0 0) → Finishes s g d r
-        unfolding ended plainAnswer refuse if_then_else_ _>>=_
+        unfolding ended plainAnswer if_then_else_ _>>=_
         finish-node k e = by (rw (ne-eqb c 1 h, said, not-false b t, eq-eqb (g .key .kind) 0 k) (ap some (sym e)))
 
         module _ (k : g .key .kind ≡ 0 → ⊥) where

@@ -71,11 +71,11 @@ module _ (form sheet : List ℕ) (xs : List ItemRecord) (x : Raw) (k : ℕ) (a :
   unfolding callFind recordItems sheetIn _>>=_ if_then_else_
   opened o e = form-passed form a _ accepts ∙ rw (eq-eqb (sheetFault sheet) 0 made, e)
 
-state-case : (n : ℕ) (x : Raw) → (stateIn n x ≡ ok (fromRaw x)) ⊎ (stateIn n x ≡ refused (refuse 29))
+state-case : (n : ℕ) (x : Raw) → (stateIn n x ≡ ok (fromRaw x)) ⊎ (stateIn n x ≡ refused (refuse 29 none))
 unfolding stateIn if_then_else_
 state-case n x = go (eqb (x .count) n && zeros (drop (x .count) (x .marks)) && stateGood parsed n (fromRaw x))
   where
-    go : (b : Bool) → ((if b then ok (fromRaw x) else refused (refuse 29)) ≡ ok (fromRaw x)) ⊎ ((if b then ok (fromRaw x) else refused (refuse 29)) ≡ refused (refuse 29))
+    go : (b : Bool) → ((if b then ok (fromRaw x) else refused (refuse 29 none)) ≡ ok (fromRaw x)) ⊎ ((if b then ok (fromRaw x) else refused (refuse 29 none)) ≡ refused (refuse 29 none))
     go true = inl refl
     go false = inr refl
 
@@ -111,15 +111,15 @@ module _ (form sheet : List ℕ) (xs : List ItemRecord) (x : Raw) (k : ℕ) (g :
   unfolding if_then_else_
   node-some w = y .key .any ∙ rw (ne-eqb (g .key .kind) 0 w)
 
-  ended-bad : c .found ≡ 1 → ended x (c .count) g (c .found) ≡ refused (refuse 30)
+  ended-bad : c .found ≡ 1 → ended x (c .count) g (c .found) ≡ refused (refuse 30 none)
   unfolding ended if_then_else_
   ended-bad w = rw (eq-eqb (c .found) 1 w)
 
-  ended-state : (c .found ≡ 1 → ⊥) → stateIn (c .count) x ≡ refused (refuse 29) → ended x (c .count) g (c .found) ≡ refused (refuse 29)
+  ended-state : (c .found ≡ 1 → ⊥) → stateIn (c .count) x ≡ refused (refuse 29 none) → ended x (c .count) g (c .found) ≡ refused (refuse 29 none)
   unfolding ended if_then_else_ _>>=_
   ended-state w e = rw (ne-eqb (c .found) 1 w, e)
 
-  ended-node : (c .found ≡ 1 → ⊥) → stateIn (c .count) x ≡ ok (fromRaw x) → g .key .kind ≡ 0 → ended x (c .count) g (c .found) ≡ refused (refuse 28)
+  ended-node : (c .found ≡ 1 → ⊥) → stateIn (c .count) x ≡ ok (fromRaw x) → g .key .kind ≡ 0 → ended x (c .count) g (c .found) ≡ refused (refuse 28 none)
   unfolding ended if_then_else_ _>>=_
   ended-node w e v = rw (ne-eqb (c .found) 1 w, e, eq-eqb (g .key .kind) 0 v)
 
@@ -157,7 +157,7 @@ module _ (form sheet : List ℕ) (xs : List ItemRecord) (x : Raw) (k : ℕ) (g :
     unfolding _>>=_
     over-items = ⊎-elim
         (λ (h : stateIn (c .count) x ≡ ok (fromRaw x)). by-state h (eqb (g .key .kind) 0) refl)
-        (λ (h : stateIn (c .count) x ≡ refused (refuse 29)). call-is ∙ rw h (sym (ended-state not-one h)))
+        (λ (h : stateIn (c .count) x ≡ refused (refuse 29 none)). call-is ∙ rw h (sym (ended-state not-one h)))
         (state-case (c .count) x)
 
   call-ended : callFind form sheet xs x k ≡ ended x (c .count) g (c .found)

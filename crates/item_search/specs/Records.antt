@@ -19,7 +19,7 @@ wordsOf x =
 
 -- 30: a record that is no item, up to the last that is not all 0
 unfoldable pub itemsOr30 : Option (List Item) → Outcome (List Item)
-itemsOr30 none = refused (refuse 30)
+itemsOr30 none = refused (refuse 30 none)
 itemsOr30 (some is) = ok is
 
 unfoldable pub recordItems : List ℕ → List ItemRecord → Outcome (List Item)

@@ -106,8 +106,8 @@ placeFrom c = if eqb c 0 then none else some (c - 2)
 unfoldable pub ended : Raw → ℕ → Search → ℕ → Outcome (Option ℕ)
 ended s n g c =
     if eqb c 1
-    then refused (refuse 30)
-    else (stateIn n s >>= λ _. if eqb (g .key .kind) 0 then refused (refuse 28) else ok (placeFrom c))
+    then refused (refuse 30 none)
+    else (stateIn n s >>= λ _. if eqb (g .key .kind) 0 then refused (refuse 28 none) else ok (placeFrom c))
 
 pub record Finishes (s : Raw) (g : Search) (c : Seen) (r : Answer) : Type 0 where
   pub good : g .number ≡ 0 → plainAnswer placeOrNone (ended s (c .count) g (c .found)) ≡ some r

@@ -12,7 +12,7 @@ use Rattle.utf8.specs.Utf8.{if_then_else_}
 use Rattle.rules.specs.Form.{Node, Form, nodeCount, fieldCount, readForm}
 use Rattle.rules.specs.Tree.{Tree, kindOf}
 use Rattle.rules.specs.Accept.{Accepted, accepted, checkForm, lengthGood, treesAt, leafCount}
-use Rattle.rules.specs.Demands.{Sound, leaves, allLeaves}
+use Rattle.rules.specs.Sound.{Sound, leaves, allLeaves}
 use Rattle.rules.proofs.Acceptance.{All-at, fields-step, accepted-passed, accepted-length, accepted-form, accepted-sound, accepted-fields}
 use Rattle.rules.proofs.Uses.{leaves-law}
 use Rattle.layout.specs.Layout.{nodeOf}

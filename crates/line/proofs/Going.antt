@@ -20,7 +20,7 @@ use Rattle.rules.specs.Split.{Item}
 use Rattle.rules.specs.State.{State}
 use Rattle.rules.specs.Eval.{Ran as Run, ended, after, _then_, eval}
 use Rattle.rules.specs.Run.{runFields}
-use Rattle.rules.specs.Demands.{Good, leaves}
+use Rattle.rules.specs.Sound.{Good, leaves}
 use Rattle.rules.proofs.Acceptance.{accepted-length}
 use Rattle.rules.proofs.EvalSound.{eval-sound}
 use Rattle.rules.proofs.StepLaws.{remaining-within}

@@ -8,7 +8,7 @@ use native.Mathlib.Omega.{arith}
 use lib.ListN.{length, getElem?, replicate}
 use lib.Seq.{sets}
 use Rattle.utf8.specs.Utf8.{if_then_else_}
-use Rattle.rules.specs.Outcome.{Outcome, ok, refused, fault, _>>=_, at, refuseAt}
+use Rattle.rules.specs.Outcome.{Outcome, ok, refused, fault, _>>=_, at, refuse}
 use Rattle.rules.specs.Value.{Value}
 use Rattle.rules.specs.Sheet.{sheetArea}
 use Rattle.rules.specs.Accept.{Accepted, accepted, checkForm}
@@ -16,7 +16,8 @@ use Rattle.rules.specs.Split.{Item}
 use Rattle.rules.specs.State.{Found, presentFrom, findIn, find, first}
 use Rattle.rules.specs.Eval.{Ran as Run, ended, after, _then_}
 use Rattle.rules.specs.Run.{runFields, leftOver, runAll}
-use Rattle.rules.specs.Demands.{Good, Ends}
+use Rattle.rules.specs.Demands.{Ends}
+use Rattle.rules.specs.Sound.{Good}
 use Rattle.rules.proofs.Acceptance.{lookup-some, accepted-sound}
 use Rattle.rules.proofs.EvalSound.{Any}
 use Rattle.rules.proofs.Fields.{fields-run}
@@ -75,7 +76,7 @@ module _ (is : List Item) where
         → x .number ≡ 0
         → first is (x .state) ≡ ok (some y)
         → toldAll (tested r) ≡ some (record { number = 27; place = suc (y .place); tries = x .tries; words = []; state = x .state })
-    unfolding toldAll _then_ after ended leftOver _>>=_ refuseAt
+    unfolding toldAll _then_ after ended leftOver _>>=_
     tested-found y nb z f = go (r .outcome) nb h
       where
         one-left : first is (r .state) ≡ ok (some y)

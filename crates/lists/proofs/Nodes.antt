@@ -12,7 +12,7 @@ use Rattle.rules.specs.Form.{readForm, nodeCount}
 use Rattle.rules.specs.Sheet.{sheetArea}
 use Rattle.rules.specs.Tree.{Tree, Optional, Many, Some, Choice, kindOf, listKind}
 use Rattle.rules.specs.Accept.{lengthGood}
-use Rattle.rules.specs.Demands.{Sound, leaves}
+use Rattle.rules.specs.Sound.{Sound, leaves}
 use Rattle.rules.proofs.KindLaws.{choice-kind}
 use Rattle.layout.specs.declared.Node.{Node}
 use Rattle.layout.specs.Layout.{nodeOf}

@@ -16,7 +16,7 @@ use Rattle.rules.specs.Tree.{Tree, Optional}
 use Rattle.rules.specs.Split.{Item}
 use Rattle.rules.specs.State.{State}
 use Rattle.rules.specs.Eval.{Ran as Run, ended, after, _then_, fewer, parseOption, evalOptional, eval}
-use Rattle.rules.specs.Demands.{Sound}
+use Rattle.rules.specs.Sound.{Sound}
 use Rattle.rules.proofs.EvalSound.{sound-optional}
 use Rattle.state.specs.declared.Numbers.{Numbers}
 use Rattle.state.specs.Lent.{stateOf}

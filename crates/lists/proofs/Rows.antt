@@ -1,7 +1,7 @@
 -- Many and some, from what their repeat leaves.
 use mathlib.Core.Bool.{Bool, true, false}
 use mathlib.Core.List.{List, [], _∷_, map, flatten}
-use mathlib.Core.Option.{some, Option·some-injective, Option·none-ne-some}
+use mathlib.Core.Option.{some, Option·some-injective, Option·none-ne-some, none}
 use mathlib.Core.Path.{_≡_, refl, sym, _∙_, ap, ap₂, subst}
 use Prim.Native.Nat.{ℕ, zero, suc, _+_, _≤_, _<_}
 use native.Mathlib.Nat.{le-refl}
@@ -18,7 +18,7 @@ use Rattle.rules.specs.Tree.{Tree, Many, Some, hasRepeat}
 use Rattle.rules.specs.Split.{Item}
 use Rattle.rules.specs.State.{State}
 use Rattle.rules.specs.Eval.{Ran as Run, ended, _then_, repeated, evalMany, evalSome, eval}
-use Rattle.rules.specs.Demands.{Good, Sound, leaves}
+use Rattle.rules.specs.Sound.{Good, Sound, leaves}
 use Rattle.rules.proofs.Steps.{most}
 use Rattle.rules.proofs.Went.{Fine as FineEnd, Went, went-weaker, went-cost}
 use Rattle.rules.proofs.Nodes.{Evaluated}
@@ -224,10 +224,10 @@ module _
         run = eval mark (state .items) t
 
         by-told : (vs : List Value) (u : State) → (y : Told) × (told (someBy r vs u) ≡ some y) × (y .number ≡ r)
-        unfolding someBy told ended refuse if_then_else_
+        unfolding someBy told ended if_then_else_
         by-told vs u = go (eqb r 0) refl
           where
-            go : (b : Bool) → eqb r 0 ≡ b → (y : Told) × (told (ended (if b then ok (listOf vs) else refused (refuse r)) u) ≡ some y) × (y .number ≡ r)
+            go : (b : Bool) → eqb r 0 ≡ b → (y : Told) × (told (ended (if b then ok (listOf vs) else refused (refuse r none)) u) ≡ some y) × (y .number ≡ r)
             go true q = (_, refl, sym (eqb-true r 0 q))
             go false q = (_, refl, refl)
 

@@ -15,7 +15,7 @@ use Rattle.rules.specs.Tree.{Tree, kindOf, hasRepeat}
 use Rattle.rules.specs.Split.{Item}
 use Rattle.rules.specs.State.{parsed}
 use Rattle.rules.specs.Eval.{Ran as Run, eval}
-use Rattle.rules.specs.Demands.{Good, Sound, leaves}
+use Rattle.rules.specs.Sound.{Good, Sound, leaves}
 use Rattle.rules.proofs.Steps.{EndsOne, most, Runs}
 use Rattle.rules.proofs.StepLaws.{remaining-within}
 use Rattle.rules.proofs.ValueWords.{words-515}

@@ -13,7 +13,7 @@ use Rattle.rules.specs.Sheet.{sheetArea}
 use Rattle.rules.specs.Tree.{Tree, Choice}
 use Rattle.rules.specs.Split.{Item}
 use Rattle.rules.specs.Eval.{evalChoice, eval}
-use Rattle.rules.specs.Demands.{Sound, leaves}
+use Rattle.rules.specs.Sound.{Sound, leaves}
 use Rattle.rules.proofs.EvalSound.{sound-choice}
 use Rattle.state.specs.declared.Numbers.{Numbers}
 use Rattle.state.specs.Lent.{stateOf}

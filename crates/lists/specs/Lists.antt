@@ -12,7 +12,7 @@ use Rattle.rules.specs.Sheet.{sheetArea}
 use Rattle.rules.specs.Tree.{Tree, Choice, kindOf}
 use Rattle.rules.specs.Split.{Item}
 use Rattle.rules.specs.Eval.{eval}
-use Rattle.rules.specs.Demands.{Sound}
+use Rattle.rules.specs.Sound.{Sound}
 use Rattle.state.specs.declared.Numbers.{Numbers}
 use Rattle.state.specs.Lent.{stateOf}
 use Rattle.take.specs.Takes.{Left, Items}

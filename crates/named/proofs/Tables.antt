@@ -118,12 +118,12 @@ table-in area words is e = go (zeros (drop (7 * whole) words)) e
         }
 
     read : (o : Option (List Item)) → itemsFrom area (trimmed (recordsIn whole words)) ≡ o
-        → (elim o [ none ↦ refused (refuse 30) | some xs ↦ ok xs ]) ≡ ok is → Table area words is
+        → (elim o [ none ↦ refused (refuse 30 none) | some xs ↦ ok xs ]) ≡ ok is → Table area words is
     read none h k = absurd (let z : _≡_ {A = ℕ} 0 1 = cc in omega arith)
     read (some xs) h k = let z : xs ≡ is = cc in made (h ∙ ap some z)
 
     go : (b : Bool) → _≡_ {A = Outcome (List Item)} (elim ((if b then some (recordsIn whole words) else none) >>? λ rs. itemsFrom area (trimmed rs))
-        [ none ↦ refused (refuse 30) | some xs ↦ ok xs ]) (ok is) → Table area words is
+        [ none ↦ refused (refuse 30 none) | some xs ↦ ok xs ]) (ok is) → Table area words is
     go true k = read (itemsFrom area (trimmed (recordsIn whole words))) refl k
     go false k = absurd (let z : _≡_ {A = ℕ} 0 1 = cc in omega arith)
 

@@ -51,8 +51,8 @@ check-eight b r e z = let (a, h) = check-accepted b r e z in sized b (accepted-l
 
 module _ (b s words o : List ℕ) (x : Raw) (k : ℕ) where
   -- a refusal at no place
-  refusing : (n : ℕ) (q : Refused) → q ≡ record { number = n; place = 0 } → (n ≡ 0 → ⊥) → evalIn b s words o x k ≡ refused (refuse n) → Admits b s words o x k q
-  unfolding refuse refusalOf placeOf
+  refusing : (n : ℕ) (q : Refused) → q ≡ record { number = n; place = 0 } → (n ≡ 0 → ⊥) → evalIn b s words o x k ≡ refused (refuse n none) → Admits b s words o x k q
+  unfolding refusalOf placeOf
   refusing n q e h g = rw e (record { good = λ z. absurd (h z); bad = λ _. g })
 
   -- 1 to 4
@@ -103,7 +103,7 @@ module _ (b s words o : List ℕ) (x : Raw) (k : ℕ) where
               refusing 30 q g (λ i. omega arith)
               (rw (y, formIn, eq-eqb (sheetFault s) 0 (sym ef ∙ zf), le-leb 1792 (length words) long, le-leb 8240 (length o) room, says .bad (not-true (c .good) h)))
 
-          module _ (well : not (c .good) ≡ false) (t : Bool) (said : stateIn (c .count) x ≡ (if t then ok (fromRaw x) else refused (refuse 29))) where
+          module _ (well : not (c .good) ≡ false) (t : Bool) (said : stateIn (c .count) x ≡ (if t then ok (fromRaw x) else refused (refuse 29 none))) where
             holds : Holds (sheetArea s) words (c .count)
             holds = says .good (not-false (c .good) well)
 
@@ -112,7 +112,7 @@ module _ (b s words o : List ℕ) (x : Raw) (k : ℕ) where
             unfolding evalIn formIn sheetIn sliceIn roomIn _>>=_ if_then_else_
             state-refused h q g =
                 let (a, y) = check-accepted b r e z in
-                let bad : stateIn (c .count) x ≡ refused (refuse 29) = said ∙ rw (not-true t h) in
+                let bad : stateIn (c .count) x ≡ refused (refuse 29 none) = said ∙ rw (not-true t h) in
                 refusing 29 q g (λ i. omega arith)
                 (rw (y, formIn, eq-eqb (sheetFault s) 0 (sym ef ∙ zf), le-leb 1792 (length words) long, le-leb 8240 (length o) room, holds .read, holds .count, bad))
 

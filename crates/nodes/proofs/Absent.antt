@@ -11,7 +11,7 @@ use lib.ListN.{length, getElem?}
 use borrow.Author.Tests.{ne-eqb, eqb-true, eqb-false, lt-leb, le-leb}
 use Rattle.utf8.specs.Utf8.{if_then_else_}
 use Rattle.rules.specs.Base.{contains}
-use Rattle.rules.specs.Outcome.{Spot, Outcome, ok, refused, fault, takeArgument679, _>>=_, refuse, refuseAt, isMissing, canCatch}
+use Rattle.rules.specs.Outcome.{Spot, Outcome, ok, refused, fault, takeArgument679, _>>=_, refuse, isMissing, canCatch}
 use Rattle.rules.specs.Value.{Base, yesNo, text, number, Kind, isYes, isText, isNumber, Value, base, absent, present, nil, cons}
 use Rattle.rules.specs.Form.{nodeCount, readForm}
 use Rattle.rules.specs.Sheet.{sheetArea}
@@ -20,8 +20,8 @@ use Rattle.rules.specs.Split.{Item}
 use Rattle.rules.specs.State.{State, parsed}
 use Rattle.rules.specs.Take.{Took, Taken, Operand, takeArg, takePositionalWord}
 use Rattle.rules.specs.Calls.{fromRaw}
-use Rattle.rules.specs.Eval.{Ran as Run, visit, leaf, refuseMissing, notFound, numberOf, failedAt, parseText, argumentValue, evalArgument, wrongPosition, placedValue, positionalValue, evalPositional, fewer, swallowed, ended, after, _then_, guarded, evalGuard, eval}
-use Rattle.rules.specs.Demands.{Good, isNamed, isRead, wellBuilt}
+use Rattle.rules.specs.Eval.{Ran as Run, visit, leaf, refuseMissing, notFound, numberOf, parseText, argumentValue, evalArgument, wrongPosition, placedValue, positionalValue, evalPositional, fewer, swallowed, ended, after, _then_, guarded, evalGuard, eval}
+use Rattle.rules.specs.Sound.{Good, isNamed, isRead, wellBuilt}
 use Rattle.rules.proofs.Nodes.{named-shown}
 use Rattle.rules.proofs.Places.{left}
 use Rattle.rules.proofs.StepLaws.{arg-takes, positional-takes}
@@ -58,12 +58,12 @@ unfolding notFound refuseMissing _>>=_ if_then_else_
 plain-missing unnamed n names s h = rw (named-shown names h) (λ e. omega arith, λ e. omega arith)
 
 plain-text : (b : Base) (i : ℕ) (t : List ℕ) (s : State) → Plain (parseText b i t s)
-unfolding parseText failedAt
+unfolding parseText
 plain-text yesNo i t s = tt
 plain-text text i t s = tt
 plain-text number i t s = go (numberOf t)
   where
-    go : (x : Option ℕ) → Plain (elim x [ none ↦ refused (failedAt 25 (s .current)) | some n ↦ ok (base (isNumber n)) ])
+    go : (x : Option ℕ) → Plain (elim x [ none ↦ refused (refuse 25 (s .current)) | some n ↦ ok (base (isNumber n)) ])
     go none = (λ e. omega arith, λ e. omega arith)
     go (some x) = tt
 
@@ -73,12 +73,12 @@ plain-argument n names b none s h = plain-missing takeArgument679 n names s h
 plain-argument n names b (some x) s h = plain-text b (x .place) (x .text) s
 
 plain-placed : (q : Position) → (q ≡ nonStrict → ⊥) → (b : Base) (x : Operand) (s : State) → Plain (placedValue q b x s)
-unfolding placedValue wrongPosition refuseAt if_then_else_
+unfolding placedValue wrongPosition if_then_else_
 plain-placed unrestricted h b x s = plain-text b (x .place) (x .text) s
 plain-placed strict h b x s = go (x .strict)
   where
     go : (w : Bool)
-        → Plain (elim (wrongPosition strict w) [ none ↦ parseText b (x .place) (x .text) s | some n ↦ refused (refuseAt n (x .place)) ])
+        → Plain (elim (wrongPosition strict w) [ none ↦ parseText b (x .place) (x .text) s | some n ↦ refused (refuse n (some (x .place))) ])
     go true = plain-text b (x .place) (x .text) s
     go false = (λ e. omega arith, λ e. omega arith)
 plain-placed nonStrict h b x s = absurd (h refl)
@@ -89,7 +89,7 @@ plain-positional n q h b none s = (λ e. omega arith, λ e. omega arith)
 plain-positional n q h b (some x) s = plain-placed q h b x s
 
 plain-guarded : (lo hi : ℕ) (v : Value) (s : State) → Plain (guarded lo hi v s)
-unfolding guarded failedAt
+unfolding guarded
 plain-guarded lo hi (base (isYes b)) s = tt
 plain-guarded lo hi (base (isText t)) s = tt
 plain-guarded lo hi (base (isNumber n)) s =
@@ -126,7 +126,7 @@ leaf-value {A} s o f t e = sym (ap (λ (x : Outcome (Took A)). leaf s x f .outco
 module _ (k : ℕ) (told : parsed k ≡ true) (is : List Item) (s : State) (g : Good (length is) s) where
   argument-plain : (n : ℕ) (names : Named) (b : Base) (adjacent : Bool) → isNamed names ≡ true
       → Plain (eval k is (Argument n names b adjacent) s .outcome)
-  unfolding eval visit evalArgument leaf refuseAt
+  unfolding eval visit evalArgument leaf
   argument-plain n names b adjacent h =
       ⊎-elim
       (λ x. subst Plain (leaf-value s (takeArg k is names adjacent s) (argumentValue n names b) (x .0) (x .1)) (plain-argument n names b (x .0 .answer) (x .0 .state) h))
@@ -170,10 +170,10 @@ module _ (k : ℕ) (told : parsed k ≡ true) (is : List Item) (s : State) (g : 
 -- ---- what is decided
 
 absent-swallowed : (n : ℕ) (catch : Bool) (given left : ℕ) (len : Option ℕ) → optionWay n catch given left len ≡ Absent
-    → swallowed catch (refuse n) (withRemaining given) (withRemaining left) ≡ true
+    → swallowed catch (refuse n none) (withRemaining given) (withRemaining left) ≡ true
 unfolding optionWay if_then_else_
 absent-swallowed n catch given left len =
-    go (eqb n 0) (fewer left len) (swallowed catch (refuse n) (withRemaining given) (withRemaining left))
+    go (eqb n 0) (fewer left len) (swallowed catch (refuse n none) (withRemaining given) (withRemaining left))
   where
     go : (a f c : Bool) → (if a then (if f then Counted else Uncounted) else (if c then Absent else PassedOn)) ≡ Absent → c ≡ true
     go true true c e = let z : _≡_ {A = ℕ} 0 1 = cc in absurd (omega arith)
@@ -189,17 +189,17 @@ absent-refused n catch given left len w z = go (fewer left len) (rw z at w)
     go true e = let z : _≡_ {A = ℕ} 0 1 = cc in omega arith
     go false e = let z : _≡_ {A = ℕ} 0 1 = cc in omega arith
 
-caught-not : (n : ℕ) → (n ≡ 20 → ⊥) → (n ≡ 21 → ⊥) → (n ≡ 24 → ⊥) → canCatch (refuse n) ≡ false
-unfolding canCatch refuse contains
+caught-not : (n : ℕ) → (n ≡ 20 → ⊥) → (n ≡ 21 → ⊥) → (n ≡ 24 → ⊥) → canCatch (refuse n none) ≡ false
+unfolding canCatch contains
 caught-not n a b c = rw (ne-eqb 20 n (λ e. a (sym e)), ne-eqb 21 n (λ e. b (sym e)), ne-eqb 24 n (λ e. c (sym e)))
 
 -- where no refusal is caught, it was missing, and used nothing
-missing-unused : (n given left : ℕ) → swallowed false (refuse n) (withRemaining given) (withRemaining left) ≡ true
+missing-unused : (n given left : ℕ) → swallowed false (refuse n none) (withRemaining given) (withRemaining left) ≡ true
     → (n ≡ 21 → ⊥) → (n ≡ 24 → ⊥) → left ≡ given
-unfolding swallowed withRemaining refuse isMissing if_then_else_
+unfolding swallowed withRemaining isMissing if_then_else_
 missing-unused n given left e h k = go (eqb n 20) refl e
   where
-    go : (t : Bool) → eqb n 20 ≡ t → (if t then eqb given left else canCatch (refuse n)) ≡ true → left ≡ given
+    go : (t : Bool) → eqb n 20 ≡ t → (if t then eqb given left else canCatch (refuse n none)) ≡ true → left ≡ given
     go true q e = sym (eqb-true given left e)
     go false q e = absurd (false≢true (sym (caught-not n (eqb-false n 20 q) h k) ∙ e))
 

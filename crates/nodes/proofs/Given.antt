@@ -18,7 +18,7 @@ use Rattle.rules.specs.Split.{Item}
 use Rattle.rules.specs.State.{parsed}
 use Rattle.rules.specs.Take.{matchesArg, isOperand}
 use Rattle.rules.specs.Accept.{lengthGood}
-use Rattle.rules.specs.Demands.{Sound, leaves, isNamed, wellBuilt}
+use Rattle.rules.specs.Sound.{Sound, leaves, isNamed, wellBuilt}
 use Rattle.rules.proofs.Places.{left}
 use Rattle.rules.proofs.KindLaws.{choice-kind, base-kind}
 use Rattle.layout.specs.Layout.{nodeOf}

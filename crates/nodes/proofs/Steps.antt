@@ -19,7 +19,7 @@ use Rattle.rules.specs.Split.{Item}
 use Rattle.rules.specs.State.{State}
 use Rattle.rules.specs.Calls.{fromRaw}
 use Rattle.rules.specs.Eval.{Ran as Run, ended, after, _then_, swallowed, parseOption, evalOptional, evalFallback, evalGuard, evalChoice, eval, visit}
-use Rattle.rules.specs.Demands.{Good, Sound, leaves}
+use Rattle.rules.specs.Sound.{Good, Sound, leaves}
 use Rattle.rules.proofs.EvalSound.{eval-sound}
 use Rattle.rules.proofs.StepLaws.{remaining-within}
 use Rattle.rules.proofs.KindLaws.{base-kind}

@@ -14,7 +14,7 @@ use Rattle.rules.specs.Value.{text, number, Kind, one, optional, list, listOfOp
 use Rattle.rules.specs.Form.{Node, Form, nodeCount, nameCount, readForm}
 use Rattle.rules.specs.Tree.{Named, Tree, Flag, Argument, Positional, Optional, Many, Some, Count, Last, Choice, Fallback, Guard, listKind, shapeOf, kindOf, hasRepeat, zeros, namedOf, flagOf, argumentOf, positionOf, positionalOf, fitting, repeatOf, fallbackValue, fallbackOf, guardOf, childOf, caughtOf, choiceOf, treeOf}
 use Rattle.rules.specs.Accept.{Accepted, accepted, lengthGood, checkForm}
-use Rattle.rules.specs.Demands.{Sound}
+use Rattle.rules.specs.Sound.{Sound}
 use Rattle.rules.proofs.Acceptance.{if-some, if-not-some, bind-some, branch, lookup-inside, accepted-length, accepted-form, accepted-trees}
 use Rattle.layout.proofs.Sizes.{nodes-length}
 use Rattle.named.specs.Codes.{namedAt}

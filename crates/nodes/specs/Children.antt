@@ -13,7 +13,7 @@ use Rattle.rules.specs.Form.{readForm}
 use Rattle.rules.specs.Sheet.{sheetArea}
 use Rattle.rules.specs.Tree.{Tree, Flag, Argument, Positional, Optional, Many, Some, Count, Last, Choice, Fallback, Guard}
 use Rattle.rules.specs.Take.{matchesArg, isOperand}
-use Rattle.rules.specs.Demands.{Sound}
+use Rattle.rules.specs.Sound.{Sound}
 use Rattle.layout.specs.Layout.{nodeOf}
 use Rattle.layout.specs.declared.Node.{Node as LaidOut}
 use Rattle.state.specs.declared.Numbers.{Numbers}

@@ -267,14 +267,14 @@ module _ (f : State → Run Value) (s : State) (x : ToldList) where
         → told (evalSome catch f s) ≡ some (listTold x (length (x .values) ∷ flatten (x .values)))
     unfolding evalSome told ended null if_then_else_
     some-value z l =
-        list-value-on (repeated catch false f s) x h nb (λ vs. if null vs then refused (refuse 21) else ok (listOf vs))
+        list-value-on (repeated catch false f s) x h nb (λ vs. if null vs then refused (refuse 21 none) else ok (listOf vs))
         (length (x .values) ∷ flatten (x .values)) z
         (λ vs e. go vs e)
       where
         go :
             (vs : List Value)
             → map words vs ≡ x .values
-            → told (ended (if null vs then refused (refuse 21) else ok (listOf vs)) (x .state))
+            → told (ended (if null vs then refused (refuse 21 none) else ok (listOf vs)) (x .state))
             ≡ some (record { number = 0; place = 0; tries = 0; words = length (x .values) ∷ flatten (x .values); state = x .state })
         go [] e = absurd (l (sym (ap (λ (w : List (List ℕ)). length w) e)))
         go (v ∷ vs) e = λ i. some (record { number = 0; place = 0; tries = 0; words = counted (v ∷ vs) e i; state = x .state })
@@ -285,7 +285,7 @@ module _ (f : State → Run Value) (s : State) (x : ToldList) where
         → length (x .values) ≡ 0
         → told (evalSome catch f s)
         ≡ some (record { number = 21; place = 0; tries = x .tries; words = []; state = x .state })
-    unfolding evalSome told ended null refuse if_then_else_
+    unfolding evalSome told ended null if_then_else_
     some-none z l =
         let r = repeated catch false f s in
         let d = list-value r x h nb z in
@@ -298,7 +298,7 @@ module _ (f : State → Run Value) (s : State) (x : ToldList) where
         go :
             (vs : List Value)
             → map words vs ≡ x .values
-            → told (ended (if null vs then refused (refuse 21) else ok (listOf vs)) (repeated catch false f s .state))
+            → told (ended (if null vs then refused (refuse 21 none) else ok (listOf vs)) (repeated catch false f s .state))
             ≡ some (record { number = 21; place = 0; tries = 0; words = []; state = repeated catch false f s .state })
         go [] e = refl
         go (v ∷ vs) e = absurd (more (ap (λ (w : List (List ℕ)). length w) e ∙ l))

@@ -9,7 +9,7 @@ use lib.ListN.{length, take, getElem?}
 use Rattle.rules.specs.Form.{Node, Form, readForm}
 use Rattle.rules.specs.Tree.{Tree, treeOf}
 use Rattle.rules.specs.Accept.{Checked, Accepted, accepted, refusedAt, checkForm, treesFrom}
-use Rattle.rules.specs.Demands.{Sound}
+use Rattle.rules.specs.Sound.{Sound}
 use Rattle.rules.proofs.Acceptance.{trees-step, trees-grow, lookup-end, All-at, accepted-passed, accepted-trees-sound}
 use Rattle.outcome.specs.Nodes.{treeAt}
 

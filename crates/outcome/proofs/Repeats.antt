@@ -152,7 +152,7 @@ isSuccess PassedOn = false
 
 way-number : (n : ℕ) (catch : Bool) (given left : ℕ) (len : Option ℕ) → isSuccess (optionWay n catch given left len) ≡ eqb n 0
 unfolding optionWay isSuccess if_then_else_
-way-number n catch given left len = go (eqb n 0) (fewer left len) (swallowed catch (refuse n) (withRemaining given) (withRemaining left))
+way-number n catch given left len = go (eqb n 0) (fewer left len) (swallowed catch (refuse n none) (withRemaining given) (withRemaining left))
   where
     go :
         (a b c : Bool)

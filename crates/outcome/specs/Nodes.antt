@@ -10,7 +10,7 @@ use Rattle.rules.specs.Value.{Kind}
 use Rattle.rules.specs.Sheet.{sheetArea, sheetFault}
 use Rattle.rules.specs.Tree.{Tree, kindOf, shapeOf}
 use Rattle.rules.specs.Accept.{accepted, refusedAt, checkForm}
-use Rattle.rules.specs.Demands.{leaves}
+use Rattle.rules.specs.Sound.{leaves}
 use Rattle.state.specs.declared.Numbers.{Numbers}
 use Rattle.known.specs.Known.{Known}
 use Rattle.take.specs.Takes as takes

@@ -7,15 +7,15 @@ use Prim.Native.Nat.{ℕ, _+_, _-_}
 use native.Mathlib.Numerals.{add-one}
 use borrow.Author.Tests.{ne-eqb, not-true, not-false}
 use Rattle.utf8.specs.Utf8.{if_then_else_}
-use Rattle.rules.specs.Outcome.{Spot, Outcome, ok, refused, parseFlag559, takeArgument679, _>>=_, Refusal, refuseAt}
+use Rattle.rules.specs.Outcome.{Spot, Outcome, ok, refused, parseFlag559, takeArgument679, _>>=_, Refusal, refuse}
 use Rattle.rules.specs.Value.{Base, text, number, isNumber, Value, base, word, words}
 use Rattle.rules.specs.Tree.{Named, Position, Tree, Flag, Argument, Positional}
 use Rattle.rules.specs.Split.{Item}
 use Rattle.rules.specs.State.{State}
 use Rattle.rules.specs.Take.{Took, took, Taken, Operand, takeFlag, takeArg, takePositionalWord}
 use Rattle.rules.specs.Calls.{fromRaw}
-use Rattle.rules.specs.Eval.{visit, leaf, refuseMissing, notFound, flagValue, evalFlag, numberOf, failedAt, parseText, argumentValue, evalArgument, wrongPosition, placedValue, positionalValue, evalPositional, eval}
-use Rattle.rules.specs.Demands.{isNamed}
+use Rattle.rules.specs.Eval.{visit, leaf, refuseMissing, notFound, flagValue, evalFlag, numberOf, parseText, argumentValue, evalArgument, wrongPosition, placedValue, positionalValue, evalPositional, eval}
+use Rattle.rules.specs.Sound.{isNamed}
 use Rattle.rules.proofs.Nodes.{named-shown}
 use Rattle.rules.proofs.CodeLaws.{code-place}
 use Rattle.arg.specs.declared.Part.{Part}
@@ -39,13 +39,13 @@ use Rattle.params.specs.Leaves.{valueRan, refusedRan, leafRun, Tells, re
 
 module _ (place : ℕ) (bytes : List ℕ) (s : State) where
   abbrev numeral : Option ℕ → Outcome Value
-  numeral o = elim o [ none ↦ refused (failedAt 25 (s .current)) | some n ↦ ok (base (isNumber n)) ]
+  numeral o = elim o [ none ↦ refused (refuse 25 (s .current)) | some n ↦ ok (base (isNumber n)) ]
 
   is-number : (n : ℕ) → numberOf bytes ≡ some n → parseText number place bytes s ≡ ok (base (isNumber n))
   unfolding parseText
   is-number n e = ap numeral e
 
-  no-number : numberOf bytes ≡ none → parseText number place bytes s ≡ refused (failedAt 25 (s .current))
+  no-number : numberOf bytes ≡ none → parseText number place bytes s ≡ refused (refuse 25 (s .current))
   unfolding parseText
   no-number e = ap numeral e
 
@@ -66,7 +66,7 @@ module _ (place : ℕ) (bytes : List ℕ) (p : Numbers) (numeric : Bool) where
 
     pub bad-tells : found ≡ Bad → (r : Ran) → r ≡ refusedRan 25 (p .current) p
         → Tells (parseText (if numeric then number else text) place bytes) p r
-    unfolding told leafRun failedAt scalarWords stateOf fromRaw if_then_else_
+    unfolding told leafRun scalarWords stateOf fromRaw if_then_else_
     bad-tells h r er = rw (er, not-false numeric e) (record {
       same = λ m.
           ap (λ (o : Outcome Value). told (leafRun o (stateOf m p))) (no-number place bytes (stateOf m p) (sym read ∙ ap optionOf h))
@@ -78,14 +78,14 @@ module _ (place : ℕ) (bytes : List ℕ) (p : Numbers) (numeric : Bool) where
 
 module _ (p : Numbers) (at : Position) (b : Base) (x : Operand) (wrong : ℕ) (e : wrongPosition at (x .strict) ≡ refusalOf wrong) where
   abbrev placing : State → Option ℕ → Outcome Value
-  placing s o = elim o [ none ↦ parseText b (x .place) (x .text) s | some n ↦ refused (refuseAt n (x .place)) ]
+  placing s o = elim o [ none ↦ parseText b (x .place) (x .text) s | some n ↦ refused (refuse n (some (x .place))) ]
 
   placed-at : (s : State) → placedValue at b x s ≡ placing s (refusalOf wrong)
   unfolding placedValue
   placed-at s = ap (placing s) e
 
   pub wrong-tells : (wrong ≡ 0 → ⊥) → (r : Ran) → r ≡ refusedRan wrong (x .place + 1) p → Tells (placedValue at b x) p r
-  unfolding told leafRun refusalOf refuseAt scalarWords if_then_else_
+  unfolding told leafRun refusalOf scalarWords if_then_else_
   wrong-tells h r er =
       let z : refusalOf wrong ≡ some wrong = rw (ne-eqb wrong 0 h) in
       rw (er, add-one) (record {
@@ -192,12 +192,12 @@ module _ (mark : ℕ) (area words m : List ℕ) (p : Numbers) (m′ : List ℕ) 
       -- 22: the state is the one that was given
       pub argument-refused : (i : ℕ) → r .value ≡ NoArgument i → q ≡ refusedRan 22 (i + 1) (r .numbers)
           → (n : ℕ) → Evaluates mark area words (Argument n names b adjacent) m p m′ q
-      unfolding told leafRun eval evalArgument refuseAt scalarWords if_then_else_
+      unfolding told leafRun eval evalArgument scalarWords if_then_else_
       argument-refused i h eq n =
           let k : (m′ ≡ m) × (r .numbers ≡ p) = subst (Unchanged m p m′ (r .numbers)) h (d .unchanged) in
           rw (eq, add-one) (record {
             same = λ is t.
-                leaf-refused (Argument n names b adjacent) (stateOf m p) (takeArg mark is names adjacent (stateOf m p)) (argumentValue n names b) (refuseAt 22 i)
+                leaf-refused (Argument n names b adjacent) (stateOf m p) (takeArg mark is names adjacent (stateOf m p)) (argumentValue n names b) (refuse 22 (some i))
                 (d .same is t ∙ ap (valueOf area m′ (r .numbers)) h)
                 ∙ rw (k .0, k .1);
             left = d .left;

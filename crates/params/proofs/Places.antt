@@ -6,12 +6,12 @@ use mathlib.Core.Path.{_≡_, refl, ap, _∙_}
 use Prim.Native.Nat.{ℕ, suc, _<_}
 use native.Mathlib.Omega.{arith}
 use lib.ListN.{length}
-use Rattle.rules.specs.Outcome.{Outcome, ok, refused, fault, refuseAt, _>>=_}
+use Rattle.rules.specs.Outcome.{Outcome, ok, refused, fault, _>>=_, refuse}
 use Rattle.rules.specs.Tree.{Named}
 use Rattle.rules.specs.Split.{Item}
 use Rattle.rules.specs.State.{State, Found, parsed, get, find, remove, withCurrent}
 use Rattle.rules.specs.Take.{Took, took, Taken, Operand, matchesArg, valueText, takeValue, takeArg, isOperand, operand, takePositionalWord}
-use Rattle.rules.specs.Demands.{Good}
+use Rattle.rules.specs.Sound.{Good}
 use Rattle.rules.proofs.StepLaws.{Free, Finds, find-good, free-below, get-free, current-good, remove-step}
 use Rattle.arg.specs.declared.Part.{Part}
 use Rattle.state.specs.declared.Numbers.{Numbers}
@@ -78,12 +78,12 @@ module _ (mark : ℕ) (is : List Item) (s : State) (g : Good (length is) s) wher
         go (some y) h k = key y (valueText (get is s (suc (y .place)))) refl (rw h at e)
 
     -- key and value are free to be used, so only a key without a value is refused
-    key-below : (i : ℕ) → takeArg mark is n adjacent s ≡ refused (refuseAt 22 i) → i < length is
-    unfolding takeArg takeValue took _>>=_ refuseAt
+    key-below : (i : ℕ) → takeArg mark is n adjacent s ≡ refused (refuse 22 (some i)) → i < length is
+    unfolding takeArg takeValue took _>>=_
     key-below i e = let f = find-good is (matchesArg n adjacent) s g in go (f .0) (f .1) (f .2)
       where
         key : (y : Found) → Free s (y .place) → (o : Option (List ℕ)) → valueText (get is s (suc (y .place))) ≡ o
-            → takeValue mark s (y .place) o ≡ refused (refuseAt 22 i) → i < length is
+            → takeValue mark s (y .place) o ≡ refused (refuse 22 (some i)) → i < length is
         key y f none v h = let q = ap valuePlace h in let w : y .place ≡ i = cc in omega (arith, free-below (length is) s (y .place) g f)
         key y f (some t) v h =
             let x = value-item (get is s (suc (y .place))) t v in

@@ -12,7 +12,7 @@ use Rattle.rules.specs.Tree.{Named, Flag, Argument}
 use Rattle.rules.specs.State.{State}
 use Rattle.rules.specs.Take.{matchesArg}
 use Rattle.rules.specs.Eval.{Ran as Run}
-use Rattle.rules.specs.Demands.{isNamed}
+use Rattle.rules.specs.Sound.{isNamed}
 use Rattle.state.specs.declared.Numbers.{Numbers}
 use Rattle.state.specs.Lent.{stateOf}
 use Rattle.known.specs.Known.{Says}

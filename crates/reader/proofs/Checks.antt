@@ -16,7 +16,8 @@ use Rattle.rules.specs.Accept.{Checked, accepted, refusedAt, Accepted, checkFor
 use Rattle.rules.specs.Codes.{checkCode, kindCode}
 use Rattle.rules.specs.Calls.{formIn, asked, callKind, callPortable}
 use Rattle.rules.specs.declared.Refused.{Refused}
-use Rattle.rules.specs.Demands.{All, Sound}
+use Rattle.rules.specs.Demands.{All}
+use Rattle.rules.specs.Sound.{Sound}
 use Rattle.rules.proofs.Acceptance.{All-at, is-some, lookup-some, accepted-form, accepted-trees, accepted-trees-sound, accepted-length, accepted-passed}
 use Rattle.rules.proofs.WellMadeLaws.{check-numbers, well-made}
 use Rattle.layout.proofs.Sizes.{nodes-length}
@@ -87,7 +88,7 @@ module _ (b : List ℕ) (k : ℕ) (r : Refused) (e : r ≡ checkCode (checkForm 
   kind-refused z = told-refused kindCode b _ r e z
 
   pub kind-past : r .number ≡ 0 → (n : ℕ) → n ≡ nodeCount b → n ≤ k → told kindCode (callKind b k) ≡ some (record { number = 28; place = 0; answer = 0 })
-  unfolding callKind asked refuse _>>?_
+  unfolding callKind asked _>>?_
   kind-past z n m h =
       let (a, g) = check-accepted b r e z in
       let long = accepted-trees b a g ∙ ap (λ (f : Form). length (f .nodes)) (accepted-form b a g) ∙ nodes-length b in

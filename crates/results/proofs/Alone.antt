@@ -1,4 +1,5 @@
 -- A choice of which one side is missing: that side's refusal is not for wrong input, so the other wins wherever it has a value.
+use mathlib.Core.Option.{none}
 use mathlib.Core.Bool.{Bool, true, false, _&&_}
 use mathlib.Core.List.{List}
 use mathlib.Core.Path.{_≡_, refl, sym, ap, subst, _∙_}
@@ -22,11 +23,11 @@ use Rattle.results.proofs.Choices.{choice-first, choice-second, choice-
 abbrev missing : Refused
 missing = record { number = 20; place = 0 }
 
-not-wrong : (g l : ℕ) (k : Pick) → k ≡ (if eqb g l && wrongInput (refuse 20) then Neither missing else k)
-unfolding wrongInput contains refuse if_then_else_
+not-wrong : (g l : ℕ) (k : Pick) → k ≡ (if eqb g l && wrongInput (refuse 20 none) then Neither missing else k)
+unfolding wrongInput contains if_then_else_
 not-wrong g l k = go (eqb g l)
   where
-    go : (b : Bool) → k ≡ (if b && wrongInput (refuse 20) then Neither missing else k)
+    go : (b : Bool) → k ≡ (if b && wrongInput (refuse 20 none) then Neither missing else k)
     go true = refl
     go false = refl
 

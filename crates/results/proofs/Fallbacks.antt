@@ -1,7 +1,7 @@
 -- A fallback, by what `parse_fallback` decides.
 use mathlib.Core.Bool.{Bool, true, false}
 use mathlib.Core.List.{List}
-use mathlib.Core.Option.{some, Option·none-ne-some}
+use mathlib.Core.Option.{some, Option·none-ne-some, none}
 use mathlib.Core.Path.{_≡_, refl, sym, ap, subst, _∙_}
 use Prim.Native.Nat.{ℕ}
 use native.Mathlib.Omega.{arith}
@@ -35,7 +35,7 @@ child-number number h = go (eqb number 0) refl
 
     go : (b : Bool) → eqb number 0 ≡ b → number ≡ 0
     go true t = eqb-true number 0 t
-    go false t = absurd (other (canCatch (refuse number)) (rw t at h))
+    go false t = absurd (other (canCatch (refuse number none)) (rw t at h))
 
 value-way : (number : ℕ) → number ≡ 0 → fallbackWay number ≡ Child
 unfolding fallbackWay if_then_else_

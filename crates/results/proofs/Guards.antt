@@ -8,12 +8,12 @@ use native.Mathlib.Omega.{arith}
 use lib.Dec.{eqb}
 use borrow.Author.Tests.{eq-eqb, ne-eqb}
 use Rattle.utf8.specs.Utf8.{if_then_else_}
-use Rattle.rules.specs.Outcome.{Outcome, ok, refused, fault}
+use Rattle.rules.specs.Outcome.{Outcome, ok, refused, fault, refuse}
 use Rattle.rules.specs.Codes.{placeCode}
 use Rattle.rules.specs.Calls.{fromRaw}
 use Rattle.rules.specs.Value.{number, one, isYes, isText, isNumber, Value, base, absent, present, nil, cons, word, words, hasKind, isBase, sameBase, baseNumber, baseOf}
 use Rattle.rules.specs.State.{State}
-use Rattle.rules.specs.Eval.{Ran as Run, Visit, ended, after, _then_, failedAt, guarded, evalGuard}
+use Rattle.rules.specs.Eval.{Ran as Run, Visit, ended, after, _then_, guarded, evalGuard}
 use Rattle.state.specs.declared.Numbers.{Numbers}
 use Rattle.state.specs.Lent.{stateOf}
 use Rattle.rules.proofs.CodeLaws.{code-place}
@@ -81,11 +81,11 @@ module _ (lo hi : ℕ) (ran : Ran) where
           (g ≡ 0 → ⊥)
           → told (evalGuard lo hi (runOf (ok (base (isNumber k))) t n l))
           ≡ some (answered (refusalOf g (ran .numbers .current) (ran .tries) (ran .numbers)) m)
-      unfolding told guardBy failedAt scalarWords if_then_else_
+      unfolding told guardBy scalarWords if_then_else_
       failed-same f =
           let x = value-told ran m words-of t n l (base (isNumber k)) h in
           let c : placeCode (t .current) ≡ ran .numbers .current = rw (x .state) (current-place m (ran .numbers)) in
-          by-number {o = refused (failedAt g (t .current))} (rw (ne-eqb g 0 f))
+          by-number {o = refused (refuse g (t .current))} (rw (ne-eqb g 0 f))
           ∙ told-same refl c (omega (arith, x .tries)) refl (x .state)
 
     -- a value of the kind is a number

@@ -61,7 +61,7 @@ module _ (number given left : ℕ) (catch : Bool) (len : Option ℕ) where
       go : (b : Bool) → eqb number 0 ≡ b → number ≡ 0
       go true t = eqb-true number 0 t
       go false t =
-          absurd (tags k (swallowed catch (refuse number) (withRemaining given) (withRemaining left)) (rw t at e) o)
+          absurd (tags k (swallowed catch (refuse number none) (withRemaining given) (withRemaining left)) (rw t at e) o)
 
 -- ---- what is told
 hand : Option Value → State → Run Value

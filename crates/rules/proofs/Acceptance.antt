@@ -17,7 +17,8 @@ use Rattle.rules.specs.Value.{text, number, Kind, BaseValue}
 use Rattle.rules.specs.Form.{Node, Name, Form, readForm, nameBytes, oneCharacter, typeGood, nameGood}
 use Rattle.rules.specs.Tree.{Named, Tree, Flag, Argument, Positional, Optional, Many, Some, Count, Last, Choice, Fallback, Guard, kindOf, hasRepeat, zeros, namesOf, shortOf, longOf, namedBy, namedOf, flagOf, argumentOf, positionOf, positionalOf, fitting, repeatOf, fallbackValue, fallbackOf, guardOf, childOf, caughtOf, choiceOf, treeOf}
 use Rattle.rules.specs.Accept.{Checked, accepted, refusedAt, Accepted, lengthGood, treesFrom, usedOnce, treesAt, checkUse, checkRecords, checkForm}
-use Rattle.rules.specs.Demands.{All, Sound, isNamed, isRead, wellBuilt}
+use Rattle.rules.specs.Demands.{All}
+use Rattle.rules.specs.Sound.{Sound, isNamed, isRead, wellBuilt}
 use Rattle.rules.specs.WellMade.{Unused}
 
 -- ---- accepted and refused

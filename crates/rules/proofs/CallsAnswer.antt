@@ -14,7 +14,7 @@ use lib.ListN.{length, getElem?, take, drop, length-reverse}
 use lib.Seq.{length-take-le}
 use Rattle.utf8.specs.Utf8.{if_then_else_}
 use Rattle.rules.specs.Base.{null, all, contains, numbers, minus, slice, sliceFrom, _>>?_}
-use Rattle.rules.specs.Outcome.{Outcome, ok, refused, fault, _>>=_, at, Refusal, refuse, refuseAt}
+use Rattle.rules.specs.Outcome.{Outcome, ok, refused, fault, _>>=_, at, Refusal, refuse}
 use Rattle.rules.specs.Value.{Kind, Value, words}
 use Rattle.rules.specs.Eval.{Ran, eval}
 use Rattle.rules.specs.Sheet.{sheetFault, sheetArea}
@@ -29,7 +29,7 @@ use Rattle.rules.specs.Run.{Line, parsedMark, padded, split}
 use Rattle.rules.specs.Calls.{callRemove, callPickWinner, callSaveConflicts, callSetScope, callAdjacentScope, callAvailableFrom, onItems, callGet, callConflict, operandOr20, callTakePositional, callOnlyOnce, onForm, keyOf, flagNames, argumentKey, commandName, callMatches, callTakeFlag, callTakeArg, callTakeCmd, callKind, callPortable, callText}
 use Rattle.rules.specs.Calls.{formIn, sheetIn, sliceIn, itemsFrom, trimmed, wholeRecords, itemsIn, fromRaw, toRaw, stateIn, asked, placeIn, scopeIn, handed, splitRefused, splitReport, callSplit, evaluatedWith, evaluated, unchanged, evalIn, callEval}
 use Rattle.rules.specs.declared.State.{State as Raw}
-use Rattle.rules.specs.Demands.{Good, Sound}
+use Rattle.rules.specs.Sound.{Good, Sound}
 use Rattle.rules.specs.Answered.{FormFault, badCounts, badName, badNode, badField, badUse, SheetFault, manyArguments, badSheet, AtFault, badForm, sheetAtFault, shortSlice, ItemsLeft}
 use Rattle.rules.specs.CallsAnswered.{OneOf, Answers, answers, refuses, Hands, Evaluates, SplitsLine, CallsAnswered}
 use Rattle.rules.proofs.GivenLaws.{split-form, split-sheet, split-short, split-goes}
@@ -93,14 +93,14 @@ handed-answers x o (refuses e n) = record {
   number = inr (n, refl, refl);
 }
 
-if-answers : {A : Type 0} (n : ℕ) (t : Bool) (a : A) → Answers (n ∷ []) (if t then ok a else refused (refuse n))
-unfolding if_then_else_ contains refuse
+if-answers : {A : Type 0} (n : ℕ) (t : Bool) (a : A) → Answers (n ∷ []) (if t then ok a else refused (refuse n none))
+unfolding if_then_else_ contains
 if-answers n true a = answers a
-if-answers n false a = refuses (refuse n) (rw (eq-eqb n n refl))
+if-answers n false a = refuses (refuse n none) (rw (eq-eqb n n refl))
 
-some-answers : {A : Type 0} (n : ℕ) (o : Option A) → Answers {A = A} (n ∷ []) (elim o [ none ↦ refused (refuse n) | some a ↦ ok a ])
-unfolding contains refuse
-some-answers n none = refuses (refuse n) (rw (eq-eqb n n refl))
+some-answers : {A : Type 0} (n : ℕ) (o : Option A) → Answers {A = A} (n ∷ []) (elim o [ none ↦ refused (refuse n none) | some a ↦ ok a ])
+unfolding contains
+some-answers n none = refuses (refuse n none) (rw (eq-eqb n n refl))
 some-answers n (some a) = answers a
 
 -- ---- what a call is given
@@ -126,10 +126,10 @@ sheet-number s n (manyArguments c h) = refl
 sheet-number s n (badSheet m h) = refl
 
 sheet-answers : (s : List ℕ) → Answers (6 ∷ 5 ∷ []) (sheetIn s)
-unfolding sheetIn if_then_else_ refuse
+unfolding sheetIn if_then_else_
 sheet-answers s = go (eqb (sheetFault s) 0) refl
   where
-    go : (t : Bool) → eqb (sheetFault s) 0 ≡ t → Answers (6 ∷ 5 ∷ []) (if t then ok (sheetArea s) else refused (refuse (sheetFault s)))
+    go : (t : Bool) → eqb (sheetFault s) 0 ≡ t → Answers (6 ∷ 5 ∷ []) (if t then ok (sheetArea s) else refused (refuse (sheetFault s) none))
     go true e = answers (sheetArea s)
     go false e = refuses _ (sheet-number s (sheetFault s) (sheet-fault s (let z = eqb-false (sheetFault s) 0 e in omega arith)))
 
@@ -146,8 +146,8 @@ unfolding stateIn
 state-answers n x = if-answers 29 _ (fromRaw x)
 
 asked-answers : {A : Type 0} (o : Option A) → Answers (28 ∷ []) (asked o)
-unfolding asked contains refuse
-asked-answers none = refuses (refuse 28) refl
+unfolding asked contains
+asked-answers none = refuses (refuse 28 none) refl
 asked-answers (some a) = answers a
 
 place-answers : (n i : ℕ) → Answers (28 ∷ []) (placeIn n i)
@@ -175,18 +175,18 @@ if-ok false a b e h = absurd (refused-not-ok e b h)
 pub state-good : (n : ℕ) (x : Raw) (s : State) → stateIn n x ≡ ok s → Good n s
 unfolding stateIn
 state-good n x s h =
-    let (t, e) = if-ok (eqb (x .count) n && zeros (drop (x .count) (x .marks)) && stateGood parsed n (fromRaw x)) (fromRaw x) s (refuse 29) h in
+    let (t, e) = if-ok (eqb (x .count) n && zeros (drop (x .count) (x .marks)) && stateGood parsed n (fromRaw x)) (fromRaw x) s (refuse 29 none) h in
     let p = and-eq-true-iff (eqb (x .count) n && zeros (drop (x .count) (x .marks))) (stateGood parsed n (fromRaw x)) .0 t in
     rw (← e) (test-good n (fromRaw x) (p .1))
 
 place-below : (n i j : ℕ) → placeIn n i ≡ ok j → i < n
 unfolding placeIn
-place-below n i j h = ltb-true i n (if-ok (ltb i n) i j (refuse 28) h .0)
+place-below n i j h = ltb-true i n (if-ok (ltb i n) i j (refuse 28 none) h .0)
 
 scope-inside : (n a b : ℕ) (c : Scope) → scopeIn n a b ≡ ok c → (a ≤ b) × (b ≤ n)
 unfolding scopeIn
 scope-inside n a b c h =
-    let p = and-eq-true-iff (leb a b) (leb b n) .0 (if-ok (leb a b && leb b n) (record { start = a; end = b }) c (refuse 28) h .0) in
+    let p = and-eq-true-iff (leb a b) (leb b n) .0 (if-ok (leb a b && leb b n) (record { start = a; end = b }) c (refuse 28 none) h .0) in
     (leb-true a b (p .0), leb-true b n (p .1))
 
 adjacent-none : (s t : State) → null (s .marks) ≡ true → Answers [] (adjacentScope s t)
@@ -240,7 +240,7 @@ unfolding conflict _>>=_
 conflict-answers is s g = rw (first-found is s g .1) (answers _)
 
 arg-answers : (is : List Item) (m : Named) (adjacent : Bool) (s : State) → Good (length is) s → Answers (22 ∷ []) (takeArg 1 is m adjacent s)
-unfolding parsed contains refuseAt
+unfolding parsed contains
 arg-answers is m adjacent s g =
     ⊎-elim (λ t. ok-answers _ (t .0) (t .1)) (λ t. rw (t .1) (refuses _ refl)) (arg-takes 1 refl is m adjacent s g)
 
@@ -383,7 +383,7 @@ module _ (sheet slice : List ℕ) where
         (λ is s g. bind-answers (conflict is s) _ (conflict-answers is s g) refl (λ _ _. answers _))
 
     operand-answers : (t : Took (Option Operand)) → Answers (6 ∷ 5 ∷ 7 ∷ 30 ∷ 29 ∷ 20 ∷ []) (operandOr20 t)
-    unfolding operandOr20 took contains refuse
+    unfolding operandOr20 took contains
     operand-answers t = go (t .answer) refl
       where
         go : (o : Option Operand) → t .answer ≡ o → Answers (6 ∷ 5 ∷ 7 ∷ 30 ∷ 29 ∷ 20 ∷ []) (operandOr20 t)

@@ -13,7 +13,7 @@ use Rattle.rules.specs.Value.{BaseValue, Value}
 use Rattle.rules.specs.Tree.{Tree, Choice, kindOf, hasRepeat}
 use Rattle.rules.specs.State.{State, Picked, pickWinner}
 use Rattle.rules.specs.Eval.{Ran, ended, side, picksFirst, valueOf, picked, won, chosen, evalChoice}
-use Rattle.rules.specs.Demands.{Good, leaves}
+use Rattle.rules.specs.Sound.{Good, leaves}
 use Rattle.rules.proofs.Steps.{Step, most}
 use Rattle.rules.proofs.StepLaws.{step-refl, won-first, won-second}
 use Rattle.rules.proofs.Went.{if-holds, Fine, Went, went-cost, ended-went, after-went}

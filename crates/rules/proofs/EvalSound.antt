@@ -13,7 +13,8 @@ use Rattle.rules.specs.Tree.{Tree, Flag, Argument, Positional, Optional,
 use Rattle.rules.specs.Split.{Item}
 use Rattle.rules.specs.State.{State, parsed}
 use Rattle.rules.specs.Eval.{eval}
-use Rattle.rules.specs.Demands.{All, Good, isNamed, isRead, wellBuilt, Sound}
+use Rattle.rules.specs.Demands.{All}
+use Rattle.rules.specs.Sound.{Good, isNamed, isRead, wellBuilt, Sound}
 use Rattle.rules.proofs.Acceptance.{All-split}
 use Rattle.rules.proofs.Steps.{Runs}
 use Rattle.rules.proofs.StepLaws.{remaining-within}

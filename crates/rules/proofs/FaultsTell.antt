@@ -12,7 +12,7 @@ use lib.Dec.{ltb}
 use lib.ListN.{length, take, getElem?}
 use Rattle.utf8.specs.Utf8.{if_then_else_}
 use Rattle.rules.specs.Base.{occurrences, numbers, firstFault}
-use Rattle.rules.specs.Outcome.{ok, refused, Refusal, _>>=_, refuse, refuseAt}
+use Rattle.rules.specs.Outcome.{ok, refused, Refusal, _>>=_, refuse}
 use Rattle.rules.specs.Sheet.{argumentCount, sheetGood, sheetFault}
 use Rattle.rules.specs.Form.{Name, Form, nodeCount, readForm, nameGood}
 use Rattle.rules.specs.Tree.{Tree}
@@ -250,16 +250,16 @@ unfolding split _>>=_
 few-split b s x i h few a = rw h (few-line b s x i h few a)
 
 faults-told : (b s : List ℕ) (ni na n : ℕ) (k : Option ℕ) → AtFault b s ni na n k → Refused b s ni na n k
-unfolding tooMany refuse refuseAt
+unfolding tooMany
 faults-told b s ni na n k (badForm m j x) = input-told b s ni na m j (run-form b s ni m j (fault-checked b m j x) na)
 faults-told b s ni na n k (sheetAtFault m w x) = let (a, e) = made-accepted b w in sheet-told b s ni na a e m x
 faults-told b s ni na n k (shortSlice w sheet h) = let (a, e) = made-accepted b w in slice-told b s ni na a e sheet h
 faults-told b s ni na n k (manyItems x w sheet items answers h many) =
     let (a, e) = made-accepted b w in
-    line-told b s ni na a e sheet tooMany (refuse 8) items answers (many-split b s x h many) refl
+    line-told b s ni na a e sheet tooMany (refuse 8 none) items answers (many-split b s x h many) refl
 faults-told b s ni na n k (ambiguousLetter x i w sheet items answers h few u) =
     let (a, e) = made-accepted b w in
-    line-told b s ni na a e sheet (stopped s x i) (refuseAt 9 i) items answers (few-split b s x i h few u) refl
+    line-told b s ni na a e sheet (stopped s x i) (refuse 9 (some i)) items answers (few-split b s x i h few u) refl
 
 -- what is at fault is the number and the place that is reported
 pub fault-told :

@@ -7,14 +7,15 @@ use Prim.Native.Nat.{ℕ, zero, suc, _+_, _-_, _*_, _≤_}
 use native.Mathlib.Nat.{mul-le-mul-right, mul-add, le-trans, le-refl}
 use native.Mathlib.Omega.{arith}
 use lib.ListN.{length, length-append}
-use Rattle.rules.specs.Outcome.{Outcome, ok, refused, fault, refuseAt, _>>=_}
+use Rattle.rules.specs.Outcome.{Outcome, ok, refused, fault, _>>=_, refuse}
 use Rattle.rules.specs.Value.{BaseValue, Value, size, words, answerWords}
 use Rattle.rules.specs.Tree.{Tree, kindOf, hasRepeat}
 use Rattle.rules.specs.Split.{Item}
 use Rattle.rules.specs.State.{State, Found, parsed, presentAt, presentFrom, unused, first}
 use Rattle.rules.specs.Eval.{Ran, ended, _then_, eval}
 use Rattle.rules.specs.Run.{runFields, leftOver, runAll}
-use Rattle.rules.specs.Demands.{All, Good, leaves, allLeaves, Sound, OnePerField, Ends}
+use Rattle.rules.specs.Demands.{All, OnePerField, Ends}
+use Rattle.rules.specs.Sound.{Good, leaves, allLeaves, Sound}
 use Rattle.rules.proofs.Steps.{Step, inner, most, Visited}
 use Rattle.rules.proofs.StepLaws.{step-refl, first-found, remaining-within}
 use Rattle.rules.proofs.Went.{if-holds, all-weaker, Fine, Went, went-weaker, went-cost, ended-went, then-went, then-ended}
@@ -138,7 +139,7 @@ went-all M n ts s r g w =
     go (fault x) f = f
 
 left-fine : (P : List Value → Type 0) (vs : List Value) (x : Option Found) → P vs → Fine 27 P (leftOver vs x)
-unfolding leftOver refuseAt
+unfolding leftOver
 left-fine P vs none p = p
 left-fine P vs (some x) p = omega arith
 

@@ -30,31 +30,31 @@ module _ (b s : List ℕ) (ni : ℕ) where
   module _ (a : Accepted) (form : checkForm b ≡ accepted a) where
     -- 6 and 5
     module _ (sheet : sheetFault s ≡ 0 → ⊥) where
-      pub input-sheet : inputIn b s ni ≡ refused (refuse (sheetFault s))
+      pub input-sheet : inputIn b s ni ≡ refused (refuse (sheetFault s) none)
       unfolding inputIn formIn sheetIn _>>=_ if_then_else_
       input-sheet = rw (form, formIn, ne-eqb (sheetFault s) 0 sheet)
 
       pub run-sheet : (na : ℕ) → run b s ni na ≡ ok (refusedInput ni na (sheetFault s) none)
-      unfolding run refuse _>>=_
+      unfolding run _>>=_
       run-sheet na = rw (input-sheet, run)
 
       pub split-sheet : callSplit b s ni ≡ ok (splitRefused ni (sheetFault s) none)
-      unfolding callSplit refuse
+      unfolding callSplit
       split-sheet = rw (input-sheet, callSplit)
 
     module _ (sheet : sheetFault s ≡ 0) where
       -- 7
       module _ (short : ni < 1792) where
-        pub input-short : inputIn b s ni ≡ refused (refuse 7)
+        pub input-short : inputIn b s ni ≡ refused (refuse 7 none)
         unfolding inputIn formIn sheetIn roomIn _>>=_ if_then_else_
         input-short = rw (form, formIn, eq-eqb (sheetFault s) 0 sheet, lt-leb 1792 ni short)
 
         pub run-short : (na : ℕ) → run b s ni na ≡ ok (refusedInput ni na 7 none)
-        unfolding run refuse _>>=_
+        unfolding run _>>=_
         run-short na = rw (input-short, run)
 
         pub split-short : callSplit b s ni ≡ ok (splitRefused ni 7 none)
-        unfolding callSplit refuse
+        unfolding callSplit
         split-short = rw (input-short, callSplit)
 
       module _ (long : 1792 ≤ ni) where
@@ -67,7 +67,7 @@ module _ (b s : List ℕ) (ni : ℕ) where
         split-goes = rw (input-good, callSplit)
 
         pub run-cramped : (na : ℕ) → na < 8240 → run b s ni na ≡ ok (refusedInput ni na 7 none)
-        unfolding run roomIn refuse _>>=_ if_then_else_
+        unfolding run roomIn _>>=_ if_then_else_
         run-cramped na h = rw (input-good, run, lt-leb 8240 na h)
 
         pub run-goes : (na : ℕ) → 8240 ≤ na → run b s ni na ≡ (split (a .form) s >>= λ l. report ni na l (runLine (a .fields) l))

@@ -10,7 +10,7 @@ use borrow.Author.Tests.{le-ltb, ltb-true, ltb-false}
 use lib.Dec.{ltb}
 use lib.ListN.{length, replicate, length-replicate}
 use Rattle.utf8.specs.Utf8.{if_then_else_}
-use Rattle.rules.specs.Outcome.{Outcome, ok, refused, fault, Refusal, _>>=_, refuse, refuseAt}
+use Rattle.rules.specs.Outcome.{Outcome, ok, refused, fault, Refusal, _>>=_, refuse}
 use Rattle.rules.specs.Sheet.{arguments}
 use Rattle.rules.specs.Form.{readForm}
 use Rattle.rules.specs.Accept.{accepted, Accepted, checkForm, lettersOf}
@@ -51,7 +51,7 @@ zeros-all (suc n) = (refl, zeros-all n)
 -- the line of an ambiguous letter
 abbrev pub stopped : List ℕ → Split → ℕ → Line
 stopped s x i = record {
-  refusal = some (refuseAt 9 i);
+  refusal = some (refuse 9 (some i));
   items = itemsOf x;
   records = recordsFrom 0 (arguments s) (x .groups);
   state = fresh (length (itemsOf x));
@@ -103,28 +103,28 @@ module _ (b s : List ℕ) (l : Line) (e : Refusal) (refuses : l .refusal ≡ som
   module _ (splits : split (readForm b) s ≡ ok l) where
     -- 8 or 9, for what is at fault
     pub line-fault : (ni na : ℕ) → WellMade b → SheetMade s → 1792 ≤ ni → 8240 ≤ na → AtFault b s ni na (e .number) (e .place)
-    unfolding tooMany refuse refuseAt
+    unfolding tooMany
     line-fault ni na form sheet items answers = go (split-refuses splits)
       where
         go : Refuses b s l → AtFault b s ni na (e .number) (e .place)
         go (eight x given many same) =
-            let z : e ≡ refuse 8 = cc in
+            let z : e ≡ refuse 8 none = cc in
             rw z (manyItems x form sheet items answers given many)
         go (nine x i given few a same) =
-            let z : e ≡ refuseAt 9 i = cc in
+            let z : e ≡ refuse 9 (some i) = cc in
             rw z (ambiguousLetter x i form sheet items answers given few a)
 
     -- 8 keeps no item, 9 keeps them unparsed
     pub line-left : (ni : ℕ) → ItemsLeft b s ni (e .number) (padded ni (l .records)) (l .state)
-    unfolding tooMany refuse refuseAt
+    unfolding tooMany
     line-left ni = go (split-refuses splits)
       where
         go : Refuses b s l → ItemsLeft b s ni (e .number) (padded ni (l .records)) (l .state)
         go (eight x given many same) =
-            let z : e ≡ refuse 8 = cc in
+            let z : e ≡ refuse 8 none = cc in
             rw (z, same) (cleared-left b s ni 8 (omega arith))
         go (nine x i given few a same) =
-            let z : e ≡ refuseAt 9 i = cc in
+            let z : e ≡ refuse 9 (some i) = cc in
             let long : length {A = ℕ} (replicate (length (itemsOf x)) 0) ≡ length (itemsOf x) = length-replicate (length (itemsOf x)) 0 in
             rw (z, same)
             (record {

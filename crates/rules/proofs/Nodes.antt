@@ -12,14 +12,15 @@ use borrow.Author.Tests.{leb-true}
 use lib.ListN.{length}
 use Rattle.utf8.specs.Utf8.{if_then_else_}
 use Rattle.rules.specs.Base.{isSome, null, all, _>>?_}
-use Rattle.rules.specs.Outcome.{Spot, Outcome, ok, refused, fault, parseFlag559, takeArgument679, _>>=_, at, refuseAt, canCatch}
+use Rattle.rules.specs.Outcome.{Spot, Outcome, ok, refused, fault, parseFlag559, takeArgument679, _>>=_, at, canCatch, refuse}
 use Rattle.rules.specs.Value.{Base, yesNo, text, number, Kind, one, item, BaseValue, isYes, isText, isNumber, Value, base, absent, present, nil, cons, baseNumber, sameBase, baseOf, isBase, hasKind, size, ofKind, basesOf}
 use Rattle.rules.specs.Tree.{Named, Position, unrestricted, strict, nonStrict, Tree, Flag, Argument, Positional, Optional, Fallback, Guard, kindOf, hasRepeat, optionalKind, baseKind}
 use Rattle.rules.specs.Split.{Item}
 use Rattle.rules.specs.State.{State, parsed}
 use Rattle.rules.specs.Take.{Took, Taken, Operand}
-use Rattle.rules.specs.Eval.{Ran, ended, after, _then_, visit, leaf, refuseMissing, shownName, notFound, flagValue, evalFlag, unsigned, numberOf, digits, isDigit, failedAt, parseText, argumentValue, evalArgument, wrongPosition, placedValue, positionalValue, evalPositional, fewer, swallowed, parseOption, evalOptional, evalFallback, guarded, evalGuard}
-use Rattle.rules.specs.Demands.{All, Good, leaves, isNamed, isRead, Faultless}
+use Rattle.rules.specs.Eval.{Ran, ended, after, _then_, visit, leaf, refuseMissing, shownName, notFound, flagValue, evalFlag, unsigned, numberOf, digits, isDigit, parseText, argumentValue, evalArgument, wrongPosition, placedValue, positionalValue, evalPositional, fewer, swallowed, parseOption, evalOptional, evalFallback, guarded, evalGuard}
+use Rattle.rules.specs.Demands.{All, Faultless}
+use Rattle.rules.specs.Sound.{Good, leaves, isNamed, isRead}
 use Rattle.rules.proofs.Acceptance.{All-append, if-some, and-true}
 use Rattle.rules.proofs.Steps.{Step, inner, EndsOne, most, Visited, Runs}
 use Rattle.rules.proofs.StepLaws.{step-refl, TextAt, TakenAt, OperandAt, flag-takes, arg-takes, positional-takes}
@@ -152,7 +153,7 @@ module _ (is : List Item) (M : BaseValue → Type 0) (means : Meaning is M) (m :
       → isRead b ≡ true
       → TextAt is i
       → Fine 26 (Fits M m (some (one b))) (parseText b i t s)
-  unfolding parseText failedAt isRead baseOf
+  unfolding parseText isRead baseOf
   text-fine yesNo i t s e h = absurd (false≢true e)
   text-fine text i t s e h = base-fits (isText (item i)) (means .text i h)
   text-fine number i t s e h = go (numberOf t) refl
@@ -160,7 +161,7 @@ module _ (is : List Item) (M : BaseValue → Type 0) (means : Meaning is M) (m :
       go :
           (x : Option ℕ)
           → numberOf t ≡ x
-          → Fine 26 (Fits M m (some (one number))) (elim x [ none ↦ refused (failedAt 25 (s .current)) | some n ↦ ok (base (isNumber n)) ])
+          → Fine 26 (Fits M m (some (one number))) (elim x [ none ↦ refused (refuse 25 (s .current)) | some n ↦ ok (base (isNumber n)) ])
       go none z = omega arith
       go (some x) z = base-fits (isNumber x) (means .read x (number-small t x z))
 
@@ -179,13 +180,13 @@ module _ (is : List Item) (M : BaseValue → Type 0) (means : Meaning is M) (m :
       → isRead b ≡ true
       → TextAt is (x .place)
       → Fine 26 (Fits M m (some (one b))) (placedValue p b x s)
-  unfolding placedValue refuseAt
+  unfolding placedValue
   placed-fine p b x s e z = go (wrongPosition p (x .strict)) refl
     where
       go :
           (o : Option ℕ)
           → wrongPosition p (x .strict) ≡ o
-          → Fine 26 (Fits M m (some (one b))) (elim o [ none ↦ parseText b (x .place) (x .text) s | some n ↦ refused (refuseAt n (x .place)) ])
+          → Fine 26 (Fits M m (some (one b))) (elim o [ none ↦ parseText b (x .place) (x .text) s | some n ↦ refused (refuse n (some (x .place))) ])
       go none h = text-fine b (x .place) (x .text) s e z
       go (some n) h = position-number p (x .strict) n h
 
@@ -217,7 +218,7 @@ module _
         → isNamed m ≡ true
         → isRead b ≡ true
         → Evaluated M (length is) (Argument n m b adjacent) s (evalArgument k is n m b adjacent s)
-    unfolding evalArgument kindOf most hasRepeat leaves leaf refuseAt if_then_else_
+    unfolding evalArgument kindOf most hasRepeat leaves leaf if_then_else_
     argument-sound n m b adjacent h e =
         ⊎-elim
         (λ x. let f = argument-fine is M means _ n m b (x .0 .answer) (x .0 .state) h e (x .3) in
@@ -323,11 +324,11 @@ guarded-fine :
     (M : BaseValue → Type 0) (m lo hi : ℕ) (v : Value) (s : State)
     → Fits M m (some (one number)) v
     → Fine 26 (Fits M m (some (one number))) (guarded lo hi v s)
-unfolding guarded ofKind hasKind isBase sameBase baseOf baseNumber failedAt
+unfolding guarded ofKind hasKind isBase sameBase baseOf baseNumber
 guarded-fine M m lo hi (base (isYes b)) s f = absurd (false≢true (f .0))
 guarded-fine M m lo hi (base (isText t)) s f = absurd (false≢true (f .0))
 guarded-fine M m lo hi (base (isNumber n)) s f =
-    if-holds (Fine 26 (Fits M m (some (one number)))) (leb lo n && leb n hi) (ok (base (isNumber n))) (refused (failedAt 26 (s .current)))
+    if-holds (Fine 26 (Fits M m (some (one number)))) (leb lo n && leb n hi) (ok (base (isNumber n))) (refused (refuse 26 (s .current)))
     (λ _. f)
     (λ _. omega arith)
 guarded-fine M m lo hi absent s f = absurd (false≢true (f .0))

@@ -6,7 +6,7 @@ use Rattle.utf8.specs.Utf8.{wellFormedAfter, wellFormed}
 use Rattle.wire.specs.Wire.{le, numberAt, offset, areaStart, area, neverFall, tableGood, entryOf}
 use Rattle.rules.specs.Base.{null, all, contains, same, occurrences, numbers, concatMap, firstFault, isSome, _>>?_, minus}
 use Rattle.rules.specs.Base.{write, sliceFrom, slice}
-use Rattle.rules.specs.Outcome.{_>>=_, at, refuse, refuseAt, isMissing, canCatch, wrongInput, combineWith}
+use Rattle.rules.specs.Outcome.{_>>=_, at, isMissing, canCatch, wrongInput, combineWith}
 use Rattle.rules.specs.Value.{listOf, baseNumber, sameBase, baseOf, isBase, isOptional, isList, hasKind, ofKind, basesOf}
 use Rattle.rules.specs.Value.{word, size, answerWords, words, elements}
 use Rattle.rules.specs.Sheet.{argumentCount, sheetArea, sheetGood, sheetFault, arguments}
@@ -32,11 +32,10 @@ use Rattle.rules.specs.State.{before, onlyOnce, markGood, currentGood, s
 use Rattle.rules.specs.Take.{took, containsName, matchesArg, takeFlag, valueText, takeValue, takeArg, isOperand, isPosWord}
 use Rattle.rules.specs.Take.{textOf, operand, takePositionalWord, commandText, isCommand, takeCommand, takeCmd}
 use Rattle.rules.specs.Eval.{ended, after, _then_, visit, statesOf, leaf, refuseMissing, shownName, notFound, flagValue}
-use Rattle.rules.specs.Eval.{evalFlag, isDigit, digits, unsigned, numberOf, failedAt, parseText, argumentValue}
-use Rattle.rules.specs.Eval.{evalArgument, wrongPosition, placedValue, positionalValue, evalPositional, fewer, swallowed}
-use Rattle.rules.specs.Eval.{parseOption, evalOptional, idle, repeat, repeated, evalMany, evalSome, evalCount, lastOf}
-use Rattle.rules.specs.Eval.{evalLast, side, picksFirst, won, valueOf, picked, chosen, evalChoice, evalFallback, guarded}
-use Rattle.rules.specs.Eval.{evalGuard, eval}
+use Rattle.rules.specs.Eval.{evalFlag, isDigit, digits, unsigned, numberOf, parseText, argumentValue, evalArgument}
+use Rattle.rules.specs.Eval.{wrongPosition, placedValue, positionalValue, evalPositional, fewer, swallowed, parseOption}
+use Rattle.rules.specs.Eval.{evalOptional, idle, repeat, repeated, evalMany, evalSome, evalCount, lastOf, evalLast, side}
+use Rattle.rules.specs.Eval.{picksFirst, won, valueOf, picked, chosen, evalChoice, evalFallback, guarded, evalGuard, eval}
 use Rattle.rules.specs.Given.{formIn, sheetIn, roomIn, sliceIn, inputIn}
 use Rattle.rules.specs.Run.{parsedMark, tooMany, ambiguity, lineOf, split, runFields, leftOver, runAll, runLine, padded}
 use Rattle.rules.specs.Run.{refusedInput, reportWith, report, run}
@@ -46,11 +45,11 @@ use Rattle.rules.specs.Lines.{reported, entries, allKinds}
 unfoldable pub formats : Unit {0}
 unfolding xor flatten if_then_else_ table holds fits leadBits continued scalar decodeBy decode decodeAt wellFormedAfter
     wellFormed le numberAt offset areaStart area neverFall tableGood entryOf null all contains same occurrences
-    numbers concatMap firstFault isSome _>>?_ minus write sliceFrom slice _>>=_ at refuse refuseAt isMissing
-    canCatch wrongInput combineWith listOf baseNumber sameBase baseOf isBase isOptional isList hasKind ofKind
-    basesOf word size answerWords words elements argumentCount sheetArea sheetGood sheetFault arguments nodeCount
-    fieldCount nameCount areaLength countsGood nodesAt namesAt areaAt formLength formEnd readNode readName readForm
-    nameBytes oneCharacter typeGood nameGood isLetter portableName portable
+    numbers concatMap firstFault isSome _>>?_ minus write sliceFrom slice _>>=_ at isMissing canCatch wrongInput
+    combineWith listOf baseNumber sameBase baseOf isBase isOptional isList hasKind ofKind basesOf word size
+    answerWords words elements argumentCount sheetArea sheetGood sheetFault arguments nodeCount fieldCount
+    nameCount areaLength countsGood nodesAt namesAt areaAt formLength formEnd readNode readName readForm nameBytes
+    oneCharacter typeGood nameGood isLetter portableName portable
 formats = tt
 
 unfoldable pub forms : Unit {0}
@@ -77,9 +76,9 @@ states = tt
 
 unfoldable pub evaluation : Unit {0}
 unfolding ended after _then_ visit statesOf leaf refuseMissing shownName notFound flagValue evalFlag isDigit digits
-    unsigned numberOf failedAt parseText argumentValue evalArgument wrongPosition placedValue positionalValue
-    evalPositional fewer swallowed parseOption evalOptional idle repeat repeated evalMany evalSome evalCount lastOf
-    evalLast side picksFirst won valueOf picked chosen evalChoice evalFallback guarded evalGuard eval
+    unsigned numberOf parseText argumentValue evalArgument wrongPosition placedValue positionalValue evalPositional
+    fewer swallowed parseOption evalOptional idle repeat repeated evalMany evalSome evalCount lastOf evalLast side
+    picksFirst won valueOf picked chosen evalChoice evalFallback guarded evalGuard eval
 evaluation = tt
 
 unfoldable pub running : Unit {0}

@@ -15,7 +15,8 @@ use Rattle.rules.specs.Value.{BaseValue, isNumber, Value, base, listOf, 
 use Rattle.rules.specs.Tree.{Tree, Many, Some, Count, Last, kindOf, hasRepeat, listKind}
 use Rattle.rules.specs.State.{State}
 use Rattle.rules.specs.Eval.{Ran, ended, after, _then_, fewer, swallowed, parseOption, idle, repeat, repeated, evalMany, evalSome, evalCount, lastOf, evalLast}
-use Rattle.rules.specs.Demands.{All, Good, leaves}
+use Rattle.rules.specs.Demands.{All}
+use Rattle.rules.specs.Sound.{Good, leaves}
 use Rattle.rules.proofs.Steps.{most}
 use Rattle.rules.proofs.StepLaws.{step-refl}
 use Rattle.rules.proofs.Went.{if-holds, all-weaker, Fine, Went, went-weaker, went-cost, ended-went, after-went, after-ended, rest-went, then-went, then-ended}
@@ -281,11 +282,11 @@ module _
     many-sound catch e = record { went = then-ended (λ vs u. ok (listOf vs)) (loop catch false) (λ vs p. list-fits vs e p) }
 
     pub some-sound : (catch : Bool) → isSome (kindOf (Some catch t)) ≡ true → Evaluated M n (Some catch t) s (evalSome catch run s)
-    unfolding m evalSome kindOf most hasRepeat leaves refuse if_then_else_
+    unfolding m evalSome kindOf most hasRepeat leaves if_then_else_
     some-sound catch e = record {
       went =
-          then-ended (λ vs u. if null vs then refused (refuse 21) else ok (listOf vs)) (loop catch false)
-          (λ vs p. if-holds (Fine 26 _) (null vs) (refused (refuse 21)) (ok (listOf vs)) (λ _. omega arith) (λ _. list-fits vs e p));
+          then-ended (λ vs u. if null vs then refused (refuse 21 none) else ok (listOf vs)) (loop catch false)
+          (λ vs p. if-holds (Fine 26 _) (null vs) (refused (refuse 21 none)) (ok (listOf vs)) (λ _. omega arith) (λ _. list-fits vs e p));
     }
 
     pub count-sound :

@@ -15,7 +15,7 @@ use Rattle.utf8.specs.Laws.{character}
 use Rattle.utf8.specs.declared.Decoded.{Decoded}
 use Rattle.utf8.specs.declared.Decoded.the-variants.{Char, Bad}
 use Rattle.rules.specs.Base.{null, same, sliceFrom, concatMap}
-use Rattle.rules.specs.Outcome.{Outcome, ok, refused, fault, _>>=_, at, Refusal, refuse, refuseAt}
+use Rattle.rules.specs.Outcome.{Outcome, ok, refused, fault, _>>=_, at, Refusal, refuse}
 use Rattle.rules.specs.Sheet.{arguments}
 use Rattle.rules.specs.Form.{Form}
 use Rattle.rules.specs.Accept.{Letters, lettersOf}
@@ -27,7 +27,8 @@ use Rattle.rules.specs.Split.{Group, plain, clusterGroup, shortGroup, lo
 use Rattle.rules.specs.Split.{Split, positionals, joined, splitFrom, itemsOf, itemWords, recordWords, recordsFrom}
 use Rattle.rules.specs.State.{parsed}
 use Rattle.rules.specs.Run.{Line, parsedMark, tooMany, ambiguity, lineOf, split}
-use Rattle.rules.specs.Demands.{Good, hasMarker, placesLeft}
+use Rattle.rules.specs.Demands.{hasMarker, placesLeft}
+use Rattle.rules.specs.Sound.{Good}
 use Rattle.rules.proofs.Places.{if-elim}
 use Rattle.rules.proofs.StepLaws.{Within, Remains, construct-good}
 
@@ -495,7 +496,7 @@ pub record LineGood (args : List (List ℕ)) (l : Line) : Type 0 where
   pub good : Good (length (l .items)) (l .state)
   pub records : length (l .records) ≡ 7 * length (l .items)
   pub remaining : l .refusal ≡ none → l .state .remaining ≡ placesLeft args (length (l .items))
-  pub refusal : (e : Refusal) → l .refusal ≡ some e → (i : ℕ) × (e ≡ refuseAt 9 i) × (i < length (l .items))
+  pub refusal : (e : Refusal) → l .refusal ≡ some e → (i : ℕ) × (e ≡ refuse 9 (some i)) × (i < length (l .items))
   pub unparsed : (e : Refusal) → l .refusal ≡ some e → l .state .remaining ≡ length (l .items)
 
 marker-below : (n : ℕ) (has : Bool) (m a : Option ℕ) → Ended 0 n has m a → Within n m
@@ -518,7 +519,7 @@ unfolding ambiguity
 ambiguity-none none e = refl
 ambiguity-none (some i) e = absurd (some≢none e)
 
-ambiguity-some : (a : Option ℕ) (e : Refusal) → ambiguity a ≡ some e → (i : ℕ) × (e ≡ refuseAt 9 i) × (a ≡ some i)
+ambiguity-some : (a : Option ℕ) (e : Refusal) → ambiguity a ≡ some e → (i : ℕ) × (e ≡ refuse 9 (some i)) × (a ≡ some i)
 unfolding ambiguity
 ambiguity-some none e h = absurd (some≢none (sym h))
 ambiguity-some (some i) e h = (i, cc, refl)
@@ -588,9 +589,9 @@ pub line-refusal :
     → split f s ≡ ok l
     → l .refusal ≡ some e
     → (e .number ≡ 8) ⊎ (e .number ≡ 9)
-unfolding tooMany refuse refuseAt
+unfolding tooMany
 line-refusal f s l e h z =
     ⊎-elim
-    (λ (t : l ≡ tooMany). let r : e ≡ refuse 8 = cc in inl (rw r))
+    (λ (t : l ≡ tooMany). let r : e ≡ refuse 8 none = cc in inl (rw r))
     (λ g. inr (rw (g .refusal e z .1)))
     (line-law f s l h)

@@ -12,13 +12,14 @@ use lib.ListN.{length, take, drop, set, replicate, getElem?, length-set, length-
 use borrow.Author.Tests.{eq-eqb, lt-ltb, le-leb, eqb-true, ltb-true, leb-true}
 use Rattle.utf8.specs.Utf8.{if_then_else_}
 use Rattle.rules.specs.Base.{isSome, all}
-use Rattle.rules.specs.Outcome.{Outcome, ok, refused, _>>=_, at, refuseAt}
+use Rattle.rules.specs.Outcome.{Outcome, ok, refused, _>>=_, at, refuse}
 use Rattle.rules.specs.Tree.{Named}
 use Rattle.rules.specs.Split.{Item, Short, Long, ArgWord, Word, PosWord}
 use Rattle.rules.specs.State.{State, Found, Picked, parsed, present, construct, inScope, presentAt, presentFrom, unused, get, findIn, find, first, used, remove, withCurrent, pickWinner, saveConflicts, countPresent, setScope, markGood, currentGood, stateGood}
 use Rattle.rules.specs.Take.{Took, took, matchesArg, takeFlag, Taken, valueText, takeValue, takeArg, Operand, isOperand, operand, takePositionalWord}
 use Rattle.rules.specs.Eval.{won}
-use Rattle.rules.specs.Demands.{All, Good, hasText}
+use Rattle.rules.specs.Demands.{All, hasText}
+use Rattle.rules.specs.Sound.{Good}
 use Rattle.rules.proofs.Steps.{Step}
 use Rattle.rules.proofs.Places.{if-elim, left, right, at-below, present-below, mark-present, minus-below, write-below, set-same, set-other, set-kept, all-set, parsed-not, parsed-good, from-same, from-used, from-each, from-all, slice-below, count-from, replicate-present, all-replicate, conflicts-length, conflicts-present, conflicts-good, Differs, pick-case}
 
@@ -289,14 +290,14 @@ module _ (k : ℕ) (told : parsed k ≡ true) (is : List Item) where
 
   pub arg-takes : (m : Named) (adjacent : Bool) (s : State) → Good (length is) s
       → ((t : Took (Option Taken)) × (takeArg k is m adjacent s ≡ ok t) × Step (length is) s (t .state) × TakenAt is (t .answer))
-      ⊎ ((i : ℕ) × (takeArg k is m adjacent s ≡ refused (refuseAt 22 i)))
+      ⊎ ((i : ℕ) × (takeArg k is m adjacent s ≡ refused (refuse 22 (some i))))
   unfolding takeArg takeValue took _>>=_
   arg-takes m adjacent s g = let f = find-good is (matchesArg m adjacent) s g in go (f .0) (f .1) (f .2)
     where
       ends : Type 0
       ends =
           ((t : Took (Option Taken)) × (takeArg k is m adjacent s ≡ ok t) × Step (length is) s (t .state) × TakenAt is (t .answer))
-          ⊎ ((i : ℕ) × (takeArg k is m adjacent s ≡ refused (refuseAt 22 i)))
+          ⊎ ((i : ℕ) × (takeArg k is m adjacent s ≡ refused (refuse 22 (some i))))
 
       key : (x : Found) → find is (matchesArg m adjacent) s ≡ ok (some x) → Free s (x .place) → (o : Option (List ℕ))
           → valueText (get is s (suc (x .place))) ≡ o → ends

@@ -9,7 +9,8 @@ use Rattle.rules.specs.Value.{Kind, BaseValue, Value, base, absent, pres
 use Rattle.rules.specs.Tree.{Tree, kindOf, hasRepeat}
 use Rattle.rules.specs.State.{State, presentAt}
 use Rattle.rules.specs.Eval.{Ran, Visit}
-use Rattle.rules.specs.Demands.{Good, leaves, Faultless}
+use Rattle.rules.specs.Demands.{Faultless}
+use Rattle.rules.specs.Sound.{Good, leaves}
 
 -- From a good state to another over the same items and in the same scope
 pub record Step (n : ℕ) (s u : State) : Type 0 where

@@ -15,7 +15,7 @@ use Rattle.rules.specs.State.{State}
 use Rattle.rules.specs.Eval.{Visit}
 use Rattle.rules.specs.Base.{same}
 use Rattle.rules.specs.Base.{write}
-use Rattle.rules.specs.Outcome.{at, refuseAt}
+use Rattle.rules.specs.Outcome.{at, refuse}
 use Rattle.rules.specs.Value.{ofKind}
 use Rattle.rules.specs.Value.{word}
 use Rattle.rules.specs.Tree.{kindOf}
@@ -144,12 +144,12 @@ passed-through :
     ≡ (visited yesNo fresh gaveYes after-one ∷ visited yesNo fresh gaveYes after-zero ∷ visited yesNo fresh gaveYes after-choice ∷ []))
     -- an optional that is put back: its child has used the word
     × (eval 1 wordItem (Optional true (Positional 0 unrestricted number)) one-word .trace
-    ≡ (visited number one-word (refused (refuseAt 25 0)) word-used
+    ≡ (visited number one-word (refused (refuse 25 (some 0))) word-used
     ∷ record { kind = some (optional number); given = one-word; outcome = ok absent; left = one-word }
     ∷ []))
     -- a fallback that refuses: its child has used the word, on the copy
     × (eval 1 wordItem (Fallback (isNumber 9) (Positional 0 unrestricted number)) one-word .trace
-    ≡ (visited number one-word (refused (refuseAt 25 0)) word-used ∷ visited number one-word (refused (refuseAt 25 0)) one-word ∷ []))
+    ≡ (visited number one-word (refused (refuse 25 (some 0))) word-used ∷ visited number one-word (refused (refuse 25 (some 0))) one-word ∷ []))
     -- `last` with no value tries its child once more: two evaluations of the child, one of its own
     × (eval 1 [] (Last (Flag 0 named-v false)) nothing .trace
     ≡ (visited yesNo nothing missingV nothing ∷ visited yesNo nothing missingV nothing ∷ visited yesNo nothing missingV nothing ∷ []))
@@ -168,10 +168,10 @@ decided :
     (eval 1 [] (Last (Flag 0 named-v false)) nothing .tries ≡ 2)
     -- a success that used nothing gives way to 22: argument v, or 9 where q is missing, on `-v`
     × (eval 1 flagItem (Choice (Argument 0 named-v number false) (Fallback (isNumber 9) (Argument 1 named-q number false))) one-word .outcome
-    ≡ refused (refuseAt 22 0))
+    ≡ refused (refuse 22 (some 0)))
     -- and so does one on the other side
     × (eval 1 flagItem (Choice (Fallback (isNumber 9) (Argument 1 named-q number false)) (Argument 0 named-v number false)) one-word .outcome
-    ≡ refused (refuseAt 22 0))
+    ≡ refused (refuse 22 (some 0)))
 unfolding formats forms splitting states evaluation named-v named-q flagItem twoItems valueItems wordItem fresh after-one
     after-zero after-choice one-word word-used nothing forged noNames noLetters visited gaveYes missingV
 decided = (refl, refl, refl)

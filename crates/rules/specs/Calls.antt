@@ -85,7 +85,7 @@ itemsFrom area (r ∷ rs) = itemFrom area r >>? λ x. itemsFrom area rs >>? λ x
 
 unfoldable pub itemsIn : List ℕ → List ℕ → Outcome (List Item)
 itemsIn area l = elim (wholeRecords l >>? λ rs. itemsFrom area (trimmed rs))
-    [ none ↦ refused (refuse 30) | some is ↦ ok is ]
+    [ none ↦ refused (refuse 30 none) | some is ↦ ok is ]
 
 -- A state as it is handed over has 256 marks, and `current` as the place plus 1, or 0 for none
 unfoldable pub fromRaw : Raw → State
@@ -112,19 +112,19 @@ unfoldable pub stateIn : ℕ → Raw → Outcome State
 stateIn n x =
     if eqb (x .count) n && zeros (drop (x .count) (x .marks)) && stateGood parsed n (fromRaw x)
     then ok (fromRaw x)
-    else refused (refuse 29)
+    else refused (refuse 29 none)
 
 -- 28: no such node or name of the kind asked for, no such place
 unfoldable pub asked : {A : Type 0} → Option A → Outcome A
-asked none = refused (refuse 28)
+asked none = refused (refuse 28 none)
 asked (some a) = ok a
 
 unfoldable pub placeIn : ℕ → ℕ → Outcome ℕ
-placeIn n i = if ltb i n then ok i else refused (refuse 28)
+placeIn n i = if ltb i n then ok i else refused (refuse 28 none)
 
 -- a scope that falls or leaves the items
 unfoldable pub scopeIn : ℕ → ℕ → ℕ → Outcome Scope
-scopeIn n a b = if leb a b && leb b n then ok (record { start = a; end = b }) else refused (refuse 28)
+scopeIn n a b = if leb a b && leb b n then ok (record { start = a; end = b }) else refused (refuse 28 none)
 
 -- a flag's names, an argument's with whether it is adjacent
 unfoldable pub flagNames : Tree → Option Named
@@ -212,7 +212,7 @@ unfoldable pub callConflict : List ℕ → List ℕ → Raw → Outcome (Called 
 callConflict sheet slice x = onItems sheet slice x (λ is s. conflict is s >>= λ c. took c s)
 
 unfoldable pub operandOr20 : Took (Option Operand) → Outcome (Took Operand)
-operandOr20 t = elim (t .answer) [ none ↦ refused (refuse 20) | some o ↦ took o (t .state) ]
+operandOr20 t = elim (t .answer) [ none ↦ refused (refuse 20 none) | some o ↦ took o (t .state) ]
 
 unfoldable pub callTakePositional : List ℕ → List ℕ → Raw → Outcome (Called Operand)
 callTakePositional sheet slice x = onItems sheet slice x (λ is s. takePositionalWord parsedMark is s >>= operandOr20)

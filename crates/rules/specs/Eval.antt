@@ -7,7 +7,7 @@ use lib.Dec.{leb, eqb, ltb}
 use lib.ListN.{length, getElem?}
 use Rattle.utf8.specs.Utf8.{if_then_else_}
 use Rattle.rules.specs.Base.{null, all}
-use Rattle.rules.specs.Outcome.{Spot, Outcome, ok, refused, fault, panic, wrongKind, endless, _>>=_, at, Refusal, refuse, refuseAt, isMissing, canCatch, wrongInput, combineWith}
+use Rattle.rules.specs.Outcome.{Spot, Outcome, ok, refused, fault, panic, wrongKind, endless, _>>=_, at, Refusal, refuse, isMissing, canCatch, wrongInput, combineWith}
 use Rattle.rules.specs.Outcome.{shortLong125, shortLong126, shortLong127, parseFlag559, takeArgument679, orElse305, orElse307}
 use Rattle.rules.specs.Value.{Base, yesNo, text, number, Kind, item, BaseValue, isYes, isText, isNumber, Value, base, absent, present, nil, cons, listOf}
 use Rattle.rules.specs.Tree.{Named, Position, unrestricted, strict, nonStrict, Tree, Flag, Argument, Positional, Optional, Many, Some, Count, Last, Choice, Fallback, Guard, kindOf}
@@ -111,14 +111,11 @@ unfoldable pub numberOf : List ℕ → Option ℕ
 numberOf [] = none
 numberOf (b ∷ s) = if eqb b 43 then unsigned s else unsigned (b ∷ s)
 
-unfoldable pub failedAt : ℕ → Option ℕ → Refusal
-failedAt n place = record { number = n; place = place; missing = [] }
-
 -- `parse_os_str`: a text stands at its place; a number, or 25 at `current`. No yes/no is read from a text
 unfoldable pub parseText : Base → ℕ → List ℕ → State → Outcome Value
 parseText yesNo i t s = fault wrongKind
 parseText text i t s = ok (base (isText (item i)))
-parseText number i t s = elim (numberOf t) [ none ↦ refused (failedAt 25 (s .current)) | some n ↦ ok (base (isNumber n)) ]
+parseText number i t s = elim (numberOf t) [ none ↦ refused (refuse 25 (s .current)) | some n ↦ ok (base (isNumber n)) ]
 
 unfoldable pub argumentValue : ℕ → Named → Base → Option Taken → State → Outcome Value
 argumentValue n m b none s = notFound takeArgument679 n m s
@@ -136,7 +133,7 @@ wrongPosition nonStrict strictWord = if strictWord then some 24 else none
 unfoldable pub placedValue : Position → Base → Operand → State → Outcome Value
 placedValue p b x s = elim (wrongPosition p (x .strict)) [
   | none ↦ parseText b (x .place) (x .text) s
-  | some n ↦ refused (refuseAt n (x .place))
+  | some n ↦ refused (refuse n (some (x .place)))
 ]
 
 unfoldable pub positionalValue : ℕ → Position → Base → Option Operand → State → Outcome Value
@@ -194,7 +191,7 @@ evalMany catch run s = repeated catch false run s then λ vs t. ended (ok (listO
 -- 21 ParseSome
 unfoldable pub evalSome : Bool → (State → Ran Value) → State → Ran Value
 evalSome catch run s =
-    repeated catch false run s then λ vs t. ended (if null vs then refused (refuse 21) else ok (listOf vs)) t
+    repeated catch false run s then λ vs t. ended (if null vs then refused (refuse 21 none) else ok (listOf vs)) t
 
 unfoldable pub evalCount : (State → Ran Value) → State → Ran Value
 evalCount run s = repeated false true run s then λ vs t. ended (ok (base (isNumber (length vs)))) t
@@ -263,7 +260,7 @@ unfoldable pub guarded : ℕ → ℕ → Value → State → Outcome Value
 guarded lo hi (base (isYes b)) s = fault wrongKind
 guarded lo hi (base (isText t)) s = fault wrongKind
 guarded lo hi (base (isNumber n)) s =
-    if leb lo n && leb n hi then ok (base (isNumber n)) else refused (failedAt 26 (s .current))
+    if leb lo n && leb n hi then ok (base (isNumber n)) else refused (refuse 26 (s .current))
 guarded lo hi absent s = fault wrongKind
 guarded lo hi (present v) s = fault wrongKind
 guarded lo hi nil s = fault wrongKind

@@ -1,4 +1,5 @@
 -- The tests before a call, in this order: 1 to 4, 6 and 5, 7. A call makes those whose input it has.
+use mathlib.Core.Option.{none}
 use mathlib.Core.List.{List, []}
 use Prim.Native.Nat.{ℕ}
 use lib.Dec.{leb, eqb}
@@ -10,16 +11,15 @@ use Rattle.rules.specs.Accept.{Accepted, accepted, refusedAt, checkForm}
 
 -- 1 to 4
 unfoldable pub formIn : List ℕ → Outcome Accepted
-formIn b = elim (checkForm b)
-    [ refusedAt n k ↦ refused (record { number = n; place = k; missing = [] }) | accepted a ↦ ok a ]
+formIn b = elim (checkForm b) [ refusedAt n k ↦ refused (refuse n k) | accepted a ↦ ok a ]
 
 -- 6 and 5; the sheet's area
 unfoldable pub sheetIn : List ℕ → Outcome (List ℕ)
-sheetIn s = if eqb (sheetFault s) 0 then ok (sheetArea s) else refused (refuse (sheetFault s))
+sheetIn s = if eqb (sheetFault s) 0 then ok (sheetArea s) else refused (refuse (sheetFault s) none)
 
 -- 7: a slice with fewer words than it must have, 1,792 for items and 8,240 for answers
 unfoldable pub roomIn : (least n : ℕ) → Outcome ℕ
-roomIn least n = if leb least n then ok n else refused (refuse 7)
+roomIn least n = if leb least n then ok n else refused (refuse 7 none)
 
 -- the slice itself, where the call reads it
 unfoldable pub sliceIn : ℕ → List ℕ → Outcome (List ℕ)

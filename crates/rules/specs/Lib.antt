@@ -19,6 +19,7 @@ pub mod Encode
 -- What the theorems say
 pub mod Lines
 pub mod Demands
+pub mod Sound
 pub mod WellMade
 pub mod Answered
 pub mod CallsAnswered

@@ -56,11 +56,9 @@ unfoldable pub at : {A : Type 0} → Spot → Option A → Outcome A
 at spot none = fault (panic spot)
 at spot (some a) = ok a
 
-unfoldable pub refuse : ℕ → Refusal
-refuse n = record { number = n; place = none; missing = [] }
-
-unfoldable pub refuseAt : ℕ → ℕ → Refusal
-refuseAt n i = record { number = n; place = some i; missing = [] }
+-- a refusal, by its number and its place
+abbrev pub refuse : ℕ → Option ℕ → Refusal
+refuse n place = record { number = n; place = place; missing = [] }
 
 -- 20 Missing
 unfoldable pub isMissing : Refusal → Bool

@@ -5,7 +5,7 @@ use Prim.Native.Nat.{ℕ, _+_, _-_}
 use lib.Dec.{ltb}
 use lib.ListN.{length, replicate}
 use Rattle.utf8.specs.Utf8.{if_then_else_}
-use Rattle.rules.specs.Outcome.{Outcome, ok, refused, fault, _>>=_, Refusal, refuse, refuseAt}
+use Rattle.rules.specs.Outcome.{Outcome, ok, refused, fault, _>>=_, Refusal, refuse}
 use Rattle.rules.specs.Value.{Value, answerWords}
 use Rattle.rules.specs.Sheet.{arguments}
 use Rattle.rules.specs.Form.{Form}
@@ -30,12 +30,12 @@ parsedMark = 1
 
 -- 8: more than 256 items
 unfoldable pub tooMany : Line
-tooMany = record { refusal = some (refuse 8); items = []; records = []; state = emptyState }
+tooMany = record { refusal = some (refuse 8 none); items = []; records = []; state = emptyState }
 
 -- 9: ambiguous letter; items kept and unparsed
 unfoldable pub ambiguity : Option ℕ → Option Refusal
 ambiguity none = none
-ambiguity (some i) = some (refuseAt 9 i)
+ambiguity (some i) = some (refuse 9 (some i))
 
 unfoldable pub lineOf : List (List ℕ) → Split → Outcome Line
 lineOf args x =
@@ -59,7 +59,7 @@ runFields k is (t ∷ ts) s = eval k is t s then λ v u. runFields k is ts u the
 -- then 27 if a present place is left in scope
 unfoldable pub leftOver : List Value → Option Found → Outcome (List Value)
 leftOver vs none = ok vs
-leftOver vs (some x) = refused (refuseAt 27 (x .place))
+leftOver vs (some x) = refused (refuse 27 (some (x .place)))
 
 unfoldable pub runAll : ℕ → List Item → List Tree → State → Ran (List Value)
 runAll k is ts s = runFields k is ts s then λ vs t. ended (first is t >>= leftOver vs) t

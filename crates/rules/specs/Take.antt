@@ -5,7 +5,7 @@ use mathlib.Core.Option.{Option, some, none}
 use Prim.Native.Nat.{ℕ, suc}
 use Rattle.utf8.specs.Utf8.{if_then_else_}
 use Rattle.rules.specs.Base.{contains, same}
-use Rattle.rules.specs.Outcome.{Outcome, ok, refused, _>>=_, refuseAt}
+use Rattle.rules.specs.Outcome.{Outcome, ok, refused, _>>=_, refuse}
 use Rattle.rules.specs.Tree.{Named}
 use Rattle.rules.specs.Split.{Item, Short, Long, ArgWord, Word, PosWord}
 use Rattle.rules.specs.State.{State, Found, get, find, first, remove, withCurrent}
@@ -52,7 +52,7 @@ valueText (some (PosWord t)) = none
 
 -- key and value are used, `current` is the value's place
 unfoldable pub takeValue : ℕ → State → ℕ → Option (List ℕ) → Outcome (Took (Option Taken))
-takeValue mark s key none = refused (refuseAt 22 key)
+takeValue mark s key none = refused (refuse 22 (some key))
 takeValue mark s key (some t) =
     remove mark (withCurrent (some (suc key)) s) key >>= λ u.
     remove mark u (suc key) >>= λ v.

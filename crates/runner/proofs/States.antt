@@ -10,7 +10,7 @@ use Rattle.rules.specs.Tree.{zeros}
 use Rattle.rules.specs.State.{State}
 use Rattle.rules.specs.Run.{padded}
 use Rattle.rules.specs.Calls.{fromRaw, toRaw}
-use Rattle.rules.specs.Demands.{Good}
+use Rattle.rules.specs.Sound.{Good}
 use Rattle.rules.proofs.CodeLaws.{place-code}
 use Rattle.state.specs.Lent.{numbersOf, stateOf, Fine}
 

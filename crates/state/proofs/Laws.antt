@@ -2,7 +2,7 @@
 use mathlib.Core.Path.{_≡_, refl, sym, ap, subst, _∙_}
 use mathlib.Core.Bool.{Bool, true, false, not, _&&_, false≢true}
 use mathlib.Core.List.{List, [], _∷_, _++_}
-use mathlib.Core.Option.{some}
+use mathlib.Core.Option.{some, none}
 use Prim.Native.Nat.{ℕ, zero, suc, _+_, _-_, _≤_, _<_}
 use native.Mathlib.Nat.{not-suc-le-zero, le-of-suc-le-suc}
 use native.Mathlib.Omega.{arith}
@@ -18,7 +18,7 @@ use Rattle.rules.specs.State.{State, parsed, presentAt, presentFrom, unused, in
 use Rattle.rules.specs.Calls.{fromRaw, toRaw, stateIn}
 use Rattle.rules.specs.Run.{padded}
 use Rattle.rules.specs.Codes.{placeOf}
-use Rattle.rules.specs.Demands.{Good}
+use Rattle.rules.specs.Sound.{Good}
 use Rattle.rules.specs.declared.State.{State as Raw}
 use Rattle.rules.proofs.Places.{left, right, from-same, count-from, conflicts-length, conflicts-present, conflicts-good}
 use Rattle.rules.proofs.CodeLaws.{code-place, place-next}
@@ -204,14 +204,14 @@ module _ (n : ℕ) (x : Raw) where
   unfolding stateIn test if_then_else_
   accepted k = rw (kept-test k)
 
-  not-in : test n x ≡ false → stateIn n x ≡ refused (refuse 29)
+  not-in : test n x ≡ false → stateIn n x ≡ refused (refuse 29 none)
   unfolding stateIn test if_then_else_
   not-in e = rw e
 
-  pub not-kept : (Kept n x → ⊥) → stateIn n x ≡ refused (refuse 29)
+  pub not-kept : (Kept n x → ⊥) → stateIn n x ≡ refused (refuse 29 none)
   not-kept h = go (test n x) refl
     where
-      go : (b : Bool) → test n x ≡ b → stateIn n x ≡ refused (refuse 29)
+      go : (b : Bool) → test n x ≡ b → stateIn n x ≡ refused (refuse 29 none)
       go true e = absurd (h (test-kept e))
       go false e = not-in e
 
@@ -220,10 +220,10 @@ module _ (n : ℕ) (x : Raw) where
     where
       go : (b : Bool) → test n x ≡ b → Kept n x
       go true e = test-kept e
-      go false e = let z : refused (refuse 29) ≡ ok (fromRaw x) = sym (not-in e) ∙ h in
+      go false e = let z : refused (refuse 29 none) ≡ ok (fromRaw x) = sym (not-in e) ∙ h in
           absurd (let o : _≡_ {A = ℕ} 0 1 = cc in omega arith)
 
-  pub refusing : (Kept n x → ⊥) → stateIn n x ≡ (if false then ok (fromRaw x) else refused (refuse 29))
+  pub refusing : (Kept n x → ⊥) → stateIn n x ≡ (if false then ok (fromRaw x) else refused (refuse 29 none))
   unfolding if_then_else_
   refusing h = not-kept h
 
@@ -238,14 +238,14 @@ module _ (n : ℕ) (x : Raw) (a b : ℕ) (start : a ≡ x .start) (end : b ≡ x
 
   pub deciding : x .current ≤ n → all (markGood parsed n) (take n (x .marks)) ≡ true → zeros (drop n (x .marks)) ≡ true
       → (c : ℕ) → c ≡ countPresent (take (b - a) (drop a (x .marks)))
-      → stateIn n x ≡ (if eqb c (x .remaining) then ok (fromRaw x) else refused (refuse 29))
+      → stateIn n x ≡ (if eqb c (x .remaining) then ok (fromRaw x) else refused (refuse 29 none))
   unfolding if_then_else_ fromRaw
   deciding current marks rest c e = go (eqb c (x .remaining)) refl
     where
       counted : c ≡ length (unused (fromRaw x))
       counted = e ∙ unused-count
 
-      go : (t : Bool) → eqb c (x .remaining) ≡ t → stateIn n x ≡ (if t then ok (fromRaw x) else refused (refuse 29))
+      go : (t : Bool) → eqb c (x .remaining) ≡ t → stateIn n x ≡ (if t then ok (fromRaw x) else refused (refuse 29 none))
       go true t = accepted n x (record {
         count = same;
         small = small;

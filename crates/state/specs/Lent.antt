@@ -10,7 +10,7 @@ use Rattle.rules.specs.Tree.{zeros}
 use Rattle.rules.specs.State.{State, parsed, present, remove, Picked as Pick}
 use Rattle.rules.specs.Codes.{placeOf}
 use Rattle.rules.specs.Calls.{fromRaw}
-use Rattle.rules.specs.Demands.{Good}
+use Rattle.rules.specs.Sound.{Good}
 use Rattle.rules.specs.declared.State.{State as Raw}
 use Rattle.state.specs.declared.Numbers.{Numbers}
 use Rattle.state.specs.declared.Picked.{Picked}

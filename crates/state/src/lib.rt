@@ -1,4 +1,5 @@
 // The record of used places: the marks are lent, the numbers of a state go by value.
+ghost use mathlib.Core.Option.{none};
 ghost use mathlib.Core.Path.{_≡_};
 ghost use mathlib.Core.Bool.{true, xor};
 ghost use mathlib.Core.List.{_++_};
@@ -230,7 +231,7 @@ fn zeros_from(marks: &[u16], from: usize) -> bool
 
 // Refusal 29: whether the state is one over `n` items.
 pub fn good(s: State, n: usize) -> bool
-    ensures { λ r. ⌜ stateIn n s ≡ (if r then ok (fromRaw s) else refused (refuse 29)) ⌝ }
+    ensures { λ r. ⌜ stateIn n s ≡ (if r then ok (fromRaw s) else refused (refuse 29 none)) ⌝ }
 {
     let start = wide(s.start);
     let end = wide(s.end);

@@ -2,7 +2,7 @@
 use mathlib.Core.Path.{_≡_, refl, sym, ap, _∙_}
 use mathlib.Core.Bool.{Bool, true, false, not, _&&_}
 use mathlib.Core.Logic.{_⊎_, inl, inr, ⊎-elim}
-use mathlib.Core.Option.{some}
+use mathlib.Core.Option.{some, none}
 use Prim.Native.Nat.{ℕ, suc, _≤_, _<_}
 use native.Mathlib.Omega.{arith}
 use lib.Dec.{leb, ltb}
@@ -31,12 +31,12 @@ use Rattle.state_calls.specs.Entries.{bothIn, stateWith}
 -- ---- refused and accepted
 
 module _ {A : Type 0} (code : A → Coded) (x : Raw) (o : Outcome (Took A)) where
-  refused-answer : (n : ℕ) → o ≡ refused (refuse n) → (r : Answer) → r ≡ answerWith n 0 (coded 0 0 0) → answerOf code (handed x o) ≡ some r
-  unfolding answerOf handed codedOr0 refuse
+  refused-answer : (n : ℕ) → o ≡ refused (refuse n none) → (r : Answer) → r ≡ answerWith n 0 (coded 0 0 0) → answerOf code (handed x o) ≡ some r
+  unfolding answerOf handed codedOr0
   refused-answer n e r f = rw (e, f)
 
-  refused-state : (n : ℕ) → o ≡ refused (refuse n) → (r : StateAnswer) → r ≡ stateWith n (coded 0 0 0) x → stateAnswerOf code (handed x o) ≡ some r
-  unfolding stateAnswerOf handed codedOr0 refuse
+  refused-state : (n : ℕ) → o ≡ refused (refuse n none) → (r : StateAnswer) → r ≡ stateWith n (coded 0 0 0) x → stateAnswerOf code (handed x o) ≡ some r
+  unfolding stateAnswerOf handed codedOr0
   refused-state n e r f = rw (e, f)
 
   accepted-answer : (a : A) (s : State) → o ≡ took a s → (r : Answer) → r ≡ answerWith 0 0 (code a) → answerOf code (handed x o) ≡ some r
@@ -62,13 +62,13 @@ stepped x o y h r f =
 
 -- the test that the code makes
 abbrev pub Tested : Outcome State → Raw → Bool → Type 0
-Tested o x b = o ≡ (if b then ok (fromRaw x) else refused (refuse 29))
+Tested o x b = o ≡ (if b then ok (fromRaw x) else refused (refuse 29 none))
 
 tested-good : (o : Outcome State) (x : Raw) (b : Bool) → Tested o x b → not b ≡ false → o ≡ ok (fromRaw x)
 unfolding if_then_else_
 tested-good o x b g h = g ∙ rw (not-false b h)
 
-tested-bad : (o : Outcome State) (x : Raw) (b : Bool) → Tested o x b → not b ≡ true → o ≡ refused (refuse 29)
+tested-bad : (o : Outcome State) (x : Raw) (b : Bool) → Tested o x b → not b ≡ true → o ≡ refused (refuse 29 none)
 unfolding if_then_else_
 tested-bad o x b g h = g ∙ rw (not-true b h)
 
@@ -76,7 +76,7 @@ module _ (n : ℕ) (x : Raw) (b : Bool) (e : n ≡ x .count) (g : Tested (stateI
   pub in-good : not b ≡ false → stateIn (x .count) x ≡ ok (fromRaw x)
   in-good h = tested-good _ x b (rw e at g) h
 
-  in-bad : not b ≡ true → stateIn (x .count) x ≡ refused (refuse 29)
+  in-bad : not b ≡ true → stateIn (x .count) x ≡ refused (refuse 29 none)
   in-bad h = tested-bad _ x b (rw e at g) h
 
   -- ---- two states: the first decides, then the second
@@ -95,14 +95,14 @@ unfolding if_then_else_
 if-cases true u v = inl refl
 if-cases false u v = inr refl
 
-state-cases : (n : ℕ) (x : Raw) → (stateIn n x ≡ ok (fromRaw x)) ⊎ (stateIn n x ≡ refused (refuse 29))
+state-cases : (n : ℕ) (x : Raw) → (stateIn n x ≡ ok (fromRaw x)) ⊎ (stateIn n x ≡ refused (refuse 29 none))
 unfolding stateIn
 state-cases n x = if-cases _ _ _
 
 -- ---- 28
 
 module _ (n i : ℕ) where
-  no-place : n ≤ i → placeIn n i ≡ refused (refuse 28)
+  no-place : n ≤ i → placeIn n i ≡ refused (refuse 28 none)
   unfolding placeIn if_then_else_
   no-place h = rw (le-ltb i n h)
 
@@ -115,11 +115,11 @@ and-no true = refl
 and-no false = refl
 
 module _ (n a b : ℕ) where
-  scope-falls : b < a → scopeIn n a b ≡ refused (refuse 28)
+  scope-falls : b < a → scopeIn n a b ≡ refused (refuse 28 none)
   unfolding scopeIn if_then_else_
   scope-falls h = rw (lt-leb a b h)
 
-  scope-leaves : n < b → scopeIn n a b ≡ refused (refuse 28)
+  scope-leaves : n < b → scopeIn n a b ≡ refused (refuse 28 none)
   unfolding scopeIn if_then_else_
   scope-leaves h = rw (lt-leb b n h, and-no (leb a b))
 
@@ -190,16 +190,16 @@ module _ (x y : Raw) (b : Bool) (g : Tested (bothIn x y) y b) where
   both-fine h = ⊎-elim
       (λ k. (k, rw k at (tested-good (bothIn x y) y b g h)))
       (λ k. absurd (
-      let z : refused (refuse 29) ≡ ok (fromRaw y) = rw k at (tested-good (bothIn x y) y b g h) in
+      let z : refused (refuse 29 none) ≡ ok (fromRaw y) = rw k at (tested-good (bothIn x y) y b g h) in
       let o : _≡_ {A = ℕ} 0 1 = cc in omega arith))
       (state-cases (x .count) x)
 
   both-bad : {A : Type 0} → not b ≡ true → (f : State → State → Outcome A)
-      → (stateIn (x .count) x >>= λ s. stateIn (x .count) y >>= λ t. f s t) ≡ refused (refuse 29)
+      → (stateIn (x .count) x >>= λ s. stateIn (x .count) y >>= λ t. f s t) ≡ refused (refuse 29 none)
   unfolding bothIn _>>=_
   both-bad h f = ⊎-elim
       (λ (k : stateIn (x .count) x ≡ ok (fromRaw x)).
-      let z : stateIn (x .count) y ≡ refused (refuse 29) = rw k at (tested-bad (bothIn x y) y b g h) in
+      let z : stateIn (x .count) y ≡ refused (refuse 29 none) = rw k at (tested-bad (bothIn x y) y b g h) in
       rw (k, z))
       (λ k. rw k)
       (state-cases (x .count) x)

@@ -1,7 +1,7 @@
 // The entry points on states alone. None asks anything of its input: a state that is not good is refused with 29, then a
 // place or scope that is not there with 28.
 ghost use mathlib.Core.Path.{_≡_};
-ghost use mathlib.Core.Option.{some};
+ghost use mathlib.Core.Option.{some, none};
 ghost use Rattle.utf8.specs.Utf8.{if_then_else_};
 ghost use Rattle.rules.specs.Outcome.{ok, refused as refusedWith, refuse};
 ghost use Rattle.rules.specs.Calls.{fromRaw};
@@ -83,7 +83,7 @@ fn changed(s: State) -> StateAnswer
 
 // Refusal 29: whether both states are good ones over the first's items.
 fn both_good(s: State, t: State) -> bool
-    ensures { λ r. ⌜ bothIn s t ≡ (if r then ok (fromRaw t) else refusedWith (refuse 29)) ⌝ }
+    ensures { λ r. ⌜ bothIn s t ≡ (if r then ok (fromRaw t) else refusedWith (refuse 29 none)) ⌝ }
 {
     let count = wide(s.count);
     if !state::good(s, count) {

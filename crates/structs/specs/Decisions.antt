@@ -9,7 +9,7 @@ use Rattle.utf8.specs.Utf8.{if_then_else_}
 use Rattle.rules.specs.Outcome.{Outcome, ok, refused, fault, at, orElse305, orElse307, refuse, canCatch}
 use Rattle.rules.specs.Value.{BaseValue, isNumber, Value, base, listOf}
 use Rattle.rules.specs.State.{State, Picked, pickWinner}
-use Rattle.rules.specs.Eval.{Ran, ended, after, fewer, swallowed, failedAt, side, valueOf, picked}
+use Rattle.rules.specs.Eval.{Ran, ended, after, fewer, swallowed, side, valueOf, picked}
 use Rattle.rules.specs.declared.Refused.{Refused}
 use Rattle.error.specs.Refusals.{refusedOf, refusalOf}
 use Rattle.structs.specs.declared.Counting.{Counting}
@@ -32,7 +32,7 @@ unfoldable pub optionWay : ℕ → Bool → ℕ → ℕ → Option ℕ → Count
 optionWay number catch given left len =
     if eqb number 0
     then (if fewer left len then Counted else Uncounted)
-    else (if swallowed catch (refuse number) (withRemaining given) (withRemaining left) then Absent else PassedOn)
+    else (if swallowed catch (refuse number none) (withRemaining given) (withRemaining left) then Absent else PassedOn)
 
 unfoldable pub someOf : Outcome Value → Outcome (Option Value)
 someOf (ok v) = ok (some v)
@@ -47,11 +47,11 @@ optionBy PassedOn s r = after r (ended (someOf (r .outcome)) (r .state))
 
 -- ---- "some", by its number
 unfoldable pub someBy : ℕ → List Value → State → Ran Value
-someBy n vs t = ended (if eqb n 0 then ok (listOf vs) else refused (refuse n)) t
+someBy n vs t = ended (if eqb n 0 then ok (listOf vs) else refused (refuse n none)) t
 
 -- ---- fallback
 unfoldable pub fallbackWay : ℕ → Fallback
-fallbackWay number = if eqb number 0 then Child else (if canCatch (refuse number) then Own else Passed)
+fallbackWay number = if eqb number 0 then Child else (if canCatch (refuse number none) then Own else Passed)
 
 unfoldable pub fallbackBy : Fallback → BaseValue → State → Ran Value → Ran Value
 fallbackBy Child v s r = after r (ended (r .outcome) (r .state))
@@ -60,7 +60,7 @@ fallbackBy Passed v s r = after r (ended (r .outcome) s)
 
 -- ---- guard, by its number
 unfoldable pub guardBy : ℕ → ℕ → State → Outcome Value
-guardBy number n s = if eqb number 0 then ok (base (isNumber n)) else refused (failedAt number (s .current))
+guardBy number n s = if eqb number 0 then ok (base (isNumber n)) else refused (refuse number (s .current))
 
 -- ---- choice
 -- how a side ended: with a value, or with a refusal, of which number and place are handed about

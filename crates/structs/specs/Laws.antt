@@ -61,7 +61,7 @@ module _ (catch : Bool) (len : Option ℕ) (s : State) (r : Ran Value) where
       → r .outcome ≡ refused e
       → (e .number ≡ 0 → ⊥)
       → parseOption catch len s r ≡ optionBy (optionWay (e .number) catch (s .remaining) (r .state .remaining) len) s r
-  unfolding parseOption optionWay optionBy someOf swallowed wrongInput isMissing canCatch refuse withRemaining if_then_else_
+  unfolding parseOption optionWay optionBy someOf swallowed wrongInput isMissing canCatch withRemaining if_then_else_
   option-refused e h n = rw (h, ne-eqb (e .number) 0 n) (go (swallowed catch e s (r .state)))
     where
       go :
@@ -82,7 +82,7 @@ module _ (v : BaseValue) (s : State) (r : Ran Value) where
       → r .outcome ≡ refused e
       → (e .number ≡ 0 → ⊥)
       → evalFallback v s r ≡ fallbackBy (fallbackWay (e .number)) v s r
-  unfolding evalFallback fallbackWay fallbackBy canCatch refuse if_then_else_
+  unfolding evalFallback fallbackWay fallbackBy canCatch if_then_else_
   fallback-refused e h n = rw (h, ne-eqb (e .number) 0 n) (go (canCatch e))
     where
       go :
@@ -118,7 +118,7 @@ module _
         go :
             (ws : List Value)
             → length ws ≡ 0
-            → ended (if null ws then refused (refuse 21) else ok (listOf ws)) (given .state) ≡ someBy 21 ws (given .state)
+            → ended (if null ws then refused (refuse 21 none) else ok (listOf ws)) (given .state) ≡ someBy 21 ws (given .state)
         go [] z = refl
         go (w ∷ ws) z = absurd (omega arith)
 
@@ -129,7 +129,7 @@ module _
         go :
             (ws : List Value)
             → (length ws ≡ 0 → ⊥)
-            → ended (if null ws then refused (refuse 21) else ok (listOf ws)) (given .state) ≡ someBy 0 ws (given .state)
+            → ended (if null ws then refused (refuse 21 none) else ok (listOf ws)) (given .state) ≡ someBy 0 ws (given .state)
         go [] z = absurd (z refl)
         go (w ∷ ws) z = refl
 
@@ -178,9 +178,9 @@ module _ (s : State) (a b : Ran Value) where
   chosen-by r h = by-forgets (picksFirst s (a .state) (b .state) (a .outcome) (b .outcome)) ∙ ap by h ∙ by-pick r
 
 -- ---- choice, as the code tests
-wrong-number : (e : Refusal) (x : Refused) → refusedOf e ≡ x → wrongInput e ≡ wrongInput (refuse (x .number))
-unfolding refusedOf wrongInput refuse
-wrong-number e x h = ap (λ (y : Refused). wrongInput (refuse (y .number))) h
+wrong-number : (e : Refusal) (x : Refused) → refusedOf e ≡ x → wrongInput e ≡ wrongInput (refuse (x .number) none)
+unfolding refusedOf wrongInput
+wrong-number e x h = ap (λ (y : Refused). wrongInput (refuse (y .number) none)) h
 
 same : {k l m n : ℕ} → k ≡ m → l ≡ n → eqb k l ≡ eqb m n
 same p q = ap₂ (λ (u v : ℕ). eqb u v) p q
@@ -216,12 +216,12 @@ pub picks-first :
     (o u : Outcome Value) (s a b : State) (x y : Refused) (g l m : ℕ) (r : Pick)
     → x .number ≡ 0
     → (y .number ≡ 0 → ⊥)
-    → r ≡ (if eqb g l && wrongInput (refuse (y .number)) then Neither y else First)
+    → r ≡ (if eqb g l && wrongInput (refuse (y .number) none) then Neither y else First)
     → Picks o u s a b x y g l m r
 unfolding picksFirst forgotten pickBy side if_then_else_
 picks-first (ok v) (ok w′) s a b x y g l m r z w i h k p q t = absurd (w k)
 picks-first (ok v) (refused e) s a b x y g l m r z w i h k p q t =
-    rw (i, same p q, wrong-number e y (k .0)) (go (eqb g l && wrongInput (refuse (y .number))))
+    rw (i, same p q, wrong-number e y (k .0)) (go (eqb g l && wrongInput (refuse (y .number) none)))
   where
     go : (u : Bool) → forgotten (if u then refused e else side true none) ≡ pickBy (if u then Neither y else First) a b
     go true = ap (λ (v : Refused). refused (refusalOf v)) (k .0)
@@ -234,12 +234,12 @@ pub picks-second :
     (o u : Outcome Value) (s a b : State) (x y : Refused) (g l m : ℕ) (r : Pick)
     → (x .number ≡ 0 → ⊥)
     → y .number ≡ 0
-    → r ≡ (if eqb g m && wrongInput (refuse (x .number)) then Neither x else Second)
+    → r ≡ (if eqb g m && wrongInput (refuse (x .number) none) then Neither x else Second)
     → Picks o u s a b x y g l m r
 unfolding picksFirst forgotten pickBy side if_then_else_
 picks-second (ok v) u s a b x y g l m r z w i h k p q t = absurd (z h)
 picks-second (refused e) (ok w′) s a b x y g l m r z w i h k p q t =
-    rw (i, same p t, wrong-number e x (h .0)) (go (eqb g m && wrongInput (refuse (x .number))))
+    rw (i, same p t, wrong-number e x (h .0)) (go (eqb g m && wrongInput (refuse (x .number) none)))
   where
     go : (u : Bool) → forgotten (if u then refused e else side false none) ≡ pickBy (if u then Neither x else Second) a b
     go true = ap (λ (v : Refused). refused (refusalOf v)) (h .0)

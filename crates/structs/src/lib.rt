@@ -1,4 +1,5 @@
 // What each combinator decides, from numbers alone: the run only calls and hands on. A number is 0 for a success, else the refusal's.
+ghost use mathlib.Core.Option.{none};
 ghost use mathlib.Core.Path.{_≡_};
 ghost use mathlib.Core.Bool.{Bool, true, false, not, _&&_};
 ghost use mathlib.Core.List.{List};
@@ -47,7 +48,7 @@ fn fewer(left: u32, last: u32) -> bool
 }
 
 fn catches(catch: bool, number: u32) -> bool
-    ensures { λ r. ⌜ r ≡ (catch && not (wrongInput (refuse number))) ⌝ }
+    ensures { λ r. ⌜ r ≡ (catch && not (wrongInput (refuse number none))) ⌝ }
 {
     if catch {
         return !error::wrong_input(number);
@@ -56,7 +57,7 @@ fn catches(catch: bool, number: u32) -> bool
 }
 
 fn swallowed(catch: bool, number: u32, given: u32, left: u32) -> bool
-    ensures { λ r. ⌜ r ≡ swallowed catch (refuse number) (withRemaining given) (withRemaining left) ⌝ }
+    ensures { λ r. ⌜ r ≡ swallowed catch (refuse number none) (withRemaining given) (withRemaining left) ⌝ }
 {
     if catches(catch, number) {
         return true;
@@ -141,7 +142,7 @@ fn two_successes(given: u32, left_a: u32, left_b: u32) -> Pick
 
 // A success that used nothing gives way to a refusal for wrong input.
 fn one_success(side: Pick, given: u32, left: u32, e: rules::Refused) -> Pick
-    ensures { λ r. ⌜ r ≡ (if eqb given left && wrongInput (refuse (e .number)) then Neither e else side) ⌝ }
+    ensures { λ r. ⌜ r ≡ (if eqb given left && wrongInput (refuse (e .number) none) then Neither e else side) ⌝ }
 {
     if given == left {
         if error::wrong_input(e.number) {

@@ -85,9 +85,9 @@ module _ (area words : List ℕ) (n : ℕ) (t : Trims words n) where
       go false = refl
 
   read-as : (o : Option (List Item)) → (wholeRecords words >>? λ rs. itemsFrom area (trimmed rs)) ≡ o
-      → itemsIn area words ≡ (elim o [ none ↦ refused (refuse 30) | some is ↦ ok is ])
+      → itemsIn area words ≡ (elim o [ none ↦ refused (refuse 30 none) | some is ↦ ok is ])
   unfolding itemsIn
-  read-as o e = ap (λ (p : Option (List Item)). elim p as (λ _. Outcome (List Item)) [ none ↦ refused (refuse 30) | some is ↦ ok is ]) e
+  read-as o e = ap (λ (p : Option (List Item)). elim p as (λ _. Outcome (List Item)) [ none ↦ refused (refuse 30 none) | some is ↦ ok is ]) e
 
   module _ (b : Bool) (z : b ≡ zeros (drop (7 * (length words / 7)) words)) where
     pub holds : b ≡ true → isSome (itemsFrom area (recordsIn n words)) ≡ true → Holds area words n
@@ -102,7 +102,7 @@ module _ (area words : List ℕ) (n : ℕ) (t : Trims words n) where
           table = table-in area words (f .0) read;
         }
 
-    pub holds-not : isSome (itemsFrom area (recordsIn n words)) ≡ false → itemsIn area words ≡ refused (refuse 30)
+    pub holds-not : isSome (itemsFrom area (recordsIn n words)) ≡ false → itemsIn area words ≡ refused (refuse 30 none)
     unfolding if_then_else_
     holds-not e = read-as none (found-as b (sym z) none (none-is (itemsFrom area (recordsIn n words)) e) ∙ go b)
       where
@@ -123,11 +123,11 @@ module _ (area words : List ℕ) (n : ℕ) (t : Trims words n) where
 -- ---- the input, in the order of its tests
 
 module _ (s words : List ℕ) where
-  given-fault : (sheetFault s ≡ 0 → ⊥) → itemsGiven s words ≡ refused (refuse (sheetFault s))
+  given-fault : (sheetFault s ≡ 0 → ⊥) → itemsGiven s words ≡ refused (refuse (sheetFault s) none)
   unfolding itemsGiven sheetIn _>>=_ if_then_else_
   given-fault h = rw (ne-eqb (sheetFault s) 0 h)
 
-  given-short : sheetFault s ≡ 0 → length words < 1792 → itemsGiven s words ≡ refused (refuse 7)
+  given-short : sheetFault s ≡ 0 → length words < 1792 → itemsGiven s words ≡ refused (refuse 7 none)
   unfolding itemsGiven sheetIn sliceIn roomIn _>>=_ if_then_else_
   given-short e h = rw (eq-eqb (sheetFault s) 0 e, lt-leb 1792 (length words) h)
 
@@ -180,7 +180,7 @@ module _ (s words : List ℕ) (x : Raw) (r : Input) (g : Gives s words r) where
   pub state-fault : (r .number ≡ 0 → ⊥) → GivesState s words x (r .number)
   state-fault h = record { good = λ e. absurd (h e); bad = λ _. bind-refused (itemsGiven s words) _ (g .bad h) }
 
-  module _ (e : r .number ≡ 0) (b : Bool) (said : stateIn (r .count) x ≡ (if b then ok (fromRaw x) else refused (refuse 29))) where
+  module _ (e : r .number ≡ 0) (b : Bool) (said : stateIn (r .count) x ≡ (if b then ok (fromRaw x) else refused (refuse 29 none))) where
     table : HasTable s words (r .count)
     table = g .good e
 
@@ -225,19 +225,19 @@ on-table s words f =
     ∙ bind-bind (sheetIn s) (λ area. sliceIn 1792 words >>= λ l. itemsIn area l) f
 
 module _ {B : Type 0} (s words : List ℕ) (f : List Item → Outcome B) where
-  pub table-refused : (r : Input) → Gives s words r → (r .number ≡ 0 → ⊥) → onTable s words f ≡ refused (refuse (r .number))
+  pub table-refused : (r : Input) → Gives s words r → (r .number ≡ 0 → ⊥) → onTable s words f ≡ refused (refuse (r .number) none)
   table-refused r g h = on-table s words f ∙ bind-refused (itemsGiven s words) f (g .bad h)
 
   pub table-given : (n : ℕ) (t : HasTable s words n) → onTable s words f ≡ f (t .holds .items)
   table-given n t = on-table s words f ∙ bind-ok (itemsGiven s words) f (items-given s words n t)
 
 module _ {B : Type 0} (s words : List ℕ) (x : Raw) (f : List Item → State → Outcome B) where
-  pub state-refused : (n : ℕ) → GivesState s words x n → (n ≡ 0 → ⊥) → onTable s words (λ is. stateIn (length is) x >>= f is) ≡ refused (refuse n)
+  pub state-refused : (n : ℕ) → GivesState s words x n → (n ≡ 0 → ⊥) → onTable s words (λ is. stateIn (length is) x >>= f is) ≡ refused (refuse n none)
   unfolding _>>=_
   state-refused n g h = on-table s words _ ∙ go (itemsGiven s words) (g .bad h)
     where
-      go : (o : Outcome (List Item)) → (o >>= λ is. stateIn (length is) x) ≡ refused (refuse n)
-          → (o >>= λ is. stateIn (length is) x >>= f is) ≡ refused (refuse n)
+      go : (o : Outcome (List Item)) → (o >>= λ is. stateIn (length is) x) ≡ refused (refuse n none)
+          → (o >>= λ is. stateIn (length is) x >>= f is) ≡ refused (refuse n none)
       go (ok is) e = bind-refused (stateIn (length is) x) (f is) e
       go (refused d) e = cc
       go (fault d) e = absurd (let z : _≡_ {A = ℕ} 0 1 = cc in omega arith)

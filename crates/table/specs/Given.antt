@@ -1,4 +1,5 @@
 -- What a lent slice of records holds, and what a call on items is given.
+use mathlib.Core.Option.{none}
 use mathlib.Core.Bool.{true, false}
 use mathlib.Core.List.{List}
 use mathlib.Core.Path.{_≡_}
@@ -27,7 +28,7 @@ pub record Holds (area words : List ℕ) (n : ℕ) : Type 0 where
 
 pub record Checks (area words : List ℕ) (r : Checked) : Type 0 where
   pub good : r .good ≡ true → Holds area words (r .count)
-  pub bad : r .good ≡ false → itemsIn area words ≡ refused (refuse 30)
+  pub bad : r .good ≡ false → itemsIn area words ≡ refused (refuse 30 none)
 
 -- ---- the input of a call on items: 5, 6, 7, 30
 unfoldable pub itemsGiven : List ℕ → List ℕ → Outcome (List Item)
@@ -40,7 +41,7 @@ pub record HasTable (s words : List ℕ) (n : ℕ) : Type 0 where
 
 pub record Gives (s words : List ℕ) (r : Input) : Type 0 where
   pub good : r .number ≡ 0 → HasTable s words (r .count)
-  pub bad : (r .number ≡ 0 → ⊥) → itemsGiven s words ≡ refused (refuse (r .number))
+  pub bad : (r .number ≡ 0 → ⊥) → itemsGiven s words ≡ refused (refuse (r .number) none)
   pub nothing : (r .number ≡ 0 → ⊥) → r .count ≡ 0
 
 -- ---- and with a state over these items: 29
@@ -50,4 +51,4 @@ pub record HasState (s words : List ℕ) (x : Raw) : Type 0 where
 
 pub record GivesState (s words : List ℕ) (x : Raw) (r : ℕ) : Type 0 where
   pub good : r ≡ 0 → HasState s words x
-  pub bad : (r ≡ 0 → ⊥) → (itemsGiven s words >>= λ is. stateIn (length is) x) ≡ refused (refuse r)
+  pub bad : (r ≡ 0 → ⊥) → (itemsGiven s words >>= λ is. stateIn (length is) x) ≡ refused (refuse r none)

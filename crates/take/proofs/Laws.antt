@@ -19,7 +19,7 @@ use Rattle.rules.specs.Split as rules
 use Rattle.rules.specs.State.{present, parsed, presentAt, presentFrom, unused, inScope, get, findIn, find, first, remove, withCurrent, currentGood}
 use Rattle.rules.specs.Take.{took, valueText, takeValue, takeFlag, takeArg, isOperand, operand, takePositionalWord, isCommand, takeCommand, takeCmd, matchesArg}
 use Rattle.rules.specs.Calls.{fromRaw, itemFrom}
-use Rattle.rules.specs.Demands.{Good}
+use Rattle.rules.specs.Sound.{Good}
 use Rattle.rules.proofs.Acceptance.{lookup-some}
 use Rattle.rules.proofs.Places.{left}
 use Rattle.rules.proofs.StepLaws.{current-good}

@@ -6,7 +6,7 @@ use mathlib.Core.Path.{_≡_}
 use Prim.Native.Nat.{ℕ, suc, _≤_, _<_}
 use lib.Dec.{ltb}
 use lib.ListN.{length, getD}
-use Rattle.rules.specs.Outcome.{Outcome, ok, refused, refuseAt, _>>=_}
+use Rattle.rules.specs.Outcome.{Outcome, ok, refused, _>>=_, refuse}
 use Rattle.rules.specs.Tree.{Named}
 use Rattle.rules.specs.Split as rules
 use Rattle.rules.specs.State.{present, parsed, remove, withCurrent}
@@ -92,7 +92,7 @@ pub record UsesBoth (mark : ℕ) (m : List ℕ) (p : Numbers) (key : ℕ) (m′ 
 abbrev pub valueOf : List ℕ → List ℕ → Numbers → Value → Outcome (Took (Option Taken))
 valueOf area m p Missing = took none (stateOf m p)
 valueOf area m p (Value·Taken i t) = took (some (record { place = i; text = partBytes area t })) (stateOf m p)
-valueOf area m p (NoArgument i) = refused (refuseAt 22 i)
+valueOf area m p (NoArgument i) = refused (refuse 22 (some i))
 
 -- refusal 22
 abbrev pub refusedAt : ℕ → Numbers → Argument

@@ -73,7 +73,7 @@ module _ (b s words : List ℕ) (w : ℕ) where
       → which ≡ (if ltb w 256 then 0 else 1)
       → Tells l which o p x
       → PartOf b s words w x
-  unfolding asked refuse placeOf textSays partText if_then_else_
+  unfolding asked placeOf textSays partText if_then_else_
   part-told l which none p x said found el ew t = part-refused 28 0 (λ z. omega arith) said (found ∙ ap asked (t .0)) x (t .1)
   part-told l which (some t) p x said found el ew f =
       let held : sourceOf b s (x .source) ≡ l = ap (sourceOf b s) (f .source) ∙ el in
@@ -116,11 +116,11 @@ module _ (b s words : List ℕ) (w : ℕ) where
 
       module _ (g : Input) (given : Gives s words g) where
         -- 6, 5, 7 and 30
-        table-stops : {A : Type 0} (f : Accepted → List Item → Option A) → (g .number ≡ 0 → ⊥) → onWord f ≡ refused (refuse (g .number))
+        table-stops : {A : Type 0} (f : Accepted → List Item → Option A) → (g .number ≡ 0 → ⊥) → onWord f ≡ refused (refuse (g .number) none)
         table-stops f y = goes-on f ∙ table-refused s words (λ is. asked (f (passed .0) is)) g given y
 
         pub table-refuses : (g .number ≡ 0 → ⊥) → (x : TextPart) → x ≡ refusedPart (g .number) 0 → PartOf b s words w x
-        unfolding callText callPart refuse placeOf if_then_else_
+        unfolding callText callPart placeOf if_then_else_
         table-refuses y = part-refused (g .number) 0 y (table-stops (wordText w) y) (table-stops (wordPart b s words w) y)
 
         module _ (y : g .number ≡ 0) where

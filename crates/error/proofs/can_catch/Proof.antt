@@ -1,4 +1,5 @@
 -- The two that follow each other are tested as a range. Assumes nothing.
+use mathlib.Core.Option.{none}
 use mathlib.Core.Path.{sym, ap}
 use Prim.Native.Nat.{ℕ}
 use native.Mathlib.Omega.{arith}
@@ -15,8 +16,8 @@ returns-2 : tie.Need-returns-2
 returns-2 c = sym (not-caught _ (λ e. omega arith) (λ e. omega arith) (λ e. omega arith))
 
 returns-3 : tie.Need-returns-3
-unfolding canCatch contains refuse
-returns-3 c = ap (λ (n : ℕ). canCatch (refuse n)) (sym (c .match .keys1))
+unfolding canCatch contains
+returns-3 c = ap (λ (n : ℕ). canCatch (refuse n none)) (sym (c .match .keys1))
 
 returns-4 : tie.Need-returns-4
 returns-4 c = sym (caught _ (omega arith) (omega arith))

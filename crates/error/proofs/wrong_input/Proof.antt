@@ -1,4 +1,5 @@
 -- The three that follow each other are tested as a range. Assumes nothing.
+use mathlib.Core.Option.{none}
 use mathlib.Core.Path.{sym, ap}
 use mathlib.Core.Logic.{⊎-elim, inl, inr}
 use Prim.Native.Nat.{ℕ}
@@ -32,11 +33,11 @@ returns-2 c =
     (λ e. c .before .before .match .rest .1 (inr (sym e))))
 
 returns-3 : tie.Need-returns-3
-unfolding wrongInput contains refuse
+unfolding wrongInput contains
 returns-3 c =
     ⊎-elim
-    (λ e. ap (λ (n : ℕ). wrongInput (refuse n)) (sym e))
-    (λ e. ap (λ (n : ℕ). wrongInput (refuse n)) (sym e))
+    (λ e. ap (λ (n : ℕ). wrongInput (refuse n none)) (sym e))
+    (λ e. ap (λ (n : ℕ). wrongInput (refuse n none)) (sym e))
     (c .match .keys1)
 
 returns-4 : tie.Need-returns-4

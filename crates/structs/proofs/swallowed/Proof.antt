@@ -16,14 +16,14 @@ unfolding swallowed
 returns c = rw (← c .before .catches .ensures, c .if1 .taken)
 
 returns-2 : tie.Need-returns-2
-unfolding swallowed isMissing refuse withRemaining if_then_else_
+unfolding swallowed isMissing withRemaining if_then_else_
 returns-2 c = rw (← c .before .before .catches .ensures, c .before .if1 .left, eq-eqb _ _ (c .if2 .taken))
 
 can-catch-requires : tie.Need-can-catch-requires
 can-catch-requires c κs = search needs
 
 returns-3 : tie.Need-returns-3
-unfolding swallowed isMissing refuse withRemaining if_then_else_
+unfolding swallowed isMissing withRemaining if_then_else_
 returns-3 c = rw (← c .before .before .before .catches .ensures, c .before .before .if1 .left, ne-eqb _ _ (c .before .if2 .left), c .can-catch .ensures)
 
 pub swallowed-spec : {M : Type 1} → statement M
