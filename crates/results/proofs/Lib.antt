@@ -4,4 +4,5 @@ pub mod Fallbacks
 pub mod Guards
 pub mod Choices
 pub mod Alone
+pub mod Unchanged
 pub mod Words

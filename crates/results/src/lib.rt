@@ -7,6 +7,7 @@ ghost use Rattle.rules.specs.Value.{BaseValue, word};
 ghost use Rattle.rules.specs.Tree.{Tree, Fallback as FallbackTree};
 ghost use Rattle.outcome.specs.Nodes.{treeAt};
 ghost use Rattle.results.specs.Made.{valueOf, refusalOf, missingOf, Given, Undone, OptionalOf, Returned, FallbackOf, Unchanged, GuardOf, Sides, ChoiceOf, endedOf, wonOf, Decided, wonMarks, Marked, WinnerOf, FallbackAt};
+ghost use Rattle.results.specs.Unchanged.{optionalMade, fallbackMade, firstMade, secondMade};
 use outcome::Ran;
 use state::Numbers;
 use structs::Counting;
@@ -89,6 +90,7 @@ pub fn optional(
 // What an optional makes of its child's result, where an absent child left the marks as they were.
 pub fn optional_unchanged(ran: Ran, p: Numbers, catch: bool) -> Optioned
     requires { ⌜ ran .len < 1000 ⌝ }
+    ensures { λ r. ⌜ r ≡ optionalMade catch p ran ⌝ }
     ensures { λ r. ⌜ ((before m : List ℕ) → Given before p m ran → Undone catch before p m ran → OptionalOf catch before p ran m m r) ⌝ }
 {
     let left = ran.numbers;
@@ -128,6 +130,7 @@ pub fn fallback(ran: Ran, p: Numbers, word: u32, before: &[u16; 256], marks: &mu
 
 // What a fallback makes of its child's result, where a refused child left the marks as they were.
 pub fn fallback_unchanged(ran: Ran, p: Numbers, word: u32) -> Ran
+    ensures { λ r. ⌜ r ≡ fallbackMade word p ran ⌝ }
     ensures { λ r. ⌜ ((before m : List ℕ) → Returned before p m ran → Unchanged before m ran → FallbackOf word before p ran m m r) ⌝ }
 {
     match structs::parse_fallback(ran.number) {
@@ -277,6 +280,7 @@ pub fn choose(
 // What a choice makes of its first side, where the second is missing and a refused first side left the marks as they were.
 pub fn first_alone(ran: Ran, p: Numbers) -> Chosen
     requires { ⌜ ran .tries + 1 < 2 ^ 32 ⌝ }
+    ensures { λ r. ⌜ r ≡ firstMade p ran ⌝ }
     ensures { λ r. ⌜ ((before m : List ℕ) → Sides before p m ran before (missingOf p) → Unchanged before m ran → ChoiceOf before p m ran before (missingOf p) m r) ⌝ }
 {
     let tries = ran.tries + 1;
@@ -302,6 +306,7 @@ pub fn first_alone(ran: Ran, p: Numbers) -> Chosen
 // The same of its second side, where the first is missing.
 pub fn second_alone(ran: Ran, p: Numbers) -> Chosen
     requires { ⌜ ran .tries + 1 < 2 ^ 32 ⌝ }
+    ensures { λ r. ⌜ r ≡ secondMade p ran ⌝ }
     ensures { λ r. ⌜ ((before m : List ℕ) → Sides before p before (missingOf p) m ran → Unchanged before m ran → ChoiceOf before p before (missingOf p) m ran m r) ⌝ }
 {
     let tries = ran.tries + 1;

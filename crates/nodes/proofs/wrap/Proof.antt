@@ -23,7 +23,7 @@ optional-unchanged-requires : tie.Need-optional-unchanged-requires
 optional-unchanged-requires c κs = c .before .before .before .before .before .before .pre .short (c .before .before .before .before .if1 .left)
 
 returns-3 : tie.Need-returns-3
-returns-3 c = optional-hands _ _ _ _ _ (c .before .before .before .before .before .before .before .before .pre) (c .before .before .before .before .before .before .if1 .left) _ (c .before .before .before .before .before .node-at .ensures) (c .before .before .before .if2 .left) _ (c .before .optional-unchanged .ensures)
+returns-3 c = optional-hands _ _ _ _ _ (c .before .before .before .before .before .before .before .before .pre) (c .before .before .before .before .before .before .if1 .left) _ (c .before .before .before .before .before .node-at .ensures) (c .before .before .before .if2 .left) _ (c .before .optional-unchanged .ensures .1)
 
 pub wrap-spec : {M : Type 1} → statement M
 wrap-spec =

@@ -1,6 +1,7 @@
 -- By what `parse_fallback` decides. Assumes nothing.
 use borrow.Author.Needs.{needs}
 use Rattle.results.proofs.Fallbacks.{unchanged-child, unchanged-own, unchanged-passed}
+use Rattle.results.proofs.Unchanged.{made-child, made-own, made-refusal}
 use Rattle.results.proofs.fallback_unchanged.Statement.{statement}
 use Rattle.results.proofs.fallback_unchanged.Tie as tie
 
@@ -23,13 +24,13 @@ refusal-requires : tie.Need-refusal-requires
 refusal-requires c κs = search needs
 
 returns : tie.Need-returns
-returns c = search unchanged-child
+returns c = (search made-child, search unchanged-child)
 
 returns-2 : tie.Need-returns-2
-returns-2 c = search unchanged-own
+returns-2 c = (search made-own, search unchanged-own)
 
 returns-3 : tie.Need-returns-3
-returns-3 c = search unchanged-passed
+returns-3 c = (search made-refusal, search unchanged-passed)
 
 pub fallback-unchanged-spec : {M : Type 1} → statement M
 fallback-unchanged-spec =

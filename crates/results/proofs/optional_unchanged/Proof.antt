@@ -1,6 +1,7 @@
 -- By what `parse_option` decides. Assumes nothing.
 use borrow.Author.Needs.{needs}
 use Rattle.results.proofs.Optionals.{unchanged-present, unchanged-absent, unchanged-passed}
+use Rattle.results.proofs.Unchanged.{made-absent, made-passed, made-present}
 use Rattle.results.proofs.optional_unchanged.Statement.{statement}
 use Rattle.results.proofs.optional_unchanged.Tie as tie
 
@@ -26,13 +27,13 @@ value-requires-2 : tie.Need-value-requires-2
 value-requires-2 c κs = search needs
 
 returns : tie.Need-returns
-returns c = search unchanged-absent
+returns c = (search made-absent, search unchanged-absent)
 
 returns-2 : tie.Need-returns-2
-returns-2 c = search unchanged-passed
+returns-2 c = (search made-passed, search unchanged-passed)
 
 returns-3 : tie.Need-returns-3
-returns-3 c = search unchanged-present
+returns-3 c = (search made-present, search unchanged-present)
 
 pub optional-unchanged-spec : {M : Type 1} → statement M
 optional-unchanged-spec =

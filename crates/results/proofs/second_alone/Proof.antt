@@ -1,6 +1,7 @@
 -- By whether the side has a value. Assumes nothing.
 use borrow.Author.Needs.{needs}
 use Rattle.results.proofs.Alone.{second-alone-won, second-alone-refused}
+use Rattle.results.proofs.Unchanged.{made-second, made-second-refused}
 use Rattle.results.proofs.second_alone.Statement.{statement}
 use Rattle.results.proofs.second_alone.Tie as tie
 
@@ -11,7 +12,7 @@ won-requires : tie.Need-won-requires
 won-requires c κs = search needs
 
 returns : tie.Need-returns
-returns c = search second-alone-won
+returns c = (search made-second, search second-alone-won)
 
 ended-requires : tie.Need-ended-requires
 ended-requires c κs = search needs
@@ -23,7 +24,7 @@ refusal-requires : tie.Need-refusal-requires
 refusal-requires c κs = search needs
 
 returns-2 : tie.Need-returns-2
-returns-2 c = search second-alone-refused
+returns-2 c = (search made-second-refused, search second-alone-refused)
 
 pub second-alone-spec : {M : Type 1} → statement M
 second-alone-spec =

@@ -16,7 +16,7 @@ pub run-choice-first-alone-requires : (t : ℕ) → run-choice-lts.Need-first-al
 run-choice-first-alone-requires t c κs = first-few _ _ _ _ _ _ _ _ _ (c .before .before .before .before .before .before .before .before .pre .1) (c .before .before .before .alone .ensures .1 (c .before .before .if1 .taken)) _ _ (c .run-node .ensures)
 
 pub run-choice-returns : (t : ℕ) → run-choice-lts.Need-returns (run-choice-calls t) (run-choice-at t) run-choice.Post
-run-choice-returns t c = first-ends _ _ _ _ _ _ _ _ _ (c .before .before .before .before .before .before .before .before .before .before .pre .1) (c .before .before .before .before .before .alone .ensures .1 (c .before .before .before .before .if1 .taken)) _ _ (c .before .before .run-node .ensures) _ (c .before .first-alone .ensures)
+run-choice-returns t c = first-ends _ _ _ _ _ _ _ _ _ (c .before .before .before .before .before .before .before .before .before .before .pre .1) (c .before .before .before .before .before .alone .ensures .1 (c .before .before .before .before .if1 .taken)) _ _ (c .before .before .run-node .ensures) _ (c .before .first-alone .ensures .1)
 
 pub run-choice-alone-requires-2 : (t : ℕ) → run-choice-lts.Need-alone-requires-2 (run-choice-calls t) (run-choice-at t) run-choice.Post
 run-choice-alone-requires-2 t c κs = (searchable _ _ _ _ _ _ _ _ (c .before .before .before .before .before .before .pre .1 .second), searchable _ _ _ _ _ _ _ _ (c .before .before .before .before .before .before .pre .1 .first))
@@ -28,7 +28,7 @@ pub run-choice-second-alone-requires : (t : ℕ) → run-choice-lts.Need-second-
 run-choice-second-alone-requires t c κs = second-few _ _ _ _ _ _ _ _ _ (c .before .before .before .before .before .before .before .before .before .before .pre .1) (c .before .before .before .alone2 .ensures .1 (c .before .before .if2 .taken)) _ _ (c .run-node2 .ensures)
 
 pub run-choice-returns-2 : (t : ℕ) → run-choice-lts.Need-returns-2 (run-choice-calls t) (run-choice-at t) run-choice.Post
-run-choice-returns-2 t c = second-ends _ _ _ _ _ _ _ _ _ (c .before .before .before .before .before .before .before .before .before .before .before .before .pre .1) (c .before .before .before .before .before .alone2 .ensures .1 (c .before .before .before .before .if2 .taken)) _ _ (c .before .before .run-node2 .ensures) _ (c .before .second-alone .ensures)
+run-choice-returns-2 t c = second-ends _ _ _ _ _ _ _ _ _ (c .before .before .before .before .before .before .before .before .before .before .before .before .pre .1) (c .before .before .before .before .before .alone2 .ensures .1 (c .before .before .before .before .if2 .taken)) _ _ (c .before .before .run-node2 .ensures) _ (c .before .second-alone .ensures .1)
 
 pub run-choice-choice-by-copy-requires : (t : ℕ) → run-choice-lts.Need-choice-by-copy-requires (run-choice-calls t) (run-choice-at t) run-choice.Post
 run-choice-choice-by-copy-requires t c κs = (omega (arith, c .before .before .before .before .before .before .before .before .before .pre .0), c .before .before .before .before .before .before .before .before .before .pre .1)

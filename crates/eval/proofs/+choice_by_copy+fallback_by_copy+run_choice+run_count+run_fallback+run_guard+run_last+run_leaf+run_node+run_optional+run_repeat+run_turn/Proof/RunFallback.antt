@@ -24,7 +24,7 @@ pub run-fallback-fallback-unchanged-requires : (t : ℕ) → run-fallback-lts.Ne
 run-fallback-fallback-unchanged-requires t c κs = search needs
 
 pub run-fallback-returns-2 : (t : ℕ) → run-fallback-lts.Need-returns-2 (run-fallback-calls t) (run-fallback-at t) run-fallback.Post
-run-fallback-returns-2 t c = fallback-stays _ _ _ _ _ _ _ _ _ (c .before .before .before .before .before .before .before .before .before .before .before .before .pre .1) (c .before .before .before .before .before .before .before .stays .ensures .1 (c .before .before .before .before .before .before .if1 .taken)) _ _ (c .before .before .before .before .run-node .ensures) _ (c .before .fallback-word .ensures) _ (c .fallback-unchanged .ensures)
+run-fallback-returns-2 t c = fallback-stays _ _ _ _ _ _ _ _ _ (c .before .before .before .before .before .before .before .before .before .before .before .before .pre .1) (c .before .before .before .before .before .before .before .stays .ensures .1 (c .before .before .before .before .before .before .if1 .taken)) _ _ (c .before .before .before .before .run-node .ensures) _ (c .before .fallback-word .ensures) _ (c .fallback-unchanged .ensures .1)
 
 pub run-fallback-fallback-by-copy-requires : (t : ℕ) → run-fallback-lts.Need-fallback-by-copy-requires (run-fallback-calls t) (run-fallback-at t) run-fallback.Post
 run-fallback-fallback-by-copy-requires t c κs = (omega (arith, c .before .before .before .before .before .before .before .pre .0), c .before .before .before .before .before .before .before .pre .1)

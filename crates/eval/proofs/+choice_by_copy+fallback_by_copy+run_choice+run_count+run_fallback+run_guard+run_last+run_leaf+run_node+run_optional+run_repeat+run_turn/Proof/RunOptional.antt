@@ -26,4 +26,4 @@ pub run-optional-optional-unchanged-requires : (t : ℕ) → run-optional-lts.Ne
 run-optional-optional-unchanged-requires t c κs = optional-short _ _ _ _ _ _ _ _ _ (c .before .before .before .before .before .before .before .before .pre .1) _ (c .before .before .before .keeps-marks .ensures) (c .before .before .if1 .left) _ _ (c .run-node2 .ensures)
 
 pub run-optional-returns-2 : (t : ℕ) → run-optional-lts.Need-returns-2 (run-optional-calls t) (run-optional-at t) run-optional.Post
-run-optional-returns-2 t c = optional-unchanged _ _ _ _ _ _ _ _ _ (c .before .before .before .before .before .before .before .before .before .before .pre .1) _ (c .before .before .before .before .before .keeps-marks .ensures) (c .before .before .before .before .if1 .left) _ _ (c .before .before .run-node2 .ensures) _ (c .before .optional-unchanged .ensures)
+run-optional-returns-2 t c = optional-unchanged _ _ _ _ _ _ _ _ _ (c .before .before .before .before .before .before .before .before .before .before .pre .1) _ (c .before .before .before .before .before .keeps-marks .ensures) (c .before .before .before .before .if1 .left) _ _ (c .before .before .run-node2 .ensures) _ (c .before .optional-unchanged .ensures .1)
