@@ -4,8 +4,8 @@ use mathlib.Core.Path.{_≡_, refl, sym, _∙_, ap}
 use Prim.Native.Nat.{ℕ, suc, _+_, _-_, _*_, _^_, _≤_, _<_}
 use native.Mathlib.Omega.{arith}
 use native.Mathlib.Numerals.{add-one}
-use lib.ListN.{length, take, getD, set, length-set, length-append}
-use lib.Seq.{take-suc, take-suc-set, take-all}
+use lib.ListN.{length, take, drop, getD, set, length-set, length-append}
+use lib.Seq.{take-suc, take-suc-set, take-all, drop-drop, drop-set-lt}
 use Rattle.io.specs.Counts.{Counts}
 use Rattle.io.specs.Digits.{digits, Fewest}
 use Rattle.utf8.specs.Utf8.{if_then_else_}
@@ -16,9 +16,14 @@ use Rattle.rules.proofs.CodeLaws.{place-some}
 use Rattle.bench.specs.Text.{Appends, lineText}
 use Rattle.bench.proofs.Decimal.{digits-decimal, ten-digits}
 
+-- lists that are alike from n on are alike further on
+drop-more : (k n : ℕ) (l m : List ℕ) → drop n l ≡ drop n m → drop (n + k) l ≡ drop (n + k) m
+drop-more k n l m e = sym (drop-drop k n l) ∙ ap (drop k) e ∙ drop-drop k n m
+
 -- i bytes of s are written
 pub record Copied (o : List ℕ) (at : ℕ) (s o′ : List ℕ) (i : ℕ) : Type 0 where
   pub text : take (at + i) o′ ≡ take at o ++ take i s
+  pub rest : drop (at + i) o′ ≡ drop (at + i) o
   pub long : length o′ ≡ length o
   pub below : i ≤ length s
 
@@ -26,6 +31,7 @@ module _ (o : List ℕ) (at : ℕ) (s : List ℕ) (fits : at + length s ≤ leng
   pub none-copied : Copied o at s o 0
   none-copied = record {
     text = let e : at + 0 ≡ at = omega arith in rw e (sym (append-nil (take at o)));
+    rest = refl;
     long = refl;
     below = omega arith;
   }
@@ -39,6 +45,8 @@ module _ (o : List ℕ) (at : ℕ) (s : List ℕ) (fits : at + length s ≤ leng
           ∙ ap (λ (t : List ℕ). t ++ (getD s i 0 ∷ [])) (h .text)
           ∙ append-assoc (take at o) (take i s) (getD s i 0 ∷ [])
           ∙ ap (λ (t : List ℕ). take at o ++ t) (sym (take-suc s i 0 l)));
+      rest = let e : at + (i + 1) ≡ at + i + 1 = omega arith in
+          drop-set-lt (at + (i + 1)) o′ (at + i) (getD s i 0) (omega arith) ∙ rw e (drop-more 1 (at + i) o′ o (h .rest));
       long = length-set o′ (at + i) (getD s i 0) ∙ h .long;
       below = omega arith;
     }
@@ -49,6 +57,7 @@ module _ (o : List ℕ) (at : ℕ) (s : List ℕ) (fits : at + length s ≤ leng
         let long = h .long in
         record {
           text = h .text ∙ rw (take-all i s l);
+          rest = h .rest;
           size = omega arith;
           inside = omega arith;
         }
@@ -56,11 +65,12 @@ module _ (o : List ℕ) (at : ℕ) (s : List ℕ) (fits : at + length s ≤ leng
 -- ---- text behind text
 module _ (o : List ℕ) (at : ℕ) where
   pub appends-none : at ≤ length o → Appends o at o at []
-  appends-none h = record { text = sym (append-nil (take at o)); size = omega arith; inside = h }
+  appends-none h = record { text = sym (append-nil (take at o)); rest = refl; size = omega arith; inside = h }
 
   pub appends-more : (o₁ : List ℕ) (e₁ : ℕ) (p : List ℕ) → Appends o at o₁ e₁ p → (o₂ : List ℕ) (e₂ : ℕ) (q : List ℕ) → Appends o₁ e₁ o₂ e₂ q → Appends o at o₂ e₂ (p ++ q)
   appends-more o₁ e₁ p g o₂ e₂ q h = record {
     text = h .text ∙ ap (λ (t : List ℕ). t ++ q) (g .text) ∙ append-assoc (take at o) p q;
+    rest = h .rest ∙ rw (h .size) (drop-more (length q) e₁ o₁ o (g .rest));
     size = omega (arith, g .size, h .size, length-append p q);
     inside = h .inside;
   }

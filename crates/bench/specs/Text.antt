@@ -3,12 +3,13 @@ use mathlib.Core.List.{List, [], _∷_, _++_}
 use mathlib.Core.Option.{Option}
 use mathlib.Core.Path.{_≡_}
 use Prim.Native.Nat.{ℕ, _+_, _≤_}
-use lib.ListN.{length, take}
+use lib.ListN.{length, take, drop}
 use Rattle.rules.specs.Bench.{decimal, placeText}
 
--- the text in o up to at, and behind it part, which ends at end
+-- the text in o up to at, and behind it part, which ends at end; what stands behind that is as it was
 pub record Appends (o : List ℕ) (at : ℕ) (o′ : List ℕ) (end : ℕ) (part : List ℕ) : Type 0 where
   pub text : take end o′ ≡ take at o ++ part
+  pub rest : drop end o′ ≡ drop end o
   pub size : end ≡ at + length part
   pub inside : end ≤ length o′
 
