@@ -15,7 +15,7 @@ const SPECS: [(&str, &[&str]); 3] = [
     (
         "rules",
         &[
-            "Base", "Outcome", "Value", "Sheet", "Form", "Tree", "Accept", "Split", "State", "Take", "Eval", "Run", "Bench",
+            "Base", "Outcome", "Value", "Sheet", "Form", "Tree", "Accept", "Split", "State", "Take", "Eval", "Given", "Run", "Bench",
         ],
     ),
 ];
