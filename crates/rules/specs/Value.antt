@@ -49,7 +49,7 @@ baseOf (isYes b) = yesNo
 baseOf (isText t) = text
 baseOf (isNumber n) = number
 
--- A value has the shape of a kind. What its numbers and texts mean is in Kinds
+-- A value has the shape of a kind. What its numbers and texts mean is said in Demands
 unfoldable pub isBase : Base → Value → Bool
 isBase b (base v) = sameBase b (baseOf v)
 isBase b absent = false
