@@ -16,15 +16,15 @@ use Rattle.rules.specs.Split.{Item}
 use Rattle.rules.specs.Calls.{itemFrom, callGet, callSplit, callEval}
 use Rattle.rules.specs.declared.State.{State}
 use Rattle.rules.proofs.CodeLaws.{code-place}
-use Rattle.answers.specs.Answers.{coded, codedOr0, answerWith, answerOf}
-use Rattle.answers.specs.declared.Answer.{Answer}
-use Rattle.answers.specs.declared.StateAnswer.{StateAnswer}
-use Rattle.item_calls.specs.Calls.{gotOf, gotWords, Gets}
-use Rattle.item_calls.specs.declared.Got.{Got}
-use Rattle.node_call.specs.Node.{evaluatedAnswer}
-use Rattle.node_call.specs.declared.NodeAnswer.{NodeAnswer}
-use Rattle.reader.specs.Reader.{splittingOf}
-use Rattle.reader.specs.declared.SplitAnswer.{SplitAnswer}
+use Rattle.call_answers.specs.Answers.{coded, codedOr0, answerWith, answerOf}
+use Rattle.call_answers.specs.declared.Answer.{Answer}
+use Rattle.call_answers.specs.declared.StateAnswer.{StateAnswer}
+use Rattle.call_item.specs.Calls.{gotOf, gotWords, Gets}
+use Rattle.call_item.specs.declared.Got.{Got}
+use Rattle.call_node.specs.Node.{evaluatedAnswer}
+use Rattle.call_node.specs.declared.NodeAnswer.{NodeAnswer}
+use Rattle.call_check.specs.Reader.{splittingOf}
+use Rattle.call_check.specs.declared.SplitAnswer.{SplitAnswer}
 use Rattle.tokens.specs.declared.call.Call.{Call}
 use Rattle.tokens.specs.declared.call.Layout.{Layout}
 use Rattle.tokens.specs.Compare.{Follows, WordsFollow, StateFollows, refusalText, spaced, stateText}

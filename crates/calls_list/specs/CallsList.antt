@@ -12,13 +12,13 @@ use Rattle.rules.specs.Split.{Item}
 use Rattle.rules.specs.Tree.{zeros}
 use Rattle.rules.specs.Calls.{callSplit, callRemove, callPickWinner, callSaveConflicts, callSetScope, callAdjacentScope, callAvailableFrom, callGet, callConflict, callTakePositional, callOnlyOnce, callMatches, callTakeFlag, callTakeArg, callTakeCmd, callEval}
 use Rattle.rules.specs.declared.State.{State}
-use Rattle.answers.specs.Answers.{Coded, coded, yesCode, pickCode, scopeCode, scopeOrNone, conflictCode, takenCode, operandCode, placeOrNone, answerWith, answerOf, plainAnswer, stateAnswerOf}
-use Rattle.answers.specs.declared.Answer.{Answer}
-use Rattle.answers.specs.declared.StateAnswer.{StateAnswer}
-use Rattle.node_call.specs.Node.{evaluatedAnswer}
-use Rattle.node_call.specs.declared.NodeAnswer.{NodeAnswer}
-use Rattle.reader.specs.Reader.{splittingOf}
-use Rattle.reader.specs.declared.SplitAnswer.{SplitAnswer}
+use Rattle.call_answers.specs.Answers.{Coded, coded, yesCode, pickCode, scopeCode, scopeOrNone, conflictCode, takenCode, operandCode, placeOrNone, answerWith, answerOf, plainAnswer, stateAnswerOf}
+use Rattle.call_answers.specs.declared.Answer.{Answer}
+use Rattle.call_answers.specs.declared.StateAnswer.{StateAnswer}
+use Rattle.call_node.specs.Node.{evaluatedAnswer}
+use Rattle.call_node.specs.declared.NodeAnswer.{NodeAnswer}
+use Rattle.call_check.specs.Reader.{splittingOf}
+use Rattle.call_check.specs.declared.SplitAnswer.{SplitAnswer}
 use Rattle.tokens.specs.declared.call.Call.{Call}
 use Rattle.tokens.specs.declared.call.Call.the-variants.{Remove, PickWinner, SaveConflicts, SetScope, AdjacentScope, AvailableFrom, Get, Conflict, TakePositional, OnlyOnce, MatchesArg, TakeFlag, TakeArg, TakeCmd}
 use Rattle.tokens.specs.Compare.{refusalText, spaced, wordsText, stateText}

@@ -4,11 +4,11 @@
 ghost use mathlib.Core.Path.{_≡_};
 ghost use mathlib.Core.Bool.{true};
 ghost use mathlib.Core.Option.{some};
-ghost use Rattle.answers.specs.Answers.{coded, answerWith, answerOf};
+ghost use Rattle.call_answers.specs.Answers.{coded, answerWith, answerOf};
 ghost use Rattle.rules.specs.Calls.{callGet};
 ghost use Rattle.calls_list.specs.CallsList.{stated, shown, foundCode, outsideIsNone, callAnswer, CallTold, EvalTold, Said, CallsTold, CallsLine};
-use answers::Answer;
-use answers::StateAnswer;
+use call_answers::Answer;
+use call_answers::StateAnswer;
 use rules::State;
 use tokens::call;
 use tokens::call::Call;
@@ -65,7 +65,7 @@ fn answer(number: u32, place: u32, found: u32) -> Answer
 fn get(sheet: &[u8], items: &[u32], s: State, place: usize) -> Answer
     ensures { λ r. ⌜ outsideIsNone (answerOf foundCode (callGet (now (sheet .entry)) (now (items .entry)) s place)) ≡ some r ⌝ }
 {
-    let got = item_calls::get(sheet, items, s, place);
+    let got = call_item::get(sheet, items, s, place);
     if got.number == 28 {
         return answer(0, 0, 0);
     }
@@ -89,20 +89,20 @@ fn call_answer(
     ensures { λ r. ⌜ callAnswer (now (form .entry)) (now (sheet .entry)) (now (items .entry)) call s t m n ≡ some r ⌝ }
 {
     match call {
-        Call::Remove => state_calls::remove(s, m),
-        Call::PickWinner => with_state(state_calls::pick_winner(s, t), s),
-        Call::SaveConflicts => state_calls::save_conflicts(s, t, n),
-        Call::SetScope => state_calls::set_scope(s, m, n),
-        Call::AdjacentScope => with_state(state_calls::adjacent_scope(s, t), s),
-        Call::AvailableFrom => with_state(state_calls::adjacently_available_from(s, m), s),
+        Call::Remove => call_state::remove(s, m),
+        Call::PickWinner => with_state(call_state::pick_winner(s, t), s),
+        Call::SaveConflicts => call_state::save_conflicts(s, t, n),
+        Call::SetScope => call_state::set_scope(s, m, n),
+        Call::AdjacentScope => with_state(call_state::adjacent_scope(s, t), s),
+        Call::AvailableFrom => with_state(call_state::adjacently_available_from(s, m), s),
         Call::Get => with_state(get(sheet, items, s, m), s),
-        Call::Conflict => with_state(item_calls::conflict(sheet, items, s), s),
-        Call::TakePositional => item_calls::take_positional_word(sheet, items, s),
-        Call::OnlyOnce => with_state(item_calls::only_once(sheet, items, m), s),
-        Call::MatchesArg => with_state(form_calls::matches_arg(form, sheet, items, s, m, n), s),
-        Call::TakeFlag => form_calls::take_flag(form, sheet, items, s, m),
-        Call::TakeArg => form_calls::take_arg(form, sheet, items, s, m),
-        Call::TakeCmd => form_calls::take_cmd(form, sheet, items, s, m),
+        Call::Conflict => with_state(call_item::conflict(sheet, items, s), s),
+        Call::TakePositional => call_item::take_positional_word(sheet, items, s),
+        Call::OnlyOnce => with_state(call_item::only_once(sheet, items, m), s),
+        Call::MatchesArg => with_state(call_form::matches_arg(form, sheet, items, s, m, n), s),
+        Call::TakeFlag => call_form::take_flag(form, sheet, items, s, m),
+        Call::TakeArg => call_form::take_arg(form, sheet, items, s, m),
+        Call::TakeCmd => call_form::take_cmd(form, sheet, items, s, m),
     }
 }
 
@@ -139,7 +139,7 @@ fn eval_matches(form: &[u8], sheet: &[u8], items: &[u32], given: State, text: &[
 {
     let mut answers = slices::answer_slice();
     let node = read::word_at(text, read::next_token(text, 0));
-    let ours = node_call::eval(form, sheet, items, &mut answers, given, size(node.value));
+    let ours = call_node::eval(form, sheet, items, &mut answers, given, size(node.value));
     let left = ours.state;
     let name = compare::after_text(text, 0, b"eval");
     let argument = compare::after_word(text, name, node.value);
@@ -166,7 +166,7 @@ fn answers_match(form: &[u8], sheet: &[u8], text: &[u8]) -> bool
     ensures { λ r. ⌜ (r ≡ true → CallsTold (now (form .entry)) (now (sheet .entry)) (now (text .entry))) ⌝ }
 {
     let mut items = slices::item_slice();
-    reader::split(form, sheet, &mut items);
+    call_check::split(form, sheet, &mut items);
     let from = compare::after_text(text, 0, b" ; ");
     let given = read::read_state(text, from);
     let state = compare::after_state(text, from, given);

@@ -11,11 +11,11 @@ use Rattle.rules.specs.Outcome.{ok}
 use Rattle.rules.specs.Calls.{callSplit}
 use Rattle.rules.specs.Run.{run}
 use Rattle.rules.specs.declared.Refused.{Refused}
-use Rattle.reader.specs.Reader.{splittingOf}
-use Rattle.reader.specs.declared.SplitAnswer.{SplitAnswer}
-use Rattle.runner.specs.Runner.{runAnswer, ended}
-use Rattle.runner.specs.declared.RunAnswer.{RunAnswer}
-use Rattle.text.specs.Text.{TextOf}
+use Rattle.call_check.specs.Reader.{splittingOf}
+use Rattle.call_check.specs.declared.SplitAnswer.{SplitAnswer}
+use Rattle.run.specs.Runner.{runAnswer, ended}
+use Rattle.run.specs.declared.RunAnswer.{RunAnswer}
+use Rattle.call_text.specs.Text.{TextOf}
 use Rattle.tokens.specs.Compare.{Follows, WordsFollow, StateFollows, refusalText, spaced, stateText, hexText}
 use Rattle.tokens.proofs.Standing.{joined}
 use Rattle.tokens.specs.Laws.{alone}

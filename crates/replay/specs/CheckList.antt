@@ -7,7 +7,7 @@ use Rattle.rules.specs.Sheet.{sheetFault}
 use Rattle.rules.specs.Accept.{checkForm}
 use Rattle.rules.specs.Codes.{checkCode}
 use Rattle.rules.specs.declared.Refused.{Refused}
-use Rattle.reader.specs.Reader.{sheetCode}
+use Rattle.call_check.specs.Reader.{sheetCode}
 use Prim.Native.Nat.{ℕ}
 use Rattle.tokens.specs.Compare.{refusalText}
 use Rattle.tokens.specs.Inputs.{Headed}

@@ -7,8 +7,8 @@ use lib.ListN.{take, drop}
 use Rattle.rules.specs.Outcome.{ok}
 use Rattle.rules.specs.Tree.{zeros}
 use Rattle.rules.specs.Calls.{callSplit}
-use Rattle.reader.specs.Reader.{splittingOf}
-use Rattle.reader.specs.declared.SplitAnswer.{SplitAnswer}
+use Rattle.call_check.specs.Reader.{splittingOf}
+use Rattle.call_check.specs.declared.SplitAnswer.{SplitAnswer}
 use Rattle.tokens.specs.Compare.{refusalText, stateText, wordsText}
 use Rattle.tokens.specs.Inputs.{Headed}
 

@@ -4,9 +4,9 @@ use mathlib.Core.List.{List, _∷_, _++_}
 use Prim.Native.Nat.{ℕ}
 use Rattle.rules.specs.Outcome.{ok}
 use Rattle.rules.specs.Calls.{callSplit}
-use Rattle.reader.specs.Reader.{splittingOf}
-use Rattle.reader.specs.declared.SplitAnswer.{SplitAnswer}
-use Rattle.text.specs.Text.{TextOf}
+use Rattle.call_check.specs.Reader.{splittingOf}
+use Rattle.call_check.specs.declared.SplitAnswer.{SplitAnswer}
+use Rattle.call_text.specs.Text.{TextOf}
 use Rattle.tokens.specs.Compare.{spaced, refusalText, hexText}
 use Rattle.tokens.specs.Inputs.{Headed}
 

@@ -11,11 +11,11 @@ use tokens::read::Inputs;
 fn first_refusal(form: &[u8], sheet: &[u8]) -> Refused
     ensures { λ r. ⌜ r ≡ firstRefusal (now (form .entry)) (now (sheet .entry)) ⌝ }
 {
-    let refused = reader::form_check(form);
+    let refused = call_check::form_check(form);
     if refused.number != 0 {
         return refused;
     }
-    reader::sheet_check(sheet)
+    call_check::sheet_check(sheet)
 }
 
 fn answers_match(form: &[u8], sheet: &[u8], text: &[u8]) -> bool

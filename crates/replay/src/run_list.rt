@@ -19,7 +19,7 @@ fn answers_match(form: &[u8], sheet: &[u8], text: &[u8]) -> bool
 {
     let mut items = slices::item_slice();
     let mut answers = slices::answer_slice();
-    let ran = runner::run(form, sheet, &mut items, &mut answers);
+    let ran = run::run(form, sheet, &mut items, &mut answers);
     let state = ran.state;
     let refusal = compare::after_refusal(text, 0, ran.number, ran.place);
     let tries = compare::after_word(text, refusal, ran.tries);

@@ -20,7 +20,7 @@ fn answers_match(form: &[u8], sheet: &[u8], text: &[u8]) -> bool
     ensures { λ r. ⌜ (r ≡ true → SplitTold (now (form .entry)) (now (sheet .entry)) (now (text .entry))) ⌝ }
 {
     let mut items = slices::item_slice();
-    let split = reader::split(form, sheet, &mut items);
+    let split = call_check::split(form, sheet, &mut items);
     let state = split.state;
     let refusal = compare::after_refusal(text, 0, split.number, split.place);
     let space = compare::after_byte(text, refusal, b' ');

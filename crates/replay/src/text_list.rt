@@ -12,11 +12,11 @@ fn answers_match<'a>(form: &'a [u8], sheet: &'a [u8], told: &[u8]) -> bool
     ensures { λ r. ⌜ (r ≡ true → TextTold (now (form .entry)) (now (sheet .entry)) (now (told .entry))) ⌝ }
 {
     let mut items = slices::item_slice();
-    reader::split(form, sheet, &mut items);
+    call_check::split(form, sheet, &mut items);
     let word = read::word_at(told, 1);
     let mut number = 0;
     let mut place = 0;
-    let part = text::text(form, sheet, &items, word.value, &mut number, &mut place);
+    let part = call_text::text(form, sheet, &items, word.value, &mut number, &mut place);
     let asked = compare::after_word(told, 0, word.value);
     let refusal = compare::after_refusal(told, asked, number, place);
     let space = compare::after_byte(told, refusal, b' ');

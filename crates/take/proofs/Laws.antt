@@ -25,20 +25,20 @@ use Rattle.rules.proofs.Places.{left}
 use Rattle.rules.proofs.StepLaws.{current-good}
 use Rattle.rules.proofs.CodeLaws.{place-next}
 use Rattle.rules.specs.Codes.{placeOf}
-use Rattle.arg.specs.declared.Part.{Part}
-use Rattle.arg.specs.declared.Item.{Item}
-use Rattle.arg.specs.declared.Item.the-variants.{ArgWord, Word}
-use Rattle.arg.proofs.Item as T
-use Rattle.arg.specs.Items.{recordAt, itemOf}
-use Rattle.state.specs.declared.Numbers.{Numbers}
-use Rattle.state.specs.Lent.{stateOf, Fine, Removed, firstOr}
-use Rattle.state.proofs.Laws.{fine-long, fine-unused, mark-at}
-use Rattle.state.proofs.Marks.{first-hit, first-none}
-use Rattle.named.specs.Items.{Table, partBytes, operandKind}
-use Rattle.named.specs.Search.{HasItem, HasItems, seek, Sought, Passed}
-use Rattle.named.proofs.Items.{operand-said}
-use Rattle.named.proofs.Search.{Hits, nothing-found, something-found, sought-all}
-use Rattle.known.specs.Known.{Says}
+use Rattle.split_arg.specs.declared.Part.{Part}
+use Rattle.split_arg.specs.declared.Item.{Item}
+use Rattle.split_arg.specs.declared.Item.the-variants.{ArgWord, Word}
+use Rattle.split_arg.proofs.Item as T
+use Rattle.split_arg.specs.Items.{recordAt, itemOf}
+use Rattle.state_marks.specs.declared.Numbers.{Numbers}
+use Rattle.state_marks.specs.Lent.{stateOf, Fine, Removed, firstOr}
+use Rattle.state_marks.proofs.Laws.{fine-long, fine-unused, mark-at}
+use Rattle.state_marks.proofs.Marks.{first-hit, first-none}
+use Rattle.take_search.specs.Items.{Table, partBytes, operandKind}
+use Rattle.take_search.specs.Search.{HasItem, HasItems, seek, Sought, Passed}
+use Rattle.take_search.proofs.Items.{operand-said}
+use Rattle.take_search.proofs.Search.{Hits, nothing-found, something-found, sought-all}
+use Rattle.take_table.specs.Known.{Says}
 use Rattle.take.specs.declared.Argument.{Argument}
 use Rattle.take.specs.declared.Value.the-variants.{Missing, Taken as Value·Taken}
 use Rattle.take.specs.declared.Operand.the-variants.{Missing as Operand·Missing, Taken as Operand·Taken}

@@ -11,13 +11,13 @@ use Rattle.rules.specs.Tree.{Named}
 use Rattle.rules.specs.Split as rules
 use Rattle.rules.specs.State.{present, parsed, remove, withCurrent}
 use Rattle.rules.specs.Take.{Took, took, Taken, Operand as RulesOperand, takeFlag, takeArg, takePositionalWord, takeCmd}
-use Rattle.arg.specs.declared.Part.{Part}
-use Rattle.arg.specs.declared.Item.{Item}
-use Rattle.arg.specs.declared.Item.the-variants.{Short, Long, ArgWord, Word, PosWord}
-use Rattle.state.specs.declared.Numbers.{Numbers}
-use Rattle.state.specs.Lent.{stateOf, Fine}
-use Rattle.named.specs.Items.{Table, partBytes}
-use Rattle.named.specs.Search.{Passed}
+use Rattle.split_arg.specs.declared.Part.{Part}
+use Rattle.split_arg.specs.declared.Item.{Item}
+use Rattle.split_arg.specs.declared.Item.the-variants.{Short, Long, ArgWord, Word, PosWord}
+use Rattle.state_marks.specs.declared.Numbers.{Numbers}
+use Rattle.state_marks.specs.Lent.{stateOf, Fine}
+use Rattle.take_search.specs.Items.{Table, partBytes}
+use Rattle.take_search.specs.Search.{Passed}
 use Rattle.take.specs.declared.Flag.{Flag}
 use Rattle.take.specs.declared.Value.{Value}
 use Rattle.take.specs.declared.Value.the-variants.{Missing, Taken as Value·Taken, NoArgument}

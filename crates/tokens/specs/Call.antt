@@ -9,7 +9,7 @@ use Rattle.utf8.specs.Utf8.{if_then_else_}
 use Rattle.rules.specs.Bench.{decimal}
 use Rattle.rules.specs.Tree.{zeros}
 use Rattle.rules.specs.declared.State.{State}
-use Rattle.answers.specs.declared.Answer.{Answer}
+use Rattle.call_answers.specs.declared.Answer.{Answer}
 use Rattle.tokens.specs.declared.call.Call.{Call}
 use Rattle.tokens.specs.declared.call.Call.the-variants.{Remove, PickWinner, SaveConflicts, SetScope, AdjacentScope, AvailableFrom, Get, Conflict, TakePositional, OnlyOnce, MatchesArg, TakeFlag, TakeArg, TakeCmd}
 use Rattle.tokens.specs.declared.call.Shape.{Shape}

@@ -3,7 +3,7 @@ ghost use mathlib.Core.Path.{_≡_};
 ghost use Rattle.tokens.specs.Compare.{Follows};
 ghost use Rattle.tokens.specs.Call.{layoutWith, layoutOf, nameText, argumentsText, yesText, doneText, pickText, pairText, foundText, operandText, shapeText, answerText, SecondFollows, StatesFollow};
 use crate::compare;
-use answers::Answer;
+use call_answers::Answer;
 use rules::State;
 
 pub enum Call {

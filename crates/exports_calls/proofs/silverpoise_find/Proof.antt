@@ -38,19 +38,19 @@ use denote.Triple.Clauses.{Lasts, lasts}
 use denote.Triple.Walked.{says, Stays, stay-none, stay-none-slice, walkOf, AllGo, goes-none, goes-none-slice, Walks, ends-at, walked, walk-meets}
 use denote.Exit.{yes}
 use Rattle.rules.specs.declared.State.{State}
-use Rattle.answers.specs.declared.Answer.{Answer}
-use Rattle.answers.specs.Answers.{placeOrNone, plainAnswer}
-use Rattle.item_search.specs.declared.ItemRecord.{ItemRecord}
-use Rattle.item_search.specs.Records.{callFind}
-use Rattle.item_search.proofs.ItemRecord as TI
+use Rattle.call_answers.specs.declared.Answer.{Answer}
+use Rattle.call_answers.specs.Answers.{placeOrNone, plainAnswer}
+use Rattle.call_find.specs.declared.ItemRecord.{ItemRecord}
+use Rattle.call_find.specs.Records.{callFind}
+use Rattle.call_find.proofs.ItemRecord as TI
 use Rattle.rules.proofs.State as TS
 use Rattle.rules.proofs.State.Laws as TS′
-use Rattle.answers.proofs.Answer as TA
-use Rattle.answers.proofs.Answer.Laws as TA′
-use Rattle.item_search.proofs.find as callee
-use Rattle.item_search.proofs.find.Symbol as callee-def
-use Rattle.item_search.proofs.find.Symbol.{name as #item-search·find}
-use Rattle.item_search.proofs.find.Met as callee-thm
+use Rattle.call_answers.proofs.Answer as TA
+use Rattle.call_answers.proofs.Answer.Laws as TA′
+use Rattle.call_find.proofs.find as callee
+use Rattle.call_find.proofs.find.Symbol as callee-def
+use Rattle.call_find.proofs.find.Symbol.{name as #item-search·find}
+use Rattle.call_find.proofs.find.Met as callee-thm
 use Rattle.exports_calls.proofs.silverpoise_find.Key.{name as #exports·silverpoise-find}
 use Rattle.exports_calls.proofs.silverpoise_find as exported
 use Rattle.exports_calls.proofs.silverpoise_find.Statement as stated

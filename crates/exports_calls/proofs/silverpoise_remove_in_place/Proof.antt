@@ -36,17 +36,17 @@ use denote.Triple.Walked.{says, Stays, gave-ref, stay-none, walkOf, AllGo, goes-
 use denote.Exit.{yes}
 use Rattle.rules.specs.declared.State.{State}
 use Rattle.rules.specs.Calls.{callRemove}
-use Rattle.answers.specs.declared.Answer.{Answer}
-use Rattle.answers.specs.Answers.{yesCode, stateAnswerOf}
-use Rattle.in_place.specs.Joined.{joined}
+use Rattle.call_answers.specs.declared.Answer.{Answer}
+use Rattle.call_answers.specs.Answers.{yesCode, stateAnswerOf}
+use Rattle.call_lent.specs.Joined.{joined}
 use Rattle.rules.proofs.State as TS
 use Rattle.rules.proofs.State.Laws as TS′
-use Rattle.answers.proofs.Answer as TA
-use Rattle.answers.proofs.Answer.Laws as TA′
-use Rattle.in_place.proofs.remove as callee
-use Rattle.in_place.proofs.remove.Symbol as callee-def
-use Rattle.in_place.proofs.remove.Symbol.{name as #in-place·remove}
-use Rattle.in_place.proofs.remove.Met as callee-thm
+use Rattle.call_answers.proofs.Answer as TA
+use Rattle.call_answers.proofs.Answer.Laws as TA′
+use Rattle.call_lent.proofs.remove as callee
+use Rattle.call_lent.proofs.remove.Symbol as callee-def
+use Rattle.call_lent.proofs.remove.Symbol.{name as #in-place·remove}
+use Rattle.call_lent.proofs.remove.Met as callee-thm
 use Rattle.exports_calls.proofs.silverpoise_remove_in_place.Key.{name as #exports·silverpoise-remove-in-place}
 use Rattle.exports_calls.proofs.silverpoise_remove_in_place as exported
 use Rattle.exports_calls.proofs.silverpoise_remove_in_place.Statement as stated

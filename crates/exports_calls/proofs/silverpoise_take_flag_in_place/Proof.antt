@@ -39,17 +39,17 @@ use denote.Triple.Walked.{says, Stays, gave-ref, stay-none, stay-none-slice, wal
 use denote.Exit.{yes}
 use Rattle.rules.specs.declared.State.{State}
 use Rattle.rules.specs.Calls.{callTakeFlag}
-use Rattle.answers.specs.declared.Answer.{Answer}
-use Rattle.answers.specs.Answers.{yesCode, stateAnswerOf}
-use Rattle.in_place.specs.Joined.{joined}
+use Rattle.call_answers.specs.declared.Answer.{Answer}
+use Rattle.call_answers.specs.Answers.{yesCode, stateAnswerOf}
+use Rattle.call_lent.specs.Joined.{joined}
 use Rattle.rules.proofs.State as TS
 use Rattle.rules.proofs.State.Laws as TS′
-use Rattle.answers.proofs.Answer as TA
-use Rattle.answers.proofs.Answer.Laws as TA′
-use Rattle.in_place.proofs.take_flag as callee
-use Rattle.in_place.proofs.take_flag.Symbol as callee-def
-use Rattle.in_place.proofs.take_flag.Symbol.{name as #in-place·take-flag}
-use Rattle.in_place.proofs.take_flag.Met as callee-thm
+use Rattle.call_answers.proofs.Answer as TA
+use Rattle.call_answers.proofs.Answer.Laws as TA′
+use Rattle.call_lent.proofs.take_flag as callee
+use Rattle.call_lent.proofs.take_flag.Symbol as callee-def
+use Rattle.call_lent.proofs.take_flag.Symbol.{name as #in-place·take-flag}
+use Rattle.call_lent.proofs.take_flag.Met as callee-thm
 use Rattle.exports_calls.proofs.silverpoise_take_flag_in_place.Key.{name as #exports·silverpoise-take-flag-in-place}
 use Rattle.exports_calls.proofs.silverpoise_take_flag_in_place as exported
 use Rattle.exports_calls.proofs.silverpoise_take_flag_in_place.Statement as stated

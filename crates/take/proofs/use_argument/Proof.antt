@@ -2,7 +2,7 @@
 use mathlib.Core.Path.{refl, sym, _∙_, ap}
 use mathlib.Core.Logic.{⊎-elim}
 use borrow.Author.Needs.{needs}
-use Rattle.arg.specs.declared.Item.the-variants.{ArgWord, Word}
+use Rattle.split_arg.specs.declared.Item.the-variants.{ArgWord, Word}
 use Rattle.take.proofs.Laws.{ready-room, ready-below, free-inside, sought-scope, arg-missing, no-place, no-word, word-taken, arg-word-taken}
 use Rattle.take.proofs.use_argument.Statement.{statement}
 use Rattle.take.proofs.use_argument.Tie as tie

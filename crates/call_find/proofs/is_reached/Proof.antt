@@ -1,0 +1,42 @@
+-- The scope, then the mark. Assumes nothing.
+use borrow.Author.Needs.{needs}
+use Rattle.call_find.proofs.Ends.{reached-before, reached-behind, reached-past, reached-mark}
+use Rattle.call_find.proofs.is_reached.Statement.{statement}
+use Rattle.call_find.proofs.is_reached.Tie as tie
+
+wide-requires : tie.Need-wide-requires
+wide-requires c κs = search needs
+
+returns : tie.Need-returns
+returns c = reached-before _ _ _ (c .before .wide .ensures) (c .if1 .taken)
+
+wide-requires-2 : tie.Need-wide-requires-2
+wide-requires-2 c κs = search needs
+
+returns-2 : tie.Need-returns-2
+returns-2 c = reached-behind _ _ _ (c .before .before .before .wide .ensures) (c .before .before .if1 .left) _ (c .before .wide2 .ensures) (c .if2 .taken)
+
+returns-3 : tie.Need-returns-3
+returns-3 c = reached-past _ _ _ (c .before .before .before .before .wide .ensures) (c .before .before .before .if1 .left) _ (c .before .before .wide2 .ensures) (c .before .if2 .left) (search needs) (c .if3 .taken)
+
+mul-result : tie.Need-mul-result
+mul-result c = search needs
+
+element-copy-out-result : tie.Need-element-copy-out-result
+element-copy-out-result c = search needs
+
+returns-4 : tie.Need-returns-4
+returns-4 c = reached-mark _ _ _ (c .before .before .before .before .before .wide .ensures) (c .before .before .before .before .if1 .left) _ (c .before .before .before .wide2 .ensures) (c .before .before .if2 .left) (search needs) (c .before .if3 .left)
+
+pub is-reached-spec : {M : Type 1} → statement M
+is-reached-spec =
+    tie.close
+    (tie.spec
+    wide-requires
+    returns
+    wide-requires-2
+    returns-2
+    returns-3
+    mul-result
+    element-copy-out-result
+    returns-4)

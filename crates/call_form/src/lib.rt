@@ -1,0 +1,371 @@
+// The entry points with a form, items and a state. None asks anything of its input: what is not well made is refused under its
+// number, and then 28 where the form has no such node or name, or the items no such place.
+ghost use mathlib.Core.Path.{_≡_};
+ghost use mathlib.Core.Option.{some};
+ghost use Prim.Native.Nat.{_+_, _≤_};
+ghost use lib.ListN.{replicate};
+ghost use Rattle.rules.specs.Base.{isSome};
+ghost use Rattle.rules.specs.Form.{nameCount};
+ghost use Rattle.rules.specs.Accept.{Accepted, accepted, checkForm};
+ghost use Rattle.rules.specs.Run.{parsedMark};
+ghost use Rattle.rules.specs.Take.{matchesArg, takeFlag, takeArg, takeCmd};
+ghost use Rattle.rules.specs.Calls.{fromRaw, callMatches, callTakeFlag, callTakeArg, callTakeCmd};
+ghost use Rattle.state_marks.specs.Lent.{rawOf, numbersOf};
+ghost use Rattle.take_search.specs.Codes.{Checked, Coded};
+ghost use Rattle.take_search.specs.Search.{HasItem};
+ghost use Rattle.call_answers.specs.Answers.{coded, yesNo, yesCode, takenCode, answerWith, answerOf, stateAnswerOf};
+ghost use Rattle.call_table.specs.Given.{HasState};
+ghost use Rattle.call_form.specs.Given.{Given, Tests};
+ghost use Rattle.call_form.specs.Keys.{keyNames, noKey, Keyed, commandAt};
+ghost use Rattle.call_form.specs.Hands.{stateWith, SmallValue, valueAnswer, Hands, Says};
+use call_answers::Answer;
+use call_answers::StateAnswer;
+use rules::Refused;
+use rules::State;
+use state_marks::Numbers;
+use take::Value;
+
+// The names of a node: records of the form. Kind 1 is a flag, 2 an argument, 0 neither. An adjacent argument takes only an
+// item that has its value in its own word.
+pub struct Key {
+    pub kind: u32,
+    pub first: usize,
+    pub count: usize,
+    pub adjacent: bool,
+}
+
+fn wide(x: u32) -> usize
+    ensures { λ r. ⌜ r ≡ x ⌝ }
+{
+    x as usize
+}
+
+// A place fits in a word.
+fn narrow(x: usize) -> u32
+    requires { ⌜ x ≤ 256 ⌝ }
+    ensures { λ r. ⌜ r ≡ x ⌝ }
+{
+    x as u32
+}
+
+// A place as a number: itself plus 1.
+fn place_code(x: usize) -> u32
+    requires { ⌜ x ≤ 256 ⌝ }
+    ensures { λ r. ⌜ r ≡ x + 1 ⌝ }
+{
+    x as u32 + 1
+}
+
+fn yes_no(b: bool) -> u32
+    ensures { λ r. ⌜ r ≡ yesNo b ⌝ }
+{
+    if b {
+        return 1;
+    }
+    0
+}
+
+// Refused under a number, at a place.
+fn refused(number: u32, place: u32) -> Answer
+    ensures { λ r. ⌜ r ≡ answerWith number place (coded 0 0 0) ⌝ }
+{
+    Answer {
+        number,
+        place,
+        found: 0,
+        first: 0,
+        second: 0,
+    }
+}
+
+// The same, with the state that was given.
+fn unchanged(number: u32, place: u32, s: State) -> StateAnswer
+    ensures { λ r. ⌜ r ≡ stateWith number place (coded 0 0 0) s ⌝ }
+{
+    StateAnswer {
+        number,
+        place,
+        found: 0,
+        first: 0,
+        second: 0,
+        state: s,
+    }
+}
+
+// Answered, with the state that is left.
+fn changed(found: u32, first: u32, s: State) -> StateAnswer
+    ensures { λ r. ⌜ r ≡ stateWith 0 0 (coded found first 0) s ⌝ }
+{
+    StateAnswer {
+        number: 0,
+        place: 0,
+        found,
+        first,
+        second: 0,
+        state: s,
+    }
+}
+
+fn numbers(s: State) -> Numbers
+    ensures { λ r. ⌜ r ≡ numbersOf s ⌝ }
+{
+    Numbers {
+        count: s.count,
+        remaining: s.remaining,
+        current: s.current,
+        start: s.start,
+        end: s.end,
+    }
+}
+
+fn joined(marks: [u16; 256], p: Numbers) -> State
+    ensures { λ r. ⌜ r ≡ rawOf marks p ⌝ }
+{
+    State {
+        marks: marks,
+        count: p.count,
+        remaining: p.remaining,
+        current: p.current,
+        start: p.start,
+        end: p.end,
+    }
+}
+
+// The tests of the input, in the order of the numbers: 1 to 4, then 6, 5, 7, 30 and 29.
+fn given(form: &[u8], sheet: &[u8], items: &[u32], s: State) -> Refused
+    ensures { λ r. ⌜ Tests (now (form .entry)) (now (sheet .entry)) (now (items .entry)) s r ⌝ }
+{
+    let checked = form_check::check(form);
+    if checked.number != 0 {
+        return checked;
+    }
+    let number = call_table::given_state(sheet, items, s);
+    Refused { number, place: 0 }
+}
+
+fn no_codes() -> [u32; 128]
+    ensures { λ r. ⌜ r ≡ replicate 128 0 ⌝ }
+{
+    [0u32; 128]
+}
+
+// The codes of a form's names.
+pub fn codes_of(form: &[u8]) -> [u32; 128]
+    requires { ⌜ Checked (now form) ⌝ }
+    ensures { λ r. ⌜ Coded (now (form .entry)) r ⌝ }
+{
+    let mut words = no_codes();
+    take_search::codes(form, &mut words);
+    words
+}
+
+fn no_key() -> Key
+    ensures { λ r. ⌜ r ≡ noKey ⌝ }
+{
+    Key {
+        kind: 0,
+        first: 0,
+        count: 0,
+        adjacent: false,
+    }
+}
+
+// The names of node k, if it is a flag or an argument.
+pub fn key_at(form: &[u8], k: usize) -> Key
+    requires { ⌜ ((a : Accepted) × (checkForm (now form) ≡ accepted a)) ⌝ }
+    ensures { λ r. ⌜ Keyed (now (form .entry)) k r ⌝ }
+{
+    if form_layout::node_count(form) <= k {
+        return no_key();
+    }
+    let x = form_layout::node_at(form, k);
+    let kind = x.kind;
+    match kind {
+        1 => Key {
+            kind: 1,
+            first: x.p,
+            count: x.q,
+            adjacent: false,
+        },
+        2 => Key {
+            kind: 2,
+            first: x.p,
+            count: x.q,
+            adjacent: x.r % 2 == 1,
+        },
+        _ => no_key(),
+    }
+}
+
+// Whether name record k is short or long.
+fn is_command(form: &[u8], k: usize) -> bool
+    requires { ⌜ ((a : Accepted) × (checkForm (now form) ≡ accepted a)) ⌝ }
+    ensures { λ r. ⌜ r ≡ isSome (commandAt (now (form .entry)) k) ⌝ }
+{
+    if form_layout::name_count(form) <= k {
+        return false;
+    }
+    let x = form_layout::name_at(form, k);
+    x.kind <= 1
+}
+
+// Whether item i has one of the names.
+fn matched(form: &[u8], sheet: &[u8], items: &[u32], i: usize, key: Key) -> Answer
+    requires { ⌜ Checked (now form) × (key .first + key .count ≤ nameCount (now form)) × HasItem (now sheet) (now items) i ⌝ }
+    ensures { λ r. ⌜ Says (now (sheet .entry)) (now (items .entry)) i (matchesArg (keyNames (now (form .entry)) key) (key .adjacent)) r ⌝ }
+{
+    let codes = codes_of(form);
+    let found = take_search::matches(
+        form,
+        &codes,
+        sheet,
+        items,
+        i,
+        key.first,
+        key.count,
+        key.adjacent,
+    );
+    Answer {
+        number: 0,
+        place: 0,
+        found: yes_no(found),
+        first: 0,
+        second: 0,
+    }
+}
+
+fn flag_taken(form: &[u8], sheet: &[u8], items: &[u32], s: State, key: Key) -> StateAnswer
+    requires { ⌜ Given (now form) (now sheet) (now items) s × (key .first + key .count ≤ nameCount (now form)) ⌝ }
+    ensures { λ r. ⌜ Hands yesCode (now (sheet .entry)) (now (items .entry)) s (λ is. takeFlag parsedMark is (keyNames (now (form .entry)) key) (fromRaw s)) r ⌝ }
+{
+    let codes = codes_of(form);
+    let mut marks = s.marks;
+    let taken = take::take_flag(
+        form,
+        &codes,
+        sheet,
+        items,
+        &mut marks,
+        numbers(s),
+        key.first,
+        key.count,
+        1,
+    );
+    let left = taken.numbers;
+    changed(yes_no(taken.found), 0, joined(marks, left))
+}
+
+// What is told of a value, with the state that is left. Refused with 22, the place is the key's, and the state is the one that
+// was given.
+fn value_answer(value: Value, left: State, s: State) -> StateAnswer
+    requires { ⌜ SmallValue value ⌝ }
+    ensures { λ r. ⌜ r ≡ valueAnswer value left s ⌝ }
+{
+    match value {
+        Value::Missing => changed(0, 0, left),
+        Value::Taken(place, _) => changed(1, narrow(place), left),
+        Value::NoArgument(place) => unchanged(22, place_code(place), s),
+    }
+}
+
+fn arg_taken(form: &[u8], sheet: &[u8], items: &[u32], s: State, key: Key) -> StateAnswer
+    requires { ⌜ Given (now form) (now sheet) (now items) s × (key .first + key .count ≤ nameCount (now form)) ⌝ }
+    ensures { λ r. ⌜ Hands takenCode (now (sheet .entry)) (now (items .entry)) s (λ is. takeArg parsedMark is (keyNames (now (form .entry)) key) (key .adjacent) (fromRaw s)) r ⌝ }
+{
+    let codes = codes_of(form);
+    let mut marks = s.marks;
+    let taken = take::take_arg(
+        form,
+        &codes,
+        sheet,
+        items,
+        &mut marks,
+        numbers(s),
+        key.first,
+        key.count,
+        key.adjacent,
+        1,
+    );
+    let left = taken.numbers;
+    let value = taken.value;
+    value_answer(value, joined(marks, left), s)
+}
+
+fn cmd_taken(sheet: &[u8], items: &[u32], s: State, word: &[u8]) -> StateAnswer
+    requires { ⌜ HasState (now sheet) (now items) s ⌝ }
+    ensures { λ r. ⌜ Hands yesCode (now (sheet .entry)) (now (items .entry)) s (λ is. takeCmd parsedMark is (now (word .entry)) (fromRaw s)) r ⌝ }
+{
+    let mut marks = s.marks;
+    let taken = take::take_cmd(sheet, items, &mut marks, numbers(s), word, 1);
+    let left = taken.numbers;
+    changed(yes_no(taken.found), 0, joined(marks, left))
+}
+
+// Whether the item at a place has one of the names of a flag or an argument.
+pub fn matches_arg(
+    form: &[u8],
+    sheet: &[u8],
+    items: &[u32],
+    s: State,
+    node: usize,
+    place: usize,
+) -> Answer
+    ensures { λ r. ⌜ answerOf yesCode (callMatches (now (form .entry)) (now (sheet .entry)) (now (items .entry)) s node place) ≡ some r ⌝ }
+{
+    let checked = given(form, sheet, items, s);
+    if checked.number != 0 {
+        return refused(checked.number, checked.place);
+    }
+    let key = key_at(form, node);
+    if key.kind == 0 {
+        return refused(28, 0);
+    }
+    if wide(s.count) <= place {
+        return refused(28, 0);
+    }
+    matched(form, sheet, items, place, key)
+}
+
+// A flag: the first present item in scope that has one of its names.
+pub fn take_flag(form: &[u8], sheet: &[u8], items: &[u32], s: State, node: usize) -> StateAnswer
+    ensures { λ r. ⌜ stateAnswerOf yesCode (callTakeFlag (now (form .entry)) (now (sheet .entry)) (now (items .entry)) s node) ≡ some r ⌝ }
+{
+    let checked = given(form, sheet, items, s);
+    if checked.number != 0 {
+        return unchanged(checked.number, checked.place, s);
+    }
+    let key = key_at(form, node);
+    if key.kind != 1 {
+        return unchanged(28, 0, s);
+    }
+    flag_taken(form, sheet, items, s, key)
+}
+
+// An argument: its key, and the value behind it.
+pub fn take_arg(form: &[u8], sheet: &[u8], items: &[u32], s: State, node: usize) -> StateAnswer
+    ensures { λ r. ⌜ stateAnswerOf takenCode (callTakeArg (now (form .entry)) (now (sheet .entry)) (now (items .entry)) s node) ≡ some r ⌝ }
+{
+    let checked = given(form, sheet, items, s);
+    if checked.number != 0 {
+        return unchanged(checked.number, checked.place, s);
+    }
+    let key = key_at(form, node);
+    if key.kind != 2 {
+        return unchanged(28, 0, s);
+    }
+    arg_taken(form, sheet, items, s, key)
+}
+
+// A command: the name of a record, which only the first present item in scope may be.
+pub fn take_cmd(form: &[u8], sheet: &[u8], items: &[u32], s: State, record: usize) -> StateAnswer
+    ensures { λ r. ⌜ stateAnswerOf yesCode (callTakeCmd (now (form .entry)) (now (sheet .entry)) (now (items .entry)) s «record») ≡ some r ⌝ }
+{
+    let checked = given(form, sheet, items, s);
+    if checked.number != 0 {
+        return unchanged(checked.number, checked.place, s);
+    }
+    if !is_command(form, record) {
+        return unchanged(28, 0, s);
+    }
+    cmd_taken(sheet, items, s, form_layout::name_bytes(form, record))
+}

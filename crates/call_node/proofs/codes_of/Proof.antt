@@ -1,0 +1,19 @@
+use borrow.Author.Needs.{needs}
+use Rattle.call_node.proofs.Answers.{codes-room}
+use Rattle.call_node.proofs.codes_of.Statement.{statement}
+use Rattle.call_node.proofs.codes_of.Tie as tie
+
+no-codes-requires : tie.Need-no-codes-requires
+no-codes-requires c κs = search needs
+
+slice-aggregate-codes : tie.Need-slice-aggregate-codes
+slice-aggregate-codes c = search needs
+
+codes-requires : tie.Need-codes-requires
+codes-requires c κs = search (codes-room, needs)
+
+returns : tie.Need-returns
+returns c = search needs
+
+pub codes-of-spec : {M : Type 1} → statement M
+codes-of-spec = tie.close (tie.spec no-codes-requires slice-aggregate-codes codes-requires returns)

@@ -1,0 +1,80 @@
+-- What the run of a node whose value is a list asks for, and what it answers.
+use mathlib.Core.Bool.{Bool, false}
+use mathlib.Core.List.{List, [], _∷_}
+use mathlib.Core.Option.{some}
+use mathlib.Core.Path.{_≡_}
+use Prim.Native.Nat.{ℕ, _+_, _≤_}
+use lib.Dec.{eqb}
+use lib.ListN.{length, take, drop, replicate}
+use lib.Seq.{sets}
+use Rattle.utf8.specs.Utf8.{if_then_else_}
+use Rattle.rules.specs.Sheet.{sheetArea}
+use Rattle.rules.specs.Tree.{Tree, Choice, kindOf}
+use Rattle.rules.specs.Split.{Item}
+use Rattle.rules.specs.Eval.{eval}
+use Rattle.rules.specs.Sound.{Sound}
+use Rattle.state_marks.specs.declared.Numbers.{Numbers}
+use Rattle.state_marks.specs.Lent.{stateOf}
+use Rattle.take.specs.Takes.{Left, Items}
+use Rattle.eval_told.specs.declared.Ran.{Ran}
+use Rattle.eval_told.specs.Told.{told, toldWith}
+use Rattle.eval_told.specs.Nodes.{treeAt, isScalar, Standing, Scalar}
+use Rattle.eval_node.specs.Cycle.{Room}
+use Rattle.eval_node.specs.declared.Repeated.{Repeated}
+
+-- ---- a node whose value is a list or an optional list, and room for its words
+pub record Listed (b known s words m : List ℕ) (p : Numbers) (mark n : ℕ) (o : List ℕ) (at : ℕ) : Type 0 where
+  pub stands : Standing b known s words m p mark n
+  pub long : isScalar (kindOf (stands .tree)) ≡ false
+  pub space : Room o at
+
+-- what its run tells, with the words of its value, which are written from `at` on. A refusal has no words
+pub record Writes (mark : ℕ) (area words : List ℕ) (t : Tree) (m : List ℕ) (p : Numbers) (m′ o : List ℕ) (at : ℕ) (o′ : List ℕ) (r : Ran) : Type 0 where
+  pub value : List ℕ
+  pub same : (is : List Item) → Items area words p is → told (eval mark is t (stateOf m p)) ≡ some (toldWith r m′ value)
+  pub len : r .len ≡ length value
+  pub put : o′ ≡ sets o at value
+  pub fits : length value ≤ 515
+  pub left : Left m p m′ (r .numbers)
+
+-- ---- a node with one child: no list in a repeat, a list in an optional
+pub record OverScalar (make : Tree → Tree) (b known s words m : List ℕ) (p : Numbers) (mark child : ℕ) (o : List ℕ) (at : ℕ) : Type 0 where
+  pub below : Scalar b known s words m p mark child
+  pub sound : Sound (make (below .stands .tree))
+  pub space : Room o at
+
+pub record OverList (make : Tree → Tree) (b known s words m : List ℕ) (p : Numbers) (mark child : ℕ) (o : List ℕ) (at : ℕ) : Type 0 where
+  pub below : Listed b known s words m p mark child o at
+  pub sound : Sound (make (below .stands .tree))
+
+-- what it answers, for the tree of the child
+abbrev pub WritesOver : (Tree → Tree) → ℕ → List ℕ → List ℕ → List ℕ → ℕ → List ℕ → Numbers → List ℕ → List ℕ → ℕ → List ℕ → Ran → Type 0
+WritesOver make mark b s words child m p m′ o at o′ r =
+    (t : Tree) → treeAt b child ≡ some t → Writes mark (sheetArea s) words (make t) m p m′ o at o′ r
+
+-- ---- a choice between lists
+pub record Both (b known s words m : List ℕ) (p : Numbers) (mark left right : ℕ) (o : List ℕ) (at : ℕ) : Type 0 where
+  pub first : Listed b known s words m p mark left o at
+  pub second : Listed b known s words m p mark right o at
+  pub sound : Sound (Choice (first .stands .tree) (second .stands .tree))
+
+-- ---- what the small functions make
+abbrev pub refusedList : ℕ → ℕ → ℕ → Numbers → Ran
+refusedList number place tries p = record { number = number; place = place; tries = tries; len = 0; word = 0; numbers = p }
+
+-- a list, and its count before its words
+pub record Counted (all : Repeated) (o : List ℕ) (at : ℕ) (o′ : List ℕ) (r : Ran) : Type 0 where
+  pub same : r ≡ record { number = 0; place = 0; tries = all .tries; len = all .size + 1; word = 0; numbers = all .numbers }
+  pub put : o′ ≡ sets o at (all .count ∷ [])
+
+-- words that are set aside, and are 0 then
+pub record Aside (o : List ℕ) (at n : ℕ) (o′ kept : List ℕ) : Type 0 where
+  pub same : take n kept ≡ take n (drop at o)
+  pub clear : o′ ≡ sets o at (replicate n 0)
+
+-- The words of a choice stand: those of the first side, which were set aside, or the second's, of which there are n. Refused, none stand
+unfoldable pub settled : ℕ → Bool → List ℕ → ℕ → List ℕ → ℕ → List ℕ
+settled number first o at kept n =
+    if eqb number 0
+    then (if first then sets (sets o at (replicate n 0)) at kept else o)
+    else sets o at (replicate n 0)

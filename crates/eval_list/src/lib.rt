@@ -1,0 +1,268 @@
+// The run of a node whose value is a list or an optional list. Its words go to a lent slice, where all is 0 from the first of them on.
+ghost use mathlib.Core.Path.{_≡_};
+ghost use mathlib.Core.List.{_∷_};
+ghost use mathlib.Core.Option.{some};
+ghost use Prim.Native.Nat.{_+_, _≤_, _<_};
+ghost use lib.ListN.{length, take, drop};
+ghost use lib.Seq.{sets};
+ghost use Rattle.rules.specs.Sheet.{sheetArea};
+ghost use Rattle.rules.specs.Tree.{Tree, Optional, Many, Some, Choice};
+ghost use Rattle.eval_told.specs.Nodes.{treeAt};
+ghost use Rattle.eval_list.specs.Lists.{Listed, Writes, OverScalar, OverList, WritesOver, Both, refusedList, Counted, Aside, settled};
+use eval_node::Repeated;
+use eval_told::Ran;
+use state_marks::Numbers;
+
+fn wide(x: u32) -> usize
+    ensures { λ r. ⌜ r ≡ x ⌝ }
+{
+    x as usize
+}
+
+fn blank() -> [u32; 515]
+    ensures { λ r. ⌜ length r ≡ 515 ⌝ }
+{
+    [0u32; 515]
+}
+
+// A copy of the n words from `at` on.
+fn lift(out: &[u32], at: usize, n: usize) -> [u32; 515]
+    requires { ⌜ (n ≤ 515) × (at + n ≤ length (now out)) ⌝ }
+    ensures { λ r. ⌜ take n r ≡ take n (drop at (now (out .entry))) ⌝ }
+{
+    let end = at + n;
+    let mut kept = blank();
+    wire::copy(&mut kept, 0, &out[at..end]);
+    kept
+}
+
+// The n words from `at` on are handed back, and are 0 then.
+fn set_aside(out: &mut [u32], at: usize, n: usize) -> [u32; 515]
+    requires { ⌜ (n ≤ 515) × (at + n ≤ length (now out)) ⌝ }
+    ensures { λ r. ⌜ Aside (now (out .entry)) at n (now (out .exit)) r ⌝ }
+{
+    let kept = lift(out, at, n);
+    wire::fill(out, at, n, 0);
+    kept
+}
+
+// The n words from `at` on move by one, behind the 1 of an optional value that is present.
+fn shift(out: &mut [u32], at: usize, n: usize)
+    requires { ⌜ (n < 515) × (at + n < length (now out)) ⌝ }
+    ensures { λ _. ⌜ now (out .exit) ≡ sets (now (out .entry)) at (1 ∷ take n (drop at (now (out .entry)))) ⌝ }
+{
+    let kept = lift(out, at, n);
+    out[at] = 1;
+    wire::copy(out, at + 1, &kept[..n]);
+}
+
+// Which words of a choice stand: the first side's were set aside, the second's, `m` of them, are there.
+fn settle(out: &mut [u32], at: usize, number: u32, first: bool, kept: &[u32], n: usize, m: usize)
+    requires { ⌜ n ≤ length (now kept) ⌝ }
+    ensures { λ _. ⌜ now (out .exit) ≡ settled number first (now (out .entry)) at (take n (now (kept .entry))) m ⌝ }
+{
+    if number != 0 {
+        wire::fill(out, at, m, 0);
+        return;
+    }
+    if first {
+        wire::fill(out, at, m, 0);
+        wire::copy(out, at, &kept[..n]);
+    }
+}
+
+fn refused(number: u32, place: u32, tries: u32, p: Numbers) -> Ran
+    ensures { λ r. ⌜ r ≡ refusedList number place tries p ⌝ }
+{
+    Ran {
+        number: number,
+        place: place,
+        tries: tries,
+        len: 0,
+        word: 0,
+        numbers: p,
+    }
+}
+
+// A list's count goes before the words of its values.
+fn counted(all: Repeated, at: usize, out: &mut [u32]) -> Ran
+    requires { ⌜ (all .size ≤ 514) × (at < length (now out)) ⌝ }
+    ensures { λ r. ⌜ Counted all (now (out .entry)) at (now (out .exit)) r ⌝ }
+{
+    out[at] = all.count;
+    let left = all.numbers;
+    Ran {
+        number: 0,
+        place: 0,
+        tries: all.tries,
+        len: all.size + 1,
+        word: 0,
+        numbers: left,
+    }
+}
+
+fn run_many(
+    form: &[u8],
+    known: &[u64],
+    sheet: &[u8],
+    items: &[u32],
+    marks: &mut [u16; 256],
+    p: Numbers,
+    child: usize,
+    catch: bool,
+    at: usize,
+    out: &mut [u32],
+    mark: u16,
+) -> Ran
+    requires { ⌜ OverScalar (Many catch) (now form) (now known) (now sheet) (now items) (now marks) p mark child (now out) at ⌝ }
+    ensures { λ r. ⌜ WritesOver (Many catch) mark (now (form .entry)) (now (sheet .entry)) (now (items .entry)) child (now (marks .entry)) p (now (marks .exit)) (now (out .entry)) at (now (out .exit)) r ⌝ }
+{
+    let all = eval_node::run_repeat(
+        form,
+        known,
+        sheet,
+        items,
+        marks,
+        p,
+        child,
+        catch,
+        false,
+        true,
+        at,
+        out,
+        mark,
+    );
+    if all.number != 0 {
+        let left = all.numbers;
+        return refused(all.number, all.place, all.tries, left);
+    }
+    counted(all, at, out)
+}
+
+// A list of no values is refused.
+fn run_some(
+    form: &[u8],
+    known: &[u64],
+    sheet: &[u8],
+    items: &[u32],
+    marks: &mut [u16; 256],
+    p: Numbers,
+    child: usize,
+    catch: bool,
+    at: usize,
+    out: &mut [u32],
+    mark: u16,
+) -> Ran
+    requires { ⌜ OverScalar (Some catch) (now form) (now known) (now sheet) (now items) (now marks) p mark child (now out) at ⌝ }
+    ensures { λ r. ⌜ WritesOver (Some catch) mark (now (form .entry)) (now (sheet .entry)) (now (items .entry)) child (now (marks .entry)) p (now (marks .exit)) (now (out .entry)) at (now (out .exit)) r ⌝ }
+{
+    let all = eval_node::run_repeat(
+        form,
+        known,
+        sheet,
+        items,
+        marks,
+        p,
+        child,
+        catch,
+        false,
+        true,
+        at,
+        out,
+        mark,
+    );
+    let left = all.numbers;
+    if all.number != 0 {
+        return refused(all.number, all.place, all.tries, left);
+    }
+    let number = eval_structs::parse_some(all.count);
+    if number != 0 {
+        return refused(number, 0, all.tries, left);
+    }
+    counted(all, at, out)
+}
+
+// A node whose value is a list or an optional list: its words go to `out` from `at` on, where all is 0.
+pub fn run_list(
+    form: &[u8],
+    known: &[u64],
+    sheet: &[u8],
+    items: &[u32],
+    marks: &mut [u16; 256],
+    p: Numbers,
+    node: usize,
+    at: usize,
+    out: &mut [u32],
+    mark: u16,
+) -> Ran
+    requires { ⌜ Listed (now form) (now known) (now sheet) (now items) (now marks) p mark node (now out) at ⌝ }
+    ensures { λ r. ⌜ ((t : Tree) → treeAt (now (form .entry)) node ≡ some t → Writes mark (sheetArea (now (sheet .entry))) (now (items .entry)) t (now (marks .entry)) p (now (marks .exit)) (now (out .entry)) at (now (out .exit)) r) ⌝ }
+{
+    let x = form_layout::node_at(form, node);
+    let kind = x.kind;
+    let i = x.p;
+    let catch = x.r == 1;
+    match kind {
+        4 => run_optional_list(form, known, sheet, items, marks, p, i, catch, at, out, mark),
+        5 => run_many(form, known, sheet, items, marks, p, i, catch, at, out, mark),
+        6 => run_some(form, known, sheet, items, marks, p, i, catch, at, out, mark),
+        _ => run_either(form, known, sheet, items, marks, p, i, x.q, at, out, mark),
+    }
+}
+
+// A list that is present has 1 before its words. Absent or refused, the child wrote nothing, and the word of an absent value is 0.
+fn run_optional_list(
+    form: &[u8],
+    known: &[u64],
+    sheet: &[u8],
+    items: &[u32],
+    marks: &mut [u16; 256],
+    p: Numbers,
+    child: usize,
+    catch: bool,
+    at: usize,
+    out: &mut [u32],
+    mark: u16,
+) -> Ran
+    requires { ⌜ OverList (Optional catch) (now form) (now known) (now sheet) (now items) (now marks) p mark child (now out) at ⌝ }
+    ensures { λ r. ⌜ WritesOver (Optional catch) mark (now (form .entry)) (now (sheet .entry)) (now (items .entry)) child (now (marks .entry)) p (now (marks .exit)) (now (out .entry)) at (now (out .exit)) r ⌝ }
+{
+    let before = *marks;
+    let ran = run_list(form, known, sheet, items, marks, p, child, at, out, mark);
+    let made = eval_combine::optional(ran, p, catch, &before, marks);
+    if made.present {
+        shift(out, at, wide(ran.len));
+    }
+    let answer = made.ran;
+    answer
+}
+
+// Of two lists the one that wins. Both are run on the same marks and write to the same words.
+fn run_either(
+    form: &[u8],
+    known: &[u64],
+    sheet: &[u8],
+    items: &[u32],
+    marks: &mut [u16; 256],
+    p: Numbers,
+    left: usize,
+    right: usize,
+    at: usize,
+    out: &mut [u32],
+    mark: u16,
+) -> Ran
+    requires { ⌜ Both (now form) (now known) (now sheet) (now items) (now marks) p mark left right (now out) at ⌝ }
+    ensures { λ r. ⌜ ((t u : Tree) → treeAt (now (form .entry)) left ≡ some t → treeAt (now (form .entry)) right ≡ some u → Writes mark (sheetArea (now (sheet .entry))) (now (items .entry)) (Choice t u) (now (marks .entry)) p (now (marks .exit)) (now (out .entry)) at (now (out .exit)) r) ⌝ }
+{
+    let before = *marks;
+    let x = run_list(form, known, sheet, items, marks, p, left, at, out, mark);
+    let first = *marks;
+    let n = wide(x.len);
+    let kept = set_aside(out, at, n);
+    *marks = before;
+    let y = run_list(form, known, sheet, items, marks, p, right, at, out, mark);
+    let made = eval_combine::choose(x, y, p, &before, &first, marks);
+    let answer = made.ran;
+    settle(out, at, answer.number, made.first, &kept, n, wide(y.len));
+    answer
+}

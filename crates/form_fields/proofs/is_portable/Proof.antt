@@ -1,0 +1,52 @@
+-- Invariant: the names from k on are as portable as all. Assumes nothing.
+use native.Mathlib.Omega.{arith}
+use Prim.Native.Nat.{_-_}
+use Rattle.form_fields.proofs.Given.{Passing, passing-first, passing-bad, passing-next, passing-last, has-name}
+use Rattle.form_layout.proofs.Sizes.{sized}
+use Rattle.form_fields.proofs.is_portable.Statement.{statement}
+use Rattle.form_fields.proofs.is_portable.Tie as tie
+
+abbrev Inv-loop : tie.InvT-loop
+Inv-loop b m k₀ k = Passing b k
+
+abbrev μ-loop : tie.MeasureT-loop
+μ-loop b m k₀ k = m - k
+
+name-count-requires : tie.Need-name-count-requires Inv-loop μ-loop
+name-count-requires c κs = sized _ (c .before .pre .good) .counts .long
+
+loop-holds : tie.Need-loop-holds Inv-loop μ-loop
+loop-holds c = passing-first _
+
+portable-at-requires : tie.Need-portable-at-requires Inv-loop μ-loop
+portable-at-requires c κs = has-name _ _ _ (c .before .before .before .before .pre) (c .before .before .name-count .ensures) (c .loop-test .taken)
+
+returns : tie.Need-returns Inv-loop μ-loop
+returns c = passing-bad _ _ _ (c .before .before .before .before .name-count .ensures) (c .before .before .before .loop .inv) (c .before .before .loop-test .taken) _ (c .before .portable-at .ensures) (c .if1 .taken)
+
+add-k : tie.Need-add-k Inv-loop μ-loop
+add-k c = omega (arith, c .before .before .before .before .name-count .ensures, sized _ (c .before .before .before .before .before .before .pre .good))
+
+loop-less : tie.Need-loop-less Inv-loop μ-loop
+loop-less c = omega arith
+
+loop-again : tie.Need-loop-again Inv-loop μ-loop
+loop-again c = passing-next _ _ _ (c .before .before .before .before .name-count .ensures) (c .before .before .before .loop .inv) (c .before .before .loop-test .taken) _ (c .before .portable-at .ensures) (c .if1 .left)
+
+returns-2 : tie.Need-returns-2 Inv-loop μ-loop
+returns-2 c = passing-last _ _ _ (c .before .before .name-count .ensures) (c .before .loop .inv) (c .loop-test .left)
+
+pub is-portable-spec : {M : Type 1} → statement M
+is-portable-spec =
+    tie.close
+    (tie.spec
+    Inv-loop
+    μ-loop
+    name-count-requires
+    loop-holds
+    portable-at-requires
+    returns
+    add-k
+    loop-less
+    loop-again
+    returns-2)

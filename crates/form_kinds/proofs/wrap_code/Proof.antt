@@ -1,0 +1,39 @@
+-- Each test of the code is one of the definition. Assumes nothing.
+use borrow.Author.Needs.{needs}
+use borrow.Author.Tests.{eq-eqb, ne-eqb, not-true, not-false}
+use Rattle.utf8.specs.Utf8.{if_then_else_}
+use Rattle.form_kinds.specs.Kinds.{wrapCode}
+use Rattle.form_kinds.proofs.wrap_code.Statement.{statement}
+use Rattle.form_kinds.proofs.wrap_code.Tie as tie
+
+child-good-requires : tie.Need-child-good-requires
+child-good-requires c κs = search needs
+
+returns : tie.Need-returns
+unfolding wrapCode if_then_else_
+returns c = rw (← c .before .child-good .ensures, not-true (c .before .child-good .result) (c .if1 .taken))
+
+optional-code-requires : tie.Need-optional-code-requires
+optional-code-requires c κs = search needs
+
+returns-2 : tie.Need-returns-2
+unfolding wrapCode if_then_else_
+returns-2 c = rw (← c .before .before .before .before .child-good .ensures, not-false (c .before .before .before .before .child-good .result) (c .before .before .before .if1 .left), eq-eqb _ _ (c .before .if2 .taken)) (c .optional-code .ensures)
+
+repeat-code-requires : tie.Need-repeat-code-requires
+repeat-code-requires c κs = search needs
+
+returns-3 : tie.Need-returns-3
+unfolding wrapCode if_then_else_
+returns-3 c = rw (← c .before .before .before .before .child-good .ensures, not-false (c .before .before .before .before .child-good .result) (c .before .before .before .if1 .left), ne-eqb _ _ (c .before .if2 .left)) (c .repeat-code .ensures)
+
+pub wrap-code-spec : {M : Type 1} → statement M
+wrap-code-spec =
+    tie.close
+    (tie.spec
+    child-good-requires
+    returns
+    optional-code-requires
+    returns-2
+    repeat-code-requires
+    returns-3)

@@ -1,0 +1,146 @@
+-- Letters appended to the words of a slice, record by record.
+use mathlib.Core.Path.{_≡_, refl, sym, ap, _∙_}
+use mathlib.Core.Bool.{Bool, true, false, not}
+use mathlib.Core.List.{List, [], _∷_, _++_, map, append-assoc, append-nil}
+use mathlib.Core.Option.{Option, some, none}
+use Prim.Native.Nat.{ℕ, zero, suc, _+_, _-_, _≤_, _<_}
+use native.Mathlib.Nat.{add-zero, add-suc, suc-add, zero-add}
+use native.Mathlib.Numerals.{add-one}
+use native.Mathlib.Omega.{arith}
+use lib.Bits.{bitAnd}
+use lib.Dec.{eqb}
+use lib.ListN.{length, getD, getElem?, drop, set, length-append, drop-of-length-le}
+use lib.Seq.{sets, getD-take}
+use borrow.Author.Tests.{not-true, not-false}
+use Rattle.utf8.specs.Utf8.{if_then_else_}
+use Rattle.rules.specs.Codes.{placeCode}
+use Rattle.rules.specs.Form.{Node, Name, nameCount, readForm, nameBytes, oneCharacter}
+use Rattle.rules.specs.Tree.{shortOf}
+use Rattle.rules.proofs.Acceptance.{lookup-some}
+use Rattle.rules.proofs.Places.{drop-below}
+use Rattle.form_layout.proofs.Sizes.{names-length}
+use Rattle.take_search.specs.Codes.{codeOf, codesOf, Coded}
+use Rattle.form_letters.specs.Letters.{lettersFrom, lettersByName, Wrote, letterList, letterIf, Appended}
+use Rattle.form_letters.specs.Classes.{namedAt, bits, classOf, Classed}
+
+-- ---- one letter
+
+module _ (o : List ℕ) (n : ℕ) (wanted : Bool) (code : ℕ) where
+  pub unwanted : not wanted ≡ true → Appended o n (letterIf wanted code) o n
+  unfolding letterIf if_then_else_
+  unwanted e = rw (not-true wanted e) (record { words = refl; count = omega arith })
+
+  pub letterless : not wanted ≡ false → code ≡ 0 → Appended o n (letterIf wanted code) o n
+  unfolding letterIf letterList if_then_else_
+  letterless e z = rw (not-false wanted e, z) (record { words = refl; count = omega arith })
+
+  pub one-letter : not wanted ≡ false → (code ≡ 0 → ⊥) → Appended o n (letterIf wanted code) (set o n (code - 1)) (n + 1)
+  unfolding letterIf letterList if_then_else_
+  one-letter e z =
+      let s : code ≡ suc (code - 1) = omega arith in
+      let w : letterIf wanted code ≡ (code - 1) ∷ [] = rw (not-false wanted e) (ap letterList s) in
+      rw w (record { words = refl; count = omega arith })
+
+letter-few : (wanted : Bool) (code : ℕ) → length (letterIf wanted code) ≤ 1
+unfolding letterIf letterList if_then_else_
+letter-few true zero = omega arith
+letter-few true (suc c) = omega arith
+letter-few false code = omega arith
+
+-- ---- a record's class
+
+flag-known : (a b : Bool) → not (eqb (bitAnd (bits a b) 1) 0) ≡ a
+unfolding bits
+flag-known true true = refl
+flag-known true false = refl
+flag-known false true = refl
+flag-known false false = refl
+
+argument-known : (a b : Bool) → not (eqb (bitAnd (bits a b) 2) 0) ≡ b
+unfolding bits
+argument-known true true = refl
+argument-known true false = refl
+argument-known false true = refl
+argument-known false false = refl
+
+module _ (xs : List Node) (count : ℕ) (t : List ℕ) (z : Classed xs count t) (k : ℕ) (h : k < count) (class : ℕ) (e : class ≡ getD t k 0) (r : Bool) where
+  pub flag-wanted : r ≡ not (eqb (bitAnd class 1) 0) → r ≡ namedAt xs 1 k
+  unfolding classOf
+  flag-wanted s = s ∙ rw (e, z .at k h) (flag-known (namedAt xs 1 k) (namedAt xs 2 k))
+
+  pub argument-wanted : r ≡ not (eqb (bitAnd class 2) 0) → r ≡ namedAt xs 2 k
+  unfolding classOf
+  argument-wanted s = s ∙ rw (e, z .at k h) (argument-known (namedAt xs 1 k) (namedAt xs 2 k))
+
+-- ---- a record's code
+
+mapped-at : {A : Type 0} (f : A → ℕ) (l : List A) (k : ℕ) (x : A) → getElem? l k ≡ some x → getD (map f l) k 0 ≡ f x
+mapped-at f [] k x e = let z : _≡_ {A = ℕ} 0 1 = cc in absurd (omega arith)
+mapped-at f (y ∷ l) zero x e = let z : y ≡ x = cc in rw z
+mapped-at f (y ∷ l) (suc k) x e = mapped-at f l k x e
+
+code-at : (b codes : List ℕ) (k : ℕ) (x : Name) → Coded b codes → k < nameCount b → getElem? (readForm b .names) k ≡ some x
+    → getD codes k 0 ≡ codeOf (readForm b .area) x
+unfolding codesOf
+code-at b codes k x z h e =
+    sym (getD-take (nameCount b) codes k 0 h)
+    ∙ rw (z .same) (mapped-at (codeOf (readForm b .area)) (readForm b .names) k x e)
+
+short-letter : (area : List ℕ) (x : Name) → letterList (codeOf area x) ≡ shortOf area x
+unfolding codeOf shortOf letterList if_then_else_
+short-letter area x = go (eqb (x .type) 0) (oneCharacter (nameBytes area x))
+  where
+    go : (t : Bool) (o : Option ℕ)
+        → letterList (if t then placeCode o else 0) ≡ (if t then (elim o [ none ↦ [] | some c ↦ c ∷ [] ]) else [])
+    go true none = refl
+    go true (some c) = refl
+    go false o = refl
+
+-- ---- all records
+
+sets-append : (v w o : List ℕ) (i : ℕ) → sets o i (v ++ w) ≡ sets (sets o i v) (i + length v) w
+sets-append [] w o i = rw (add-zero i)
+sets-append (x ∷ v) w o i = sets-append v w (set o i x) (suc i) ∙ rw (suc-add i (length v), ← add-suc i (length v))
+
+-- the letters of the records below k are written
+pub record Written (b : List ℕ) (kind : ℕ) (o₀ o : List ℕ) (n k : ℕ) : Type 0 where
+  pub done : List ℕ
+  pub words : o ≡ sets o₀ 0 done
+  pub count : n ≡ length done
+  pub few : n ≤ k
+  pub same : done ++ lettersFrom (readForm b .area) (namedAt (readForm b .nodes) kind) k (drop k (readForm b .names)) ≡ lettersByName (readForm b) kind
+
+module _ (b : List ℕ) (kind : ℕ) (o₀ : List ℕ) where
+  pub written-first : Written b kind o₀ o₀ 0 0
+  written-first = record { done = []; words = refl; count = refl; few = omega arith; same = refl }
+
+  module _ (o : List ℕ) (n k m : ℕ) (z : Written b kind o₀ o n k) (em : m ≡ nameCount b) where
+    module _ (h : k < m) (codes : List ℕ) (coded : Coded b codes) (code : ℕ) (ec : code ≡ getD codes k 0) (wanted : Bool) (ew : wanted ≡ namedAt (readForm b .nodes) kind k) where
+      letters-step :
+          z .done ++ (letterIf wanted code ++ lettersFrom (readForm b .area) (namedAt (readForm b .nodes) kind) (suc k) (drop (suc k) (readForm b .names)))
+          ≡ lettersByName (readForm b) kind
+      unfolding lettersFrom letterIf
+      letters-step =
+          let f = readForm b in
+          let (x, s) = lookup-some (f .names) k (omega (arith, names-length b)) in
+          let e : code ≡ codeOf (f .area) x = ec ∙ code-at b codes k x coded (omega arith) s in
+          rw (ew, e, short-letter (f .area) x) (rw (drop-below (f .names) k x s) at (z .same))
+
+      pub written-next : (o′ : List ℕ) (r : ℕ) → Appended o n (letterIf wanted code) o′ r → Written b kind o₀ o′ r (k + 1)
+      written-next o′ r a =
+          let v = letterIf wanted code in
+          let zero-first : 0 + length (z .done) ≡ n = zero-add (length (z .done)) ∙ sym (z .count) in
+          record {
+            done = z .done ++ v;
+            words = a .words ∙ rw (z .words, sets-append (z .done) v o₀ 0, zero-first);
+            count = rw (length-append (z .done) v) (omega (arith, z .count, a .count));
+            few = omega (arith, z .few, a .count, letter-few wanted code);
+            same = rw (add-one k, append-assoc (z .done) v _) letters-step;
+          }
+
+    pub written-last : m ≤ k → Wrote o₀ (lettersByName (readForm b) kind) o n
+    unfolding lettersFrom
+    written-last h =
+        let all : z .done ≡ lettersByName (readForm b) kind =
+        sym (append-nil (z .done)) ∙ rw (drop-of-length-le (readForm b .names) {i = k} (omega (arith, names-length b))) at (z .same) in
+        record { words = rw (← all) (z .words); count = rw (← all) (z .count) }

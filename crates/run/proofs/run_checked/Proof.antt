@@ -1,0 +1,76 @@
+use borrow.Author.Needs.{needs}
+use Rattle.run.proofs.Runs.{splitting-refused, fields-start, fields-end, fields-long}
+use lib.ListN.{length}
+use Rattle.split_args.proofs.States.{fill-long}
+use Rattle.call_check.proofs.Splits.{ready-names, codes-fit}
+use Rattle.run.proofs.run_checked.Statement.{statement}
+use Rattle.run.proofs.run_checked.Tie as tie
+
+fill-requires : tie.Need-fill-requires
+fill-requires c κs = search needs
+
+no-codes-requires : tie.Need-no-codes-requires
+no-codes-requires c κs = search needs
+
+slice-aggregate-codes : tie.Need-slice-aggregate-codes
+slice-aggregate-codes c = search needs
+
+codes-requires : tie.Need-codes-requires
+codes-requires c κs = (search ready-names, search codes-fit)
+
+slice-aggregate-split-accepted : tie.Need-slice-aggregate-split-accepted
+slice-aggregate-split-accepted c = search needs
+
+split-accepted-requires : tie.Need-split-accepted-requires
+split-accepted-requires c κs = search needs
+
+begin-requires : tie.Need-begin-requires
+begin-requires c κs = search needs
+
+refused-requires : tie.Need-refused-requires
+refused-requires c κs = search needs
+
+same-length : tie.Need-same-length
+same-length c = search needs
+
+same-length-2 : tie.Need-same-length-2
+same-length-2 c = fill-long _ (c .before .before .before .before .before .before .before .before .before .before .before .before .before .before .before .before .before .before .before .before .before .before .args .answers .now) 0 (length (c .before .before .before .before .before .before .before .before .before .before .before .before .before .before .before .before .before .before .before .before .before .before .args .answers .now)) (c .before .before .before .before .before .before .before .before .before .before .before .before .before .before .before .before .fill .ensures)
+
+returns : tie.Need-returns
+returns c = splitting-refused _ _ _ _ (c .before .before .before .before .before .before .before .before .before .before .before .before .before .before .before .before .before .before .before .before .before .before .pre .0) _ (c .before .before .before .before .before .before .before .before .before .before .before .before .before .before .before .before .fill .ensures) _ _ (c .before .before .before .before .before .before .before .split-accepted .ensures) _ _ (c .before .before .before .begin .ensures) (c .before .if1 .taken) _ (c .refused .ensures)
+
+slice-aggregate-run-items : tie.Need-slice-aggregate-run-items
+slice-aggregate-run-items c = search needs
+
+run-items-requires : tie.Need-run-items-requires
+run-items-requires c κs = fields-start _ _ _ _ (c .before .before .before .before .before .before .before .before .before .before .before .before .before .before .before .before .before .before .before .before .before .before .before .before .before .pre .0) _ (c .before .before .before .before .before .before .before .before .before .before .before .before .before .before .before .before .before .before .before .fill .ensures) _ _ (c .before .before .before .before .before .before .before .before .before .before .split-accepted .ensures) _ _ (c .before .before .before .before .before .before .begin .ensures) (c .before .before .before .before .if1 .left) _ (c .before .before .before .before .before .before .before .before .before .before .before .before .before .before .codes2 .ensures .coded)
+
+same-length-3 : tie.Need-same-length-3
+same-length-3 c = search needs
+
+same-length-4 : tie.Need-same-length-4
+same-length-4 c = fields-long _ _ _ _ (c .before .before .before .before .before .before .before .before .before .before .before .before .before .before .before .before .before .before .before .before .before .before .before .before .before .before .before .before .pre .0) _ (c .before .before .before .before .before .before .before .before .before .before .before .before .before .before .before .before .before .before .before .before .before .before .fill .ensures) _ _ (c .before .before .before .before .before .before .before .before .before .before .before .before .before .split-accepted .ensures) _ _ (c .before .before .before .before .before .before .before .before .before .begin .ensures) (c .before .before .before .before .before .before .before .if1 .left) _ _ _ (c .before .before .run-items .ensures)
+
+returns-2 : tie.Need-returns-2
+returns-2 c = fields-end _ _ _ _ (c .before .before .before .before .before .before .before .before .before .before .before .before .before .before .before .before .before .before .before .before .before .before .before .before .before .before .before .before .pre .0) _ (c .before .before .before .before .before .before .before .before .before .before .before .before .before .before .before .before .before .before .before .before .before .before .fill .ensures) _ _ (c .before .before .before .before .before .before .before .before .before .before .before .before .before .split-accepted .ensures) _ _ (c .before .before .before .before .before .before .before .before .before .begin .ensures) (c .before .before .before .before .before .before .before .if1 .left) _ _ _ (c .before .before .run-items .ensures)
+
+pub run-checked-spec : {M : Type 1} → statement M
+run-checked-spec =
+    tie.close
+    (tie.spec
+    fill-requires
+    no-codes-requires
+    slice-aggregate-codes
+    codes-requires
+    slice-aggregate-split-accepted
+    split-accepted-requires
+    begin-requires
+    refused-requires
+    same-length
+    same-length-2
+    returns
+    slice-aggregate-run-items
+    run-items-requires
+    same-length-3
+    same-length-4
+    returns-2)

@@ -1,0 +1,193 @@
+// The run: from a form and a sheet to values or a refusal. It asks nothing of its input.
+ghost use mathlib.Core.Path.{_≡_};
+ghost use mathlib.Core.Option.{some};
+ghost use lib.ListN.{length, replicate};
+ghost use Rattle.rules.specs.Outcome.{ok};
+ghost use Rattle.rules.specs.Sheet.{sheetArea};
+ghost use Rattle.rules.specs.Accept.{Accepted, accepted, checkForm};
+ghost use Rattle.rules.specs.Run.{refusedInput};
+ghost use Rattle.rules.specs.Run as Run;
+ghost use Rattle.rules.specs.Codes.{placeOf};
+ghost use Rattle.state_marks.specs.Lent.{rawOf};
+ghost use Rattle.split_args.specs.Construct.{Unmarked};
+ghost use Rattle.run_fields.specs.Line.{refusedWith, Starts, Reaches};
+ghost use Rattle.run.specs.Runner.{runAnswer, ended, answerOf, Checked, Begins, shortSlices};
+use run_fields::Reached;
+use rules::State;
+use state_marks::Numbers;
+
+// How the run ended. A place is itself plus 1, or 0 for none; `words` is how many answer words there are.
+#[repr(C)]
+pub struct RunAnswer {
+    pub number: u32,
+    pub place: u32,
+    pub tries: u32,
+    pub words: u32,
+    pub state: State,
+}
+
+fn joined(marks: [u16; 256], p: Numbers) -> State
+    ensures { λ r. ⌜ r ≡ rawOf marks p ⌝ }
+{
+    State {
+        marks,
+        count: p.count,
+        remaining: p.remaining,
+        current: p.current,
+        start: p.start,
+        end: p.end,
+    }
+}
+
+fn no_codes() -> [u32; 128]
+    ensures { λ r. ⌜ r ≡ replicate 128 0 ⌝ }
+{
+    [0u32; 128]
+}
+
+fn nothing_known() -> [u64; 257]
+    ensures { λ r. ⌜ r ≡ replicate 257 0 ⌝ }
+{
+    [0u64; 257]
+}
+
+fn wide(x: u32) -> usize
+    ensures { λ r. ⌜ r ≡ x ⌝ }
+{
+    x as usize
+}
+
+fn refused(number: u32, place: u32, numbers: Numbers) -> Reached
+    ensures { λ r. ⌜ r ≡ refusedWith number place 0 numbers ⌝ }
+{
+    Reached {
+        number,
+        place,
+        tries: 0,
+        words: 0,
+        numbers,
+    }
+}
+
+// Refused because of the input: both slices all 0, an empty state.
+fn refused_input(number: u32, place: u32, items: &mut [u32], answers: &mut [u32]) -> Reached
+    ensures { λ r. ⌜ runAnswer (ok (refusedInput (length (now (items .entry))) (length (now (answers .entry))) number (placeOf place))) ≡ ended (answerOf r (replicate 256 0)) (now (items .exit)) (now (answers .exit)) ⌝ }
+{
+    wire::fill(items, 0, items.len(), 0);
+    wire::fill(answers, 0, answers.len(), 0);
+    let none = Numbers {
+        count: 0,
+        remaining: 0,
+        current: 0,
+        start: 0,
+        end: 0,
+    };
+    refused(number, place, none)
+}
+
+// The fields, by a table of which nodes each item matches.
+fn run_known(
+    form: &[u8],
+    known: &[u64; 257],
+    sheet: &[u8],
+    items: &[u32],
+    marks: &mut [u16; 256],
+    p: Numbers,
+    answers: &mut [u32],
+) -> Reached
+    requires { ⌜ Starts (now form) (now known) (now sheet) (now items) (now marks) p (now answers) 1 ⌝ }
+    ensures { λ r. ⌜ ((a : Accepted) → checkForm (now (form .entry)) ≡ accepted a → Reaches 1 (sheetArea (now (sheet .entry))) (now (items .entry)) (a .fields) (now (marks .entry)) p (now (marks .exit)) (now (answers .entry)) (now (answers .exit)) r) ⌝ }
+{
+    run_fields::run_fields(form, known, sheet, items, marks, p, answers, 1)
+}
+
+// The fields on the items: which nodes each item matches is worked out once, before the first field.
+fn run_items(
+    form: &[u8],
+    codes: &[u32],
+    sheet: &[u8],
+    items: &[u32],
+    marks: &mut [u16; 256],
+    p: Numbers,
+    answers: &mut [u32],
+) -> Reached
+    requires { ⌜ Begins (now form) (now codes) (now sheet) (now items) (now marks) p (now answers) ⌝ }
+    ensures { λ r. ⌜ ((a : Accepted) → checkForm (now (form .entry)) ≡ accepted a → Reaches 1 (sheetArea (now (sheet .entry))) (now (items .entry)) (a .fields) (now (marks .entry)) p (now (marks .exit)) (now (answers .entry)) (now (answers .exit)) r) ⌝ }
+{
+    let mut known = nothing_known();
+    take_table::known(form, codes, sheet, items, wide(p.count), &mut known);
+    run_known(form, &known, sheet, items, marks, p, answers)
+}
+
+// An accepted form, a checked sheet, and room in both slices: the items, then the fields on the state that they start in.
+fn run_checked(
+    form: &[u8],
+    sheet: &[u8],
+    items: &mut [u32],
+    answers: &mut [u32],
+    marks: &mut [u16; 256],
+) -> Reached
+    requires { ⌜ Checked (now form) (now sheet) (now items) (now answers) × Unmarked (now marks) ⌝ }
+    ensures { λ r. ⌜ runAnswer (Run.run (now (form .entry)) (now (sheet .entry)) (length (now (items .entry))) (length (now (answers .entry)))) ≡ ended (answerOf r (now (marks .exit))) (now (items .exit)) (now (answers .exit)) ⌝ }
+{
+    wire::fill(answers, 0, answers.len(), 0);
+    let mut codes = no_codes();
+    take_search::codes(form, &mut codes);
+    let split = call_check::split_accepted(form, &codes, sheet, items);
+    let p = split_args::begin(split.count, split.marker, marks);
+    if split.number != 0 {
+        return refused(split.number, split.place, p);
+    }
+    run_items(form, &codes, sheet, items, marks, p, answers)
+}
+
+// Whether one of the slices is too short.
+fn is_short(items: usize, answers: usize) -> bool
+    ensures { λ r. ⌜ r ≡ shortSlices items answers ⌝ }
+{
+    if items < 1792 {
+        return true;
+    }
+    answers < 8240
+}
+
+// The run over marks that are 0.
+fn run_input(
+    form: &[u8],
+    sheet: &[u8],
+    items: &mut [u32],
+    answers: &mut [u32],
+    marks: &mut [u16; 256],
+) -> Reached
+    requires { ⌜ Unmarked (now marks) ⌝ }
+    ensures { λ r. ⌜ runAnswer (Run.run (now (form .entry)) (now (sheet .entry)) (length (now (items .entry))) (length (now (answers .entry)))) ≡ ended (answerOf r (now (marks .exit))) (now (items .exit)) (now (answers .exit)) ⌝ }
+{
+    let checked = form_check::check(form);
+    if checked.number != 0 {
+        return refused_input(checked.number, checked.place, items, answers);
+    }
+    let fault = split_sheet::check(sheet);
+    if fault != 0 {
+        return refused_input(fault, 0, items, answers);
+    }
+    if is_short(items.len(), answers.len()) {
+        return refused_input(7, 0, items, answers);
+    }
+    run_checked(form, sheet, items, answers, marks)
+}
+
+// A form and a sheet, to items, answer words and a state. The state is put together once, here.
+pub fn run(form: &[u8], sheet: &[u8], items: &mut [u32], answers: &mut [u32]) -> RunAnswer
+    ensures { λ r. ⌜ runAnswer (Run.run (now (form .entry)) (now (sheet .entry)) (length (now (items .entry))) (length (now (answers .entry)))) ≡ some (record { answer = r; items = now (items .exit); answers = now (answers .exit) }) ⌝ }
+{
+    let mut marks = split_args::unmarked();
+    let all = run_input(form, sheet, items, answers, &mut marks);
+    let left = all.numbers;
+    RunAnswer {
+        number: all.number,
+        place: all.place,
+        tries: all.tries,
+        words: all.words,
+        state: joined(marks, left),
+    }
+}

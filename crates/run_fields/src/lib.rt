@@ -1,0 +1,209 @@
+// All fields of a form on one state, each from where the last one ended, and then refusal 27.
+ghost use mathlib.Core.Path.{_≡_};
+ghost use mathlib.Core.Bool.{not};
+ghost use mathlib.Core.Option.{some};
+ghost use Prim.Native.Nat.{_+_, _≤_};
+ghost use lib.ListN.{length};
+ghost use Rattle.rules.specs.Accept.{Accepted, accepted, checkForm};
+ghost use Rattle.rules.specs.Sheet.{sheetArea};
+ghost use Rattle.rules.specs.Tree.{Tree, kindOf};
+ghost use Rattle.eval_told.specs.Nodes.{treeAt, isScalar};
+ghost use Rattle.run_fields.specs.Line.{Starts, Fields, written, PutValue, RunsFields, Reaches, refusedWith, valuesOf};
+ghost use Rattle.eval_list.specs.Lists.{Writes};
+use eval_told::Ran;
+use state_marks::Numbers;
+
+// How the run of all fields ended. `words` is how many answer words there are.
+pub struct Reached {
+    pub number: u32,
+    pub place: u32,
+    pub tries: u32,
+    pub words: u32,
+    pub numbers: Numbers,
+}
+
+fn wide(x: u32) -> usize
+    ensures { λ r. ⌜ r ≡ x ⌝ }
+{
+    x as usize
+}
+
+// Whether the value of a node is a list or an optional list: through optionals and choices to what is beneath.
+pub fn is_list(form: &[u8], node: usize) -> bool
+    requires { ⌜ ((t : Tree) × (treeAt (now form) node ≡ some t)) ⌝ }
+    ensures { λ r. ⌜ ((t : Tree) → treeAt (now (form .entry)) node ≡ some t → not r ≡ isScalar (kindOf t)) ⌝ }
+{
+    let mut n = node;
+    loop {
+        let x = form_layout::node_at(form, n);
+        let kind = x.kind;
+        match kind {
+            4 | 9 => n = x.p,
+            5 | 6 => return true,
+            _ => return false,
+        }
+    }
+}
+
+// The words of a value are written.
+fn wrote(ran: Ran, len: u32) -> Ran
+    ensures { λ r. ⌜ r ≡ written ran len ⌝ }
+{
+    let left = ran.numbers;
+    Ran {
+        number: ran.number,
+        place: ran.place,
+        tries: ran.tries,
+        len,
+        word: 0,
+        numbers: left,
+    }
+}
+
+// A value that is no list: its words go to `out` from `at` on.
+fn put_value(out: &mut [u32], at: usize, ran: Ran) -> Ran
+    requires { ⌜ at + 2 ≤ length (now out) ⌝ }
+    ensures { λ r. ⌜ PutValue (now (out .entry)) at ran (now (out .exit)) r ⌝ }
+{
+    let len = eval_node::put(out, at, ran.len, ran.word);
+    wrote(ran, len)
+}
+
+// A field by the general run, whatever its node is.
+fn run_other(
+    form: &[u8],
+    known: &[u64],
+    sheet: &[u8],
+    items: &[u32],
+    marks: &mut [u16; 256],
+    p: Numbers,
+    node: usize,
+    at: usize,
+    out: &mut [u32],
+    mark: u16,
+) -> Ran
+    requires { ⌜ Fields (now form) (now known) (now sheet) (now items) (now marks) p mark node (now out) at ⌝ }
+    ensures { λ r. ⌜ ((t : Tree) → treeAt (now (form .entry)) node ≡ some t → Writes mark (sheetArea (now (sheet .entry))) (now (items .entry)) t (now (marks .entry)) p (now (marks .exit)) (now (out .entry)) at (now (out .exit)) r) ⌝ }
+{
+    if is_list(form, node) {
+        return eval_list::run_list(form, known, sheet, items, marks, p, node, at, out, mark);
+    }
+    let ran = eval_node::run_node(form, known, sheet, items, marks, p, node, mark);
+    put_value(out, at, ran)
+}
+
+// One field: its words go to `out` from `at` on. A flag or a positional is evaluated in place, which is quicker than the general run.
+fn run_field(
+    form: &[u8],
+    known: &[u64],
+    sheet: &[u8],
+    items: &[u32],
+    marks: &mut [u16; 256],
+    p: Numbers,
+    node: usize,
+    at: usize,
+    out: &mut [u32],
+    mark: u16,
+) -> Ran
+    requires { ⌜ Fields (now form) (now known) (now sheet) (now items) (now marks) p mark node (now out) at ⌝ }
+    ensures { λ r. ⌜ ((t : Tree) → treeAt (now (form .entry)) node ≡ some t → Writes mark (sheetArea (now (sheet .entry))) (now (items .entry)) t (now (marks .entry)) p (now (marks .exit)) (now (out .entry)) at (now (out .exit)) r) ⌝ }
+{
+    let x = form_layout::node_at(form, node);
+    if x.kind == 1 {
+        let flag = eval_params::eval_flag(known, marks, p, node, x.r == 1, mark);
+        return put_value(out, at, flag);
+    }
+    if x.kind == 3 {
+        let operand = eval_params::eval_positional(sheet, items, marks, p, x.p, x.r == 2, mark);
+        return put_value(out, at, operand);
+    }
+    run_other(form, known, sheet, items, marks, p, node, at, out, mark)
+}
+
+fn refused(number: u32, place: u32, tries: u32, numbers: Numbers) -> Reached
+    ensures { λ r. ⌜ r ≡ refusedWith number place tries numbers ⌝ }
+{
+    Reached {
+        number,
+        place,
+        tries,
+        words: 0,
+        numbers,
+    }
+}
+
+fn answered(tries: u32, words: usize, numbers: Numbers) -> Reached
+    requires { ⌜ words ≤ 8240 ⌝ }
+    ensures { λ r. ⌜ r ≡ valuesOf tries words numbers ⌝ }
+{
+    Reached {
+        number: 0,
+        place: 0,
+        tries,
+        words: words as u32,
+        numbers,
+    }
+}
+
+// The fields in order, up to the first that is refused. Each is run on the state that the last one left.
+fn each_field(
+    form: &[u8],
+    known: &[u64],
+    sheet: &[u8],
+    items: &[u32],
+    marks: &mut [u16; 256],
+    p: Numbers,
+    out: &mut [u32],
+    mark: u16,
+) -> Reached
+    requires { ⌜ Starts (now form) (now known) (now sheet) (now items) (now marks) p (now out) mark ⌝ }
+    ensures { λ r. ⌜ ((a : Accepted) → checkForm (now (form .entry)) ≡ accepted a → RunsFields mark (sheetArea (now (sheet .entry))) (now (items .entry)) (a .fields) (now (marks .entry)) p (now (marks .exit)) (now (out .entry)) (now (out .exit)) r) ⌝ }
+{
+    let n = form_layout::field_count(form);
+    let mut s = p;
+    let mut tries: u32 = 0;
+    let mut at = 0;
+    let mut k = 0;
+    while k < n {
+        let node = form_layout::field_at(form, k);
+        let ran = run_field(form, known, sheet, items, marks, s, node, at, out, mark);
+        let left = ran.numbers;
+        tries = tries + ran.tries;
+        if ran.number != 0 {
+            wire::fill(out, 0, at, 0);
+            return refused(ran.number, ran.place, tries, left);
+        }
+        s = left;
+        at = at + wide(ran.len);
+        k += 1;
+    }
+    answered(tries, at, s)
+}
+
+// All fields, then 27 at the first present place that is left in scope. Refused, `out` is all 0 again.
+pub fn run_fields(
+    form: &[u8],
+    known: &[u64],
+    sheet: &[u8],
+    items: &[u32],
+    marks: &mut [u16; 256],
+    p: Numbers,
+    out: &mut [u32],
+    mark: u16,
+) -> Reached
+    requires { ⌜ Starts (now form) (now known) (now sheet) (now items) (now marks) p (now out) mark ⌝ }
+    ensures { λ r. ⌜ ((a : Accepted) → checkForm (now (form .entry)) ≡ accepted a → Reaches mark (sheetArea (now (sheet .entry))) (now (items .entry)) (a .fields) (now (marks .entry)) p (now (marks .exit)) (now (out .entry)) (now (out .exit)) r) ⌝ }
+{
+    let all = each_field(form, known, sheet, items, marks, p, out, mark);
+    if all.number != 0 {
+        return all;
+    }
+    let s = all.numbers;
+    let end = wide(s.end);
+    let place = state_marks::first_present(marks, wide(s.start), end);
+    if end <= place {
+        return all;
+    }
+    wire::fill(out, 0, wide(all.words), 0);
+    refused(27, place as u32 + 1, all.tries, s)
+}

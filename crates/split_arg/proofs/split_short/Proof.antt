@@ -1,0 +1,72 @@
+-- The first `=` from byte 2 on ends the name; with an `=` the name is one byte (`Names`). Assumes nothing.
+use mathlib.Core.Path.{sym, _∙_}
+use borrow.Author.Tests.{not-true, not-false}
+use borrow.Author.Needs.{needs}
+use Rattle.split_arg.proofs.Names.{short-bad, short-whole, letter-bad, short-value, short-rest}
+use Rattle.split_arg.proofs.split_short.Statement.{statement}
+use Rattle.split_arg.proofs.split_short.Tie as tie
+
+find-equals-requires : tie.Need-find-equals-requires
+find-equals-requires c κs = search needs
+
+sub-valid : tie.Need-sub-valid
+sub-valid c = search needs
+
+part-valid-start : tie.Need-part-valid-start
+part-valid-start c = search needs
+
+part-valid-end : tie.Need-part-valid-end
+part-valid-end c = search needs
+
+valid-requires : tie.Need-valid-requires
+valid-requires c κs = search needs
+
+sub-t10 : tie.Need-sub-t10
+sub-t10 c = search needs
+
+returns : tie.Need-returns
+returns c = short-whole _ (c .before .before .before .before .before .before .pre) _ (c .before .before .before .before .find-equals .ensures) (c .before .before .before .if1 .taken) (sym (c .before .valid .ensures) ∙ c .if2 .taken)
+
+returns-2 : tie.Need-returns-2
+returns-2 c = short-bad _ (c .before .before .before .before .before .before .pre) _ (c .before .before .before .before .find-equals .ensures) (c .before .before .before .if1 .taken) (sym (c .before .valid .ensures) ∙ c .if2 .left)
+
+sub-valid-2 : tie.Need-sub-valid-2
+sub-valid-2 c = search needs
+
+part-valid-start-2 : tie.Need-part-valid-start-2
+part-valid-start-2 c = search needs
+
+part-valid-end-2 : tie.Need-part-valid-end-2
+part-valid-end-2 c = search needs
+
+valid-requires-2 : tie.Need-valid-requires-2
+valid-requires-2 c κs = search needs
+
+returns-3 : tie.Need-returns-3
+returns-3 c = letter-bad _ (c .before .before .before .before .before .before .pre) _ (c .before .before .before .before .find-equals .ensures) (c .before .before .before .if1 .left) (sym (c .before .valid2 .ensures) ∙ not-true _ (c .if3 .taken))
+
+returns-4 : tie.Need-returns-4
+returns-4 c = short-value _ (c .before .before .before .before .before .before .before .pre) _ (c .before .before .before .before .before .find-equals .ensures) (c .before .before .before .before .if1 .left) (sym (c .before .before .valid2 .ensures) ∙ not-false _ (c .before .if3 .left)) (c .if4 .taken)
+
+returns-5 : tie.Need-returns-5
+returns-5 c = short-rest _ (c .before .before .before .before .before .before .before .pre) _ (c .before .before .before .before .before .find-equals .ensures) (c .before .before .before .before .if1 .left) (sym (c .before .before .valid2 .ensures) ∙ not-false _ (c .before .if3 .left)) (c .if4 .left)
+
+pub split-short-spec : {M : Type 1} → statement M
+split-short-spec =
+    tie.close
+    (tie.spec
+    find-equals-requires
+    sub-valid
+    part-valid-start
+    part-valid-end
+    valid-requires
+    sub-t10
+    returns
+    returns-2
+    sub-valid-2
+    part-valid-start-2
+    part-valid-end-2
+    valid-requires-2
+    returns-3
+    returns-4
+    returns-5)

@@ -1,0 +1,62 @@
+-- A place outside the scope, a used one, and one that becomes used: a law each. Assumes nothing.
+use borrow.Author.Needs.{needs}
+use Rattle.state_marks.proofs.Laws.{below-scope, above-scope, used-before, some-left, used-now}
+use Rattle.state_marks.proofs.remove.Statement.{statement}
+use Rattle.state_marks.proofs.remove.Tie as tie
+
+wide-requires : tie.Need-wide-requires
+wide-requires c κs = search needs
+
+returns : tie.Need-returns
+returns c = search below-scope
+
+wide-requires-2 : tie.Need-wide-requires-2
+wide-requires-2 c κs = search needs
+
+returns-2 : tie.Need-returns-2
+returns-2 c = search above-scope
+
+mul-if3 : tie.Need-mul-if3
+mul-if3 c = search needs
+
+element-copy-out-if3 : tie.Need-element-copy-out-if3
+element-copy-out-if3 c = search needs
+
+returns-3 : tie.Need-returns-3
+returns-3 c = search used-before
+
+mul-marks : tie.Need-mul-marks
+mul-marks c = search needs
+
+element-write-marks : tie.Need-element-write-marks
+element-write-marks c = search needs
+
+sub-t12 : tie.Need-sub-t12
+sub-t12 c = search some-left
+
+cast-t13 : tie.Need-cast-t13
+cast-t13 c = search needs
+
+add-t14 : tie.Need-add-t14
+add-t14 c = search needs
+
+returns-4 : tie.Need-returns-4
+returns-4 c = search used-now
+
+pub remove-spec : {M : Type 1} → statement M
+remove-spec =
+    tie.close
+    (tie.spec
+    wide-requires
+    returns
+    wide-requires-2
+    returns-2
+    mul-if3
+    element-copy-out-if3
+    returns-3
+    mul-marks
+    element-write-marks
+    sub-t12
+    cast-t13
+    add-t14
+    returns-4)

@@ -1,0 +1,59 @@
+-- Invariant: what is left to search finds what the whole does. Assumes nothing.
+use mathlib.Core.Logic.{⊎-elim}
+use mathlib.Core.List.{List}
+use Prim.Native.Nat.{ℕ, _-_}
+use borrow.Author.Needs.{needs}
+use Rattle.rules.specs.Take.{isOperand}
+use Rattle.take_search.proofs.Items.{operand-said}
+use Rattle.take_search.proofs.Search.{Seeking, seeking-first, seeking-used, seeking-other, seeking-hit, seeking-last}
+use Rattle.take_search.proofs.find_operand.Statement.{statement}
+use Rattle.take_search.proofs.find_operand.Tie as tie
+
+abbrev Inv-loop : tie.InvT-loop
+Inv-loop items marks from end place₀ place = (area : List ℕ) → Seeking area items isOperand marks from end place
+
+abbrev μ-loop : tie.MeasureT-loop
+μ-loop items marks from end place₀ place = end - place
+
+loop-holds : tie.Need-loop-holds Inv-loop μ-loop
+loop-holds c = λ area. search seeking-first
+
+mul-if1 : tie.Need-mul-if1 Inv-loop μ-loop
+mul-if1 c = search needs
+
+shared-slice-read-if1 : tie.Need-shared-slice-read-if1 Inv-loop μ-loop
+shared-slice-read-if1 c = search needs
+
+is-operand-requires : tie.Need-is-operand-requires Inv-loop μ-loop
+is-operand-requires c κs = search needs
+
+returns : tie.Need-returns Inv-loop μ-loop
+returns c = λ area. seeking-hit area _ _ _ _ _ _ (c .before .before .before .before .before .loop .inv area) (c .before .before .before .before .loop-test .taken) (c .before .before .before .before .before .before .before .before .pre .1) (c .before .before .if1 .taken) _ (operand-said area (c .before .before .before .before .before .before .before .before .args .items .now) (c .before .before .before .before .before .loop .place) _ (c .before .is-operand .ensures)) (c .if2 .taken)
+
+add-place : tie.Need-add-place Inv-loop μ-loop
+add-place c = search needs
+
+loop-less : tie.Need-loop-less Inv-loop μ-loop
+loop-less c = search needs
+
+loop-again : tie.Need-loop-again Inv-loop μ-loop
+loop-again c = λ area. ⊎-elim (λ w. seeking-other area _ _ _ _ _ _ (c .before .before .before .loop .inv area) (c .before .before .loop-test .taken) (c .before .before .before .before .before .before .pre .1) (w .0 .taken) _ (operand-said area (c .before .before .before .before .before .before .args .items .now) (c .before .before .before .loop .place) _ (w .1 .ensures)) (w .2 .left)) (λ w. seeking-used area _ _ _ _ _ _ (c .before .before .before .loop .inv area) (c .before .before .loop-test .taken) (c .before .before .before .before .before .before .pre .1) (w .left)) (c .if1 .came)
+
+returns-2 : tie.Need-returns-2 Inv-loop μ-loop
+returns-2 c = λ area. seeking-last area _ _ _ _ _ _ (c .before .loop .inv area) (c .loop-test .left)
+
+pub find-operand-spec : {M : Type 1} → statement M
+find-operand-spec =
+    tie.close
+    (tie.spec
+    Inv-loop
+    μ-loop
+    loop-holds
+    mul-if1
+    shared-slice-read-if1
+    is-operand-requires
+    returns
+    add-place
+    loop-less
+    loop-again
+    returns-2)

@@ -1,0 +1,68 @@
+-- Invariant: what is left decides. Assumes nothing.
+use mathlib.Core.Path.{refl}
+use Prim.Native.Nat.{_-_}
+use borrow.Author.Needs.{needs}
+use Rattle.take_search.proofs.Names.{Sifting, sifting-first, sifting-next, sifting-hit, sifting-last}
+use Rattle.take_search.proofs.has_short.Statement.{statement}
+use Rattle.take_search.proofs.has_short.Tie as tie
+
+abbrev Inv-loop : tie.InvT-loop
+Inv-loop codes first count character want end k₀ k = Sifting codes first count want end k
+
+abbrev μ-loop : tie.MeasureT-loop
+μ-loop codes first count character want end k₀ k = end - k
+
+wide-requires : tie.Need-wide-requires Inv-loop μ-loop
+wide-requires c κs = search needs
+
+add-want : tie.Need-add-want Inv-loop μ-loop
+add-want c = search needs
+
+add-end : tie.Need-add-end Inv-loop μ-loop
+add-end c = search needs
+
+loop-holds : tie.Need-loop-holds Inv-loop μ-loop
+loop-holds c = search sifting-first
+
+mul-wide : tie.Need-mul-wide Inv-loop μ-loop
+mul-wide c = search needs
+
+shared-slice-read-wide : tie.Need-shared-slice-read-wide Inv-loop μ-loop
+shared-slice-read-wide c = search needs
+
+wide-requires-2 : tie.Need-wide-requires-2 Inv-loop μ-loop
+wide-requires-2 c κs = search needs
+
+returns : tie.Need-returns Inv-loop μ-loop
+returns c = search sifting-hit
+
+add-k : tie.Need-add-k Inv-loop μ-loop
+add-k c = search needs
+
+loop-less : tie.Need-loop-less Inv-loop μ-loop
+loop-less c = search needs
+
+loop-again : tie.Need-loop-again Inv-loop μ-loop
+loop-again c = sifting-next _ _ _ _ _ _ _ _ (c .before .before .before .before .before .wide .ensures) refl (c .before .before .before .before .before .before .before .pre) refl (c .before .before .before .before .loop .inv) (c .before .before .before .loop-test .taken) _ (c .before .wide2 .ensures) (c .if1 .left)
+
+returns-2 : tie.Need-returns-2 Inv-loop μ-loop
+returns-2 c = search sifting-last
+
+pub has-short-spec : {M : Type 1} → statement M
+has-short-spec =
+    tie.close
+    (tie.spec
+    Inv-loop
+    μ-loop
+    wide-requires
+    add-want
+    add-end
+    loop-holds
+    mul-wide
+    shared-slice-read-wide
+    wide-requires-2
+    returns
+    add-k
+    loop-less
+    loop-again
+    returns-2)

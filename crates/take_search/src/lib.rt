@@ -1,0 +1,220 @@
+// Which items have one of a node's names, and the searches for the first such item and for the first operand.
+ghost use mathlib.Core.Path.{_≡_};
+ghost use mathlib.Core.Bool.{not, _||_};
+ghost use mathlib.Core.Option.{some};
+ghost use mathlib.Core.List.{List};
+ghost use Prim.Native.Nat.{ℕ, _+_, _*_, _≤_, _<_};
+ghost use lib.ListN.{length, getD, getElem?, take, drop};
+ghost use Rattle.rules.specs.Base.{contains, same};
+ghost use Rattle.rules.specs.Form.{Name, nameCount, readForm};
+ghost use Rattle.rules.specs.Tree.{longOf};
+ghost use Rattle.rules.specs.Sheet.{sheetArea};
+ghost use Rattle.rules.specs.Split.{Item as RulesItem};
+ghost use Rattle.rules.specs.Take.{containsName, matchesArg, isOperand};
+ghost use Rattle.rules.specs.Calls.{itemFrom};
+ghost use Rattle.split_arg.specs.Items.{recordAt};
+ghost use Rattle.form_layout.specs.Layout.{HasName};
+ghost use Rattle.take_search.specs.Codes.{Checked, codesOf, Written, namedAt};
+ghost use Rattle.take_search.specs.Items.{HasPart, partBytes, operandKind};
+ghost use Rattle.take_search.specs.Search.{HasNames, HasItem, HasItems, Sought};
+use split_arg::Item;
+use split_arg::Part;
+
+fn wide(x: u32) -> u64
+    ensures { λ r. ⌜ r ≡ x ⌝ }
+{
+    x as u64
+}
+
+// The code of name record k: its character plus 1 if it is short, else 0.
+fn code(form: &[u8], k: usize) -> u32
+    requires { ⌜ HasName (now form) k ⌝ }
+    ensures { λ r. ⌜ getElem? (codesOf (readForm (now (form .entry)))) k ≡ some r ⌝ }
+{
+    let x = form_layout::name_at(form, k);
+    if x.kind != 0 {
+        return 0;
+    }
+    form_names::character(form_layout::name_bytes(form, k))
+}
+
+// The codes of all name records: made once, so that no short name is decoded again.
+pub fn codes(form: &[u8], out: &mut [u32])
+    requires { ⌜ Checked (now form) × (nameCount (now form) ≤ length (now out)) ⌝ }
+    ensures { λ _. ⌜ Written (now (form .entry)) (now (out .entry)) (now (out .exit)) ⌝ }
+{
+    let count = form_layout::name_count(form);
+    let mut k = 0;
+    while k < count {
+        out[k] = code(form, k);
+        k += 1;
+    }
+}
+
+// Whether one of `count` codes from `first` on is that of a character.
+fn has_short(codes: &[u32], first: usize, count: usize, character: u32) -> bool
+    requires { ⌜ first + count ≤ length (now codes) ⌝ }
+    ensures { λ r. ⌜ r ≡ contains (take count (drop first (now (codes .entry)))) (character + 1) ⌝ }
+{
+    let want = wide(character) + 1;
+    let end = first + count;
+    let mut k = first;
+    while k < end {
+        if wide(codes[k]) == want {
+            return true;
+        }
+        k += 1;
+    }
+    false
+}
+
+pub fn same_bytes(a: &[u8], b: &[u8]) -> bool
+    ensures { λ r. ⌜ r ≡ same (now (a .entry)) (now (b .entry)) ⌝ }
+{
+    if a.len() != b.len() {
+        return false;
+    }
+    let mut i = 0;
+    while i < a.len() {
+        if a[i] != b[i] {
+            return false;
+        }
+        i += 1;
+    }
+    true
+}
+
+// Whether name record k is long, and this name.
+pub fn is_long(form: &[u8], k: usize, name: &[u8]) -> bool
+    requires { ⌜ HasName (now form) k ⌝ }
+    ensures { λ r. ⌜ ((x : Name) → getElem? (readForm (now (form .entry)) .names) k ≡ some x → r ≡ containsName (longOf (readForm (now (form .entry)) .area) x) (now (name .entry))) ⌝ }
+{
+    let x = form_layout::name_at(form, k);
+    if x.kind != 1 {
+        return false;
+    }
+    same_bytes(form_layout::name_bytes(form, k), name)
+}
+
+// Whether one of `count` name records from `first` on is this long name.
+fn has_long(form: &[u8], name: &[u8], first: usize, count: usize) -> bool
+    requires { ⌜ Checked (now form) × (first + count ≤ nameCount (now form)) ⌝ }
+    ensures { λ r. ⌜ r ≡ containsName (namedAt (now (form .entry)) first count .longs) (now (name .entry)) ⌝ }
+{
+    let end = first + count;
+    let mut k = first;
+    while k < end {
+        if is_long(form, k, name) {
+            return true;
+        }
+        k += 1;
+    }
+    false
+}
+
+// The bytes of a part of the sheet's area.
+pub fn part_bytes(sheet: &[u8], x: Part) -> &[u8]
+    requires { ⌜ HasPart (now sheet) x ⌝ }
+    ensures { λ r. ⌜ now r ≡ partBytes (sheetArea (now (sheet .entry))) x ⌝ }
+{
+    let area = wire::area_start(2, split_sheet::count(sheet));
+    let from = area + x.offset as usize;
+    let to = from + x.length as usize;
+    &sheet[from..to]
+}
+
+// An adjacent argument takes only an item that has its value in its own word.
+fn fits(adjacent: bool, own: bool) -> bool
+    ensures { λ r. ⌜ r ≡ (not adjacent || own) ⌝ }
+{
+    if adjacent { own } else { true }
+}
+
+// `matches_arg`: whether item i has one of `count` names from `first` on.
+pub fn matches(
+    form: &[u8],
+    codes: &[u32],
+    sheet: &[u8],
+    items: &[u32],
+    i: usize,
+    first: usize,
+    count: usize,
+    adjacent: bool,
+) -> bool
+    requires { ⌜ HasNames (now form) (now codes) first count × HasItem (now sheet) (now items) i ⌝ }
+    ensures { λ r. ⌜ ((x : RulesItem) → itemFrom (sheetArea (now (sheet .entry))) (recordAt (now (items .entry)) i) ≡ some x → r ≡ matchesArg (namedAt (now (form .entry)) first count) adjacent x) ⌝ }
+{
+    let item = split_arg::read_item(items, i);
+    match item {
+        Item::Short(character, own, _) => {
+            if !fits(adjacent, own) {
+                return false;
+            }
+            has_short(codes, first, count, character)
+        }
+        Item::Long(name, own, _) => {
+            if !fits(adjacent, own) {
+                return false;
+            }
+            has_long(form, part_bytes(sheet, name), first, count)
+        }
+        Item::ArgWord(_) | Item::Word(_) | Item::PosWord(_) => false,
+    }
+}
+
+// The first present place from `from` on, below `end`, whose item has one of the names; `end` if there is none.
+pub fn find_named(
+    form: &[u8],
+    codes: &[u32],
+    sheet: &[u8],
+    items: &[u32],
+    marks: &[u16],
+    from: usize,
+    end: usize,
+    first: usize,
+    count: usize,
+    adjacent: bool,
+) -> usize
+    requires { ⌜ HasNames (now form) (now codes) first count × HasItems (now sheet) (now items) (now marks) from end ⌝ }
+    ensures { λ r. ⌜ Sought (sheetArea (now (sheet .entry))) (now (items .entry)) (matchesArg (namedAt (now (form .entry)) first count) adjacent) (now (marks .entry)) from end r ⌝ }
+{
+    let mut i = from;
+    while i < end {
+        if marks[i] != 1 {
+            if matches(form, codes, sheet, items, i, first, count, adjacent) {
+                return i;
+            }
+        }
+        i += 1;
+    }
+    i
+}
+
+// Whether record i is a Word or a PosWord.
+fn is_operand(items: &[u32], i: usize) -> bool
+    requires { ⌜ 7 * i < length (now items) ⌝ }
+    ensures { λ r. ⌜ r ≡ operandKind (getD (now (items .entry)) (7 * i) 0) ⌝ }
+{
+    let kind = items[7 * i];
+    if kind == 4 {
+        return true;
+    }
+    kind == 5
+}
+
+// The first present place from `from` on, below `end`, that is a Word or a PosWord; `end` if there is none.
+pub fn find_operand(items: &[u32], marks: &[u16], from: usize, end: usize) -> usize
+    requires { ⌜ (from ≤ end) × (end ≤ length (now marks)) × (7 * end ≤ length (now items)) ⌝ }
+    ensures { λ r. ⌜ ((area : List ℕ) → Sought area (now (items .entry)) isOperand (now (marks .entry)) from end r) ⌝ }
+{
+    let mut place = from;
+    while place < end {
+        if marks[place] != 1 {
+            if is_operand(items, place) {
+                return place;
+            }
+        }
+        place += 1;
+    }
+    place
+}

@@ -1,0 +1,96 @@
+-- Invariant: what is left to search finds what the whole does. Assumes nothing.
+use mathlib.Core.Bool.{Bool}
+use mathlib.Core.List.{List}
+use mathlib.Core.Logic.{⊎-elim}
+use mathlib.Core.Path.{_∙_}
+use Prim.Native.Nat.{ℕ, _-_}
+use borrow.Author.Needs.{needs}
+use Rattle.rules.specs.Split.{Item}
+use Rattle.take_search.proofs.Search.{Seeking, seeking-first, seeking-used, seeking-other, seeking-hit, seeking-last}
+use Rattle.take_table.specs.Known.{Says}
+use Rattle.take_table.proofs.Absent.{absent-sought}
+use Rattle.take_table.proofs.find.Statement.{statement}
+use Rattle.take_table.proofs.find.Tie as tie
+
+abbrev Inv-loop : tie.InvT-loop
+Inv-loop table marks node from end i₀ i =
+    (area words : List ℕ) (test : Item → Bool) → Says table end node area words test → Seeking area words test marks from end i
+
+abbrev μ-loop : tie.MeasureT-loop
+μ-loop table marks node from end i₀ i = end - i
+
+is-absent-requires : tie.Need-is-absent-requires Inv-loop μ-loop
+is-absent-requires c κs = search needs
+
+returns : tie.Need-returns Inv-loop μ-loop
+returns c = absent-sought _ _ _ (c .before .is-absent .ensures) (c .if1 .taken) _ _ _ (c .before .before .before .before .pre .1)
+
+loop-holds : tie.Need-loop-holds Inv-loop μ-loop
+loop-holds c = λ area words test s. search seeking-first
+
+mul-if2 : tie.Need-mul-if2 Inv-loop μ-loop
+mul-if2 c = search needs
+
+shared-slice-read-if2 : tie.Need-shared-slice-read-if2 Inv-loop μ-loop
+shared-slice-read-if2 c = search needs
+
+mul-has : tie.Need-mul-has Inv-loop μ-loop
+mul-has c = search needs
+
+shared-slice-read-has : tie.Need-shared-slice-read-has Inv-loop μ-loop
+shared-slice-read-has c = search needs
+
+has-requires : tie.Need-has-requires Inv-loop μ-loop
+has-requires c κs = search needs
+
+returns-2 : tie.Need-returns-2 Inv-loop μ-loop
+returns-2 c =
+    λ area words test s.
+    let c6 = c .before .before .before .before .before .before in
+    let below = c .before .before .before .before .before .loop-test .taken in
+    let long = c6 .before .before .before .before .before .pre .4 in
+    let present = c .before .before .before .if2 .taken in
+    seeking-hit area words test _ _ _ _ (c6 .loop .inv area words test s) below long present _
+    (λ x h. c .before .has .ensures ∙ s .at _ x below h) (c .if3 .taken)
+
+add-i : tie.Need-add-i Inv-loop μ-loop
+add-i c = search needs
+
+loop-less : tie.Need-loop-less Inv-loop μ-loop
+loop-less c = search needs
+
+loop-again : tie.Need-loop-again Inv-loop μ-loop
+loop-again c =
+    λ area words test s.
+    let c3 = c .before .before .before in
+    let below = c .before .before .loop-test .taken in
+    let long = c3 .before .before .before .before .before .pre .4 in
+    let z = c3 .loop .inv area words test s in
+    ⊎-elim
+    (λ w. seeking-other area words test _ _ _ _ z below long (w .0 .taken) _ (λ x h. w .2 .ensures ∙ s .at _ x below h) (w .3 .left))
+    (λ w. seeking-used area words test _ _ _ _ z below long (w .left))
+    (c .if2 .came)
+
+returns-3 : tie.Need-returns-3 Inv-loop μ-loop
+returns-3 c =
+    λ area words test s. seeking-last area words test _ _ _ _ (c .before .loop .inv area words test s) (c .loop-test .left)
+
+pub find-spec : {M : Type 1} → statement M
+find-spec =
+    tie.close
+    (tie.spec
+    Inv-loop
+    μ-loop
+    is-absent-requires
+    returns
+    loop-holds
+    mul-if2
+    shared-slice-read-if2
+    mul-has
+    shared-slice-read-has
+    has-requires
+    returns-2
+    add-i
+    loop-less
+    loop-again
+    returns-3)
