@@ -33,7 +33,16 @@ module _ (b : List ℕ) where
     unfolding countsGood nodeCount fieldCount nameCount areaLength
     counts-take =
         let whole : leb 8 (length b) ≡ true = le-leb 8 (length b) (omega arith) in
-        rw (length-take-le n b inside, le-leb 8 n long, whole, number-take 2 0 n b (omega arith), number-take 2 2 n b (omega arith), number-take 2 4 n b (omega arith), number-take 2 6 n b (omega arith))
+        rw (
+          length-take-le n b inside,
+          le-leb 8 n long,
+          whole,
+          number-take 2 0 n b (omega arith),
+          number-take 2 2 n b (omega arith),
+          number-take 2 4
+              n b (omega arith),
+          number-take 2 6 n b (omega arith),
+        )
 
     length-take-same : formLength (take n b) ≡ formLength b
     unfolding formLength areaAt namesAt nodesAt nodeCount fieldCount nameCount areaLength

@@ -12,9 +12,9 @@ ghost use Rattle.take_search.specs.Codes.{Coded};
 ghost use Rattle.split_args.specs.Construct.{Ends};
 ghost use Rattle.call_check.specs.Reader.{sheetCode, told, yesCode, splittingOf, Answers};
 ghost use Rattle.call_check.specs.Ready.{Ready};
-use split_args::Ended;
 use rules::Refused;
 use rules::State;
+use split_args::Ended;
 
 // An answer that is a number: refused, it is 0 and the refusal stands beside it. A place is itself plus 1, or 0 for none.
 #[repr(C)]

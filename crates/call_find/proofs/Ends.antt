@@ -196,7 +196,10 @@ module _ (form sheet : List ℕ) (s : Raw) (g : Search) (x : ItemRecord) (i c : 
           pub judge-item : HasItem sheet w 0
           judge-item = record { made = a z .made; room = omega (arith, ap length ew); item = item .0; here = here }
 
-          module _ (m : Bool) (em : (y : Item) → itemFrom (sheetArea sheet) (recordAt w 0) ≡ some y → m ≡ matchesArg (namedAt form (g .key .first) (g .key .count)) (g .key .adjacent) y) where
+          module
+              _
+              (m : Bool) (em : (y : Item) → itemFrom (sheetArea sheet) (recordAt w 0) ≡ some y → m ≡ matchesArg
+              (namedAt form (g .key .first) (g .key .count)) (g .key .adjacent) y) where
             same : (reached s i && sought form g (item .0)) ≡ m
             same =
                 let e : reached s i ≡ true = sym (er .same) ∙ not-false r h in

@@ -99,7 +99,8 @@ module _ (n : ℕ) (x : Raw) (good : stateIn n x ≡ ok (fromRaw x)) where
 
 -- ---- for `find`
 
-module _ (form sheet : List ℕ) (xs : List ItemRecord) (x : Raw) (k : ℕ) (g : Search) (z : g .number ≡ 0) (y : Ready form sheet k g) (c : Seen) (ec : c ≡ scan form sheet x g xs 0 unseen) where
+module _ (form sheet : List ℕ) (xs : List ItemRecord) (x : Raw) (k : ℕ) (g : Search) (z : g .number ≡ 0) (y : Ready form sheet k g) (c : Seen)
+    (ec : c ≡ scan form sheet x g xs 0 unseen) where
   abbrev node : Option Key
   node = getElem? (y .result .trees) k >>? keyOf
 
@@ -215,7 +216,8 @@ module _ (form sheet words : List ℕ) (is : List Item) (t : Table (sheetArea sh
   pub table-items : itemsFrom (sheetArea sheet) (trimmed (map wordsOf xs)) ≡ some is
   table-items = ap (itemsFrom (sheetArea sheet)) same ∙ records-items (sheetArea sheet) is words (t .at)
 
-  module _ (a : Accepted) (accepts : checkForm form ≡ accepted a) (made : sheetFault sheet ≡ 0) (x : Raw) (good : stateIn (length is) x ≡ ok (fromRaw x)) (k : ℕ) (m : Key) (node : (getElem? (a .trees) k >>? keyOf) ≡ some m) where
+  module _ (a : Accepted) (accepts : checkForm form ≡ accepted a) (made : sheetFault sheet ≡ 0) (x : Raw)
+      (good : stateIn (length is) x ≡ ok (fromRaw x)) (k : ℕ) (m : Key) (node : (getElem? (a .trees) k >>? keyOf) ≡ some m) where
     -- what `find_named` answers over the words is what the search over the records finds
     pub by-number : (r : ℕ) → Sought (sheetArea sheet) words (matchesArg (m .named) (m .adjacent)) (x .marks) (x .start) (x .end) r
         → callFind form sheet xs x k ≡ ok (placeBelow r (x .end))

@@ -14,7 +14,8 @@ use Rattle.rules.specs.Form.{Node, Name, Form, nodeCount, nameCount, readForm, 
 use Rattle.rules.specs.Tree.{Named, Tree, namedBy}
 use Rattle.rules.specs.Accept.{accepted, Accepted, checkForm, lengthGood}
 use Rattle.rules.specs.Calls.{flagNames, argumentKey, keyOf, commandName, Key as RulesKey}
-use Rattle.rules.proofs.Acceptance.{if-some, bind-is, bind-some, is-some, lookup-inside, Made, flagMade, argumentMade, positionalMade, optionalMade, manyMade, someMade, countMade, lastMade, choiceMade, fallbackMade, guardMade, tree-made, inside-same, names-some, accepted-form, accepted-length, accepted-trees}
+use Rattle.rules.proofs.Acceptance.{if-some, bind-is, bind-some, is-some, lookup-inside, Made, flagMade, argumentMade, positionalMade, optionalMade, manyMade, someMade, countMade, lastMade}
+use Rattle.rules.proofs.Acceptance.{choiceMade, fallbackMade, guardMade, tree-made, inside-same, names-some, accepted-form, accepted-length, accepted-trees}
 use Rattle.rules.proofs.WellMadeLaws.{well-made}
 use Rattle.form_names.specs.Names.{nameOf}
 use Rattle.form_names.specs.declared.Name as names
@@ -106,7 +107,8 @@ module _ (b : List ℕ) (k : ℕ) where
     here f = bind-is (getElem? (a .trees) k) f (node-tree b a g k x at .stands)
 
     kinds : ByKind (readForm b) x tree
-    kinds = by-kind (readForm b) (take k (a .trees)) _ x tree (tree-made (readForm b) (take k (a .trees)) (take k (a .trees)) (inside-same (take k (a .trees))) x tree (node-tree b a g k x at .made))
+    kinds = by-kind (readForm b) (take k (a .trees)) _ x tree
+        (tree-made (readForm b) (take k (a .trees)) (take k (a .trees)) (inside-same (take k (a .trees))) x tree (node-tree b a g k x at .made))
 
     few : x .kind ≤ 2 → x .p + x .q ≤ nameCount b
     few h = omega (arith, kinds .inside h, names-length b)

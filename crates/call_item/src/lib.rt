@@ -16,11 +16,11 @@ ghost use Rattle.call_answers.specs.Answers.{yesNo, coded, answerWith, answerOf
 ghost use Rattle.call_item.specs.Calls.{unchangedWith, sameNamed, HasPlace, Earlier, freeAt, Gets, nothingGot};
 use call_answers::Answer;
 use call_answers::StateAnswer;
+use rules::State;
 use split_arg::Item;
 use split_arg::Part;
-use state_value::ConflictOption;
-use rules::State;
 use state_marks::Numbers;
+use state_value::ConflictOption;
 use take::Operand;
 
 // The record of the item that was found, or all 0.

@@ -17,7 +17,8 @@ use Rattle.rules.specs.Tree.{Tree}
 use Rattle.rules.specs.Accept.{Accepted, accepted, checkForm, treesAt, childrenOf, uses, usedOnce, leafCount}
 use Rattle.rules.specs.Demands.{All}
 use Rattle.rules.specs.Sound.{leaves, allLeaves}
-use Rattle.rules.proofs.Acceptance.{Made, flagMade, argumentMade, positionalMade, optionalMade, manyMade, someMade, countMade, lastMade, choiceMade, fallbackMade, guardMade, Child, TreesAt, trees-made, trees-length, fields-step, no-fault, lookup-inside, numbers-all, Passed, accepted-passed, accepted-length, accepted-form}
+use Rattle.rules.proofs.Acceptance.{Made, flagMade, argumentMade, positionalMade, optionalMade, manyMade, someMade, countMade, lastMade, choiceMade, fallbackMade, guardMade, Child, TreesAt}
+use Rattle.rules.proofs.Acceptance.{trees-made, trees-length, fields-step, no-fault, lookup-inside, numbers-all, Passed, accepted-passed, accepted-length, accepted-form}
 use Rattle.rules.proofs.Uses.{used-once, leaves-law}
 use Rattle.form_layout.proofs.Sizes.{sized, nodes-length}
 

@@ -10,8 +10,8 @@ ghost use Rattle.call_answers.specs.Answers.{coded, yesNo, yesCode, pickCode, s
 ghost use Rattle.call_state.specs.Entries.{bothIn, stateWith};
 use call_answers::Answer;
 use call_answers::StateAnswer;
-use state_value::ScopeOption;
 use rules::State;
+use state_value::ScopeOption;
 
 fn wide(x: u32) -> usize
     ensures { λ r. ⌜ r ≡ x ⌝ }

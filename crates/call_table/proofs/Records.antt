@@ -131,7 +131,19 @@ module _ (bytes r : List ℕ) where
 
   kind-other : (getD r 0 0 ≡ 1 → ⊥) → (getD r 0 0 ≡ 2 → ⊥) → (3 ≤ getD r 0 0 → getD r 0 0 ≤ 5 → ⊥) → false ≡ isSome (itemFrom bytes r)
   unfolding itemFrom isSome if_then_else_
-  kind-other a b c = rw (ne-eqb (getD r 0 0) 1 a, ne-eqb (getD r 0 0) 2 b, ne-eqb (getD r 0 0) 3 (λ e. c (omega arith) (omega arith)), ne-eqb (getD r 0 0) 4 (λ e. c (omega arith) (omega arith)), ne-eqb (getD r 0 0) 5 (λ e. c (omega arith) (omega arith)))
+  kind-other
+      a
+      b
+      c
+      =
+      rw (
+        ne-eqb (getD r 0 0) 1 a,
+        ne-eqb (getD r 0 0) 2 b,
+        ne-eqb (getD r 0 0) 3 (λ e. c (omega arith) (omega arith)),
+        ne-eqb (getD r 0 0) 4
+            (λ e. c (omega arith) (omega arith)),
+        ne-eqb (getD r 0 0) 5 (λ e. c (omega arith) (omega arith)),
+      )
 
   -- with no room for the text there is no item
   none-here : (b : Bool) (o u : Option Item) → isSome o ≡ false → isSome u ≡ false → isSome (if b then o else u) ≡ false

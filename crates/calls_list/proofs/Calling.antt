@@ -72,7 +72,8 @@ module _ (sheet words : List ℕ) (s : State) (i : ℕ) (r : Got) (g : Gets shee
     unfolding notOutside if_then_else_
     get-none e k f = rw (answered, not-found k, ne-eqb (r .number) 28 e, f)
 
-    pub get-some : (r .number ≡ 28 → ⊥) → (getD (r .item) 0 0 ≡ 0 → ⊥) → a ≡ answerWith (r .number) (r .place) (coded 1 0 0) → outsideIsNone (answerOf foundCode (callGet sheet words s i)) ≡ some a
+    pub get-some : (r .number ≡ 28 → ⊥) → (getD (r .item) 0 0 ≡ 0 → ⊥) → a ≡ answerWith (r .number) (r .place) (coded 1 0 0) → outsideIsNone
+        (answerOf foundCode (callGet sheet words s i)) ≡ some a
     unfolding notOutside if_then_else_
     get-some e k f = rw (answered, found k, ne-eqb (r .number) 28 e, f)
 

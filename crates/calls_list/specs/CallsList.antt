@@ -10,9 +10,11 @@ use Rattle.utf8.specs.Utf8.{if_then_else_}
 use Rattle.rules.specs.Outcome.{ok}
 use Rattle.rules.specs.Split.{Item}
 use Rattle.rules.specs.Tree.{zeros}
-use Rattle.rules.specs.Calls.{callSplit, callRemove, callPickWinner, callSaveConflicts, callSetScope, callAdjacentScope, callAvailableFrom, callGet, callConflict, callTakePositional, callOnlyOnce, callMatches, callTakeFlag, callTakeArg, callTakeCmd, callEval}
+use Rattle.rules.specs.Calls.{callSplit, callRemove, callPickWinner, callSaveConflicts, callSetScope, callAdjacentScope, callAvailableFrom, callGet, callConflict, callTakePositional}
+use Rattle.rules.specs.Calls.{callOnlyOnce, callMatches, callTakeFlag, callTakeArg, callTakeCmd, callEval}
 use Rattle.rules.specs.declared.State.{State}
-use Rattle.call_answers.specs.Answers.{Coded, coded, yesCode, pickCode, scopeCode, scopeOrNone, conflictCode, takenCode, operandCode, placeOrNone, answerWith, answerOf, plainAnswer, stateAnswerOf}
+use Rattle.call_answers.specs.Answers.{Coded, coded, yesCode, pickCode, scopeCode, scopeOrNone, conflictCode, takenCode, operandCode, placeOrNone, answerWith, answerOf, plainAnswer}
+use Rattle.call_answers.specs.Answers.{stateAnswerOf}
 use Rattle.call_answers.specs.declared.Answer.{Answer}
 use Rattle.call_answers.specs.declared.StateAnswer.{StateAnswer}
 use Rattle.call_node.specs.Node.{evaluatedAnswer}
@@ -20,7 +22,8 @@ use Rattle.call_node.specs.declared.NodeAnswer.{NodeAnswer}
 use Rattle.call_check.specs.Reader.{splittingOf}
 use Rattle.call_check.specs.declared.SplitAnswer.{SplitAnswer}
 use Rattle.tokens.specs.declared.call.Call.{Call}
-use Rattle.tokens.specs.declared.call.Call.the-variants.{Remove, PickWinner, SaveConflicts, SetScope, AdjacentScope, AvailableFrom, Get, Conflict, TakePositional, OnlyOnce, MatchesArg, TakeFlag, TakeArg, TakeCmd}
+use Rattle.tokens.specs.declared.call.Call.the-variants.{Remove, PickWinner, SaveConflicts, SetScope, AdjacentScope, AvailableFrom, Get, Conflict, TakePositional, OnlyOnce, MatchesArg}
+use Rattle.tokens.specs.declared.call.Call.the-variants.{TakeFlag, TakeArg, TakeCmd}
 use Rattle.tokens.specs.Compare.{refusalText, spaced, wordsText, stateText}
 use Rattle.tokens.specs.Call.{layoutOf, nameText, argumentsText, answerText, statesText}
 use Rattle.tokens.specs.Inputs.{Headed}

@@ -15,7 +15,8 @@ use Rattle.rules.specs.Form.{Node, Name, Form, nodeCount, nameCount, readForm}
 use Rattle.rules.specs.Value.{yesNo, text, number, Kind, one, optional, list, listOfOptional, optionalList, name, BaseValue, isYes, isText, isNumber, baseOf, word}
 use Rattle.rules.specs.Tree.{Tree, Flag, Argument, Positional, Optional, Many, Some, Count, Last, Choice, Fallback, Guard, kindOf, zeros, fallbackValue}
 use Rattle.rules.specs.Accept.{Accepted, accepted, lengthGood, checkForm}
-use Rattle.rules.proofs.Acceptance.{if-some, bind-some, and-true, zeros-unused, lookup-inside, Made, flagMade, argumentMade, positionalMade, optionalMade, manyMade, someMade, countMade, lastMade, choiceMade, fallbackMade, guardMade, inside-same, tree-made, trees-length, accepted-length, accepted-passed}
+use Rattle.rules.proofs.Acceptance.{if-some, bind-some, and-true, zeros-unused, lookup-inside, Made, flagMade, argumentMade, positionalMade, optionalMade, manyMade, someMade, countMade}
+use Rattle.rules.proofs.Acceptance.{lastMade, choiceMade, fallbackMade, guardMade, inside-same, tree-made, trees-length, accepted-length, accepted-passed}
 use Rattle.rules.proofs.KindLaws.{base-kind}
 use Rattle.form_layout.specs.declared.Node as layout
 use Rattle.form_layout.specs.Layout.{nodeOf}

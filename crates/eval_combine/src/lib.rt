@@ -8,11 +8,11 @@ ghost use Rattle.rules.specs.Tree.{Tree, Fallback as FallbackTree};
 ghost use Rattle.eval_told.specs.Nodes.{treeAt};
 ghost use Rattle.eval_combine.specs.Made.{valueOf, refusalOf, missingOf, Given, Undone, OptionalOf, Returned, FallbackOf, Unchanged, GuardOf, Sides, ChoiceOf, endedOf, wonOf, Decided, wonMarks, Marked, WinnerOf, FallbackAt};
 ghost use Rattle.eval_combine.specs.Unchanged.{optionalMade, fallbackMade, firstMade, secondMade};
-use eval_told::Ran;
-use state_marks::Numbers;
 use eval_structs::Counting;
 use eval_structs::Fallback;
 use eval_structs::Pick;
+use eval_told::Ran;
+use state_marks::Numbers;
 
 pub struct Optioned {
     pub ran: Ran,

@@ -156,7 +156,9 @@ module _
     counted-writes :
         (u : Tree)
         → ((is : List Item) → takes.Items area items p is
-        → told (eval mark is u (stateOf m p)) ≡ some (record { number = 0; place = 0; tries = all .tries; words = length (h .values) ∷ flatten (h .values); state = stateOf m′ (all .numbers) }))
+        → told (eval mark is u (stateOf m p)) ≡ some
+        (record
+        { number = 0; place = 0; tries = all .tries; words = length (h .values) ∷ flatten (h .values); state = stateOf m′ (all .numbers) }))
         → (o″ : List ℕ) (q : Ran)
         → Counted all o′ at o″ q
         → Writes mark area items u m p m′ o at o″ q

@@ -13,7 +13,8 @@ use Rattle.rules.specs.Value.{Base, Kind, one, optional, list, listOfOptional, 
 use Rattle.rules.specs.Form.{Node, Form, readForm}
 use Rattle.rules.specs.Tree.{Tree, Many, Some, kindOf, shapeOf, hasRepeat, optionalKind, listKind, countKind, lastKind, baseKind, zeros, fitting, repeatOf, childOf, caughtOf, treeOf}
 use Rattle.rules.specs.Accept.{Accepted, accepted, checkForm}
-use Rattle.rules.proofs.Acceptance.{if-some, if-not-some, bind-some, Made, flagMade, argumentMade, positionalMade, optionalMade, manyMade, someMade, countMade, lastMade, choiceMade, fallbackMade, guardMade, inside-same, tree-made}
+use Rattle.rules.proofs.Acceptance.{if-some, if-not-some, bind-some, Made, flagMade, argumentMade, positionalMade, optionalMade, manyMade, someMade, countMade, lastMade, choiceMade}
+use Rattle.rules.proofs.Acceptance.{fallbackMade, guardMade, inside-same, tree-made}
 use Rattle.rules.proofs.KindLaws.{base-kind}
 use Rattle.eval_told.specs.Nodes.{treeAt, isScalar}
 use Rattle.eval_shortcut.proofs.Trees.{Single, Double, choice-tree}

@@ -18,7 +18,8 @@ use Rattle.rules.specs.Split.{Item}
 use Rattle.rules.specs.State.{State, Found, parsed, presentAt, unused, get, find, withCurrent}
 use Rattle.rules.specs.Take.{Took, took, Taken, matchesArg, takeFlag, valueText, takeValue, takeArg, isOperand, operand, takePositionalWord}
 use Rattle.rules.specs.Calls.{fromRaw}
-use Rattle.rules.specs.Eval.{Ran as Run, ended, after, _then_, visit, leaf, flagValue, evalFlag, argumentValue, evalArgument, positionalValue, evalPositional, swallowed, parseOption, evalOptional, evalGuard, eval}
+use Rattle.rules.specs.Eval.{Ran as Run, ended, after, _then_, visit, leaf, flagValue, evalFlag, argumentValue, evalArgument, positionalValue, evalPositional, swallowed, parseOption}
+use Rattle.rules.specs.Eval.{evalOptional, evalGuard, eval}
 use Rattle.rules.specs.Sound.{Good}
 use Rattle.rules.proofs.Acceptance.{lookup-some}
 use Rattle.rules.proofs.Places.{mark-present}

@@ -203,7 +203,8 @@ kept-more writes at o₀ o vs all v ran o′ width k e few w =
     writing false p q r = r ∙ q
 
 -- ---- what is still to be run is the whole
-pub record Turning (b known sh ws m₀ : List ℕ) (n : ℕ) (catch stops writes : Bool) (at : ℕ) (o₀ : List ℕ) (mark : ℕ) (p : Numbers) (m o : List ℕ) (s : Numbers) (from last : ℕ) (all : Repeated) : Type 0 where
+pub record Turning (b known sh ws m₀ : List ℕ) (n : ℕ) (catch stops writes : Bool) (at : ℕ) (o₀ : List ℕ) (mark : ℕ) (p : Numbers) (m o : List ℕ)
+    (s : Numbers) (from last : ℕ) (all : Repeated) : Type 0 where
   pub asked : Repeating b known sh ws m₀ p mark n writes o₀ at
   pub fuel : ℕ
   pub bound : ℕ
@@ -239,7 +240,11 @@ module _ (b known sh ws m₀ : List ℕ) (n : ℕ) (catch stops writes : Bool) (
         values = [];
         whole =
             sym (prefixed-none _)
-            ∙ ap (λ (l : Option ℕ). prefixed 0 [] [] (repeat catch stops (p .remaining + 2) l (eval mark (z .below .stands .state .items) (z .below .stands .tree)) (stateOf m₀ p))) (sym counted-none);
+            ∙
+            ap
+            (λ
+            (l : Option ℕ). prefixed 0 [] [] (repeat catch stops (p .remaining + 2) l
+            (eval mark (z .below .stands .state .items) (z .below .stands .tree)) (stateOf m₀ p))) (sym counted-none);
         ahead = λ l h q. omega arith;
         more = omega arith;
         few = omega arith;
@@ -400,7 +405,8 @@ module _ (b known sh ws m₀ : List ℕ) (n : ℕ) (catch stops writes : Bool) (
 
         -- ---- the repeat ends with the values so far
         Ended : State → Type 0
-        Ended t = repeated catch stops run (stateOf m₀ p) ≡ Went catch stops (fuelled .0) (countedOf last) run (stateOf m s) (answered ran m′) ran-told ran-numbered (all .tries) (i .trace) (i .values) (i .values) (ended (ok []) t)
+        Ended t = repeated catch stops run (stateOf m₀ p) ≡ Went catch stops (fuelled .0) (countedOf last) run (stateOf m s) (answered ran m′)
+            ran-told ran-numbered (all .tries) (i .trace) (i .values) (i .values) (ended (ok []) t)
 
         few-values : length (map words (i .values)) ≤ 257
         few-values = let l = map-length (i .values) in omega (arith, i .few)
@@ -575,7 +581,8 @@ module _ (b known sh ws m₀ : List ℕ) (n : ℕ) (catch stops writes : Bool) (
                   → Turning b known sh ws m₀ n catch stops writes at o₀ mark p m′ o′ (ran .numbers) next (ran .numbers .remaining) r
               unfolding stateOf fromRaw fewer
               turn-next q next en =
-                  let x = turn-counted catch stops (fuelled .0) (countedOf last) run (stateOf m s) (answered ran m′) ran-told ran-numbered (all .tries) (i .trace) (i .values) (idles ∙ q) w in
+                  let x = turn-counted catch stops (fuelled .0) (countedOf last) run (stateOf m s) (answered ran m′) ran-told ran-numbered
+                  (all .tries) (i .trace) (i .values) (idles ∙ q) w in
                   let h = few-left m′ (ran .numbers) (ran-left .fine) in
                   let n = length-more (i .values) (x .value) in
                   let f = fuelled .1 in
@@ -590,7 +597,10 @@ module _ (b known sh ws m₀ : List ℕ) (n : ℕ) (catch stops writes : Bool) (
                     whole =
                         this-turn
                         ∙ x .same
-                        ∙ ap (λ (l : Option ℕ). prefixed (all .tries + ran .tries) (i .trace ++ run (stateOf m s) .trace) (i .values ++ (x .value ∷ [])) (repeat catch stops (fuelled .0) l run (stateOf m′ (ran .numbers)))) (sym same);
+                        ∙
+                        ap
+                        (λ (l : Option ℕ). prefixed (all .tries + ran .tries) (i .trace ++ run (stateOf m s) .trace)
+                        (i .values ++ (x .value ∷ [])) (repeat catch stops (fuelled .0) l run (stateOf m′ (ran .numbers)))) (sym same);
                     ahead = λ l a z. ltb-true l (ran .numbers .remaining) (subst (λ (o : Option ℕ). fewer l o ≡ true) same z);
                     more = omega (arith, i .more, near);
                     few = omega (arith, i .few, near);

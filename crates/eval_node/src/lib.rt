@@ -14,9 +14,9 @@ ghost use Rattle.eval_told.specs.Nodes.{treeAt, Scalar};
 ghost use Rattle.eval_shortcut.specs.Children.{Wraps, Wrapped, Falls, Both, Turns, Searched};
 ghost use Rattle.eval_node.specs.Cycle.{Repeating, Repeats};
 ghost use Rattle.eval_node.specs.Values.{Put, Wrote, noValue, Fits, oneMore, endedWith, passedOn, refusedList, countedValues, lastValue, moreTries, nextFrom};
+use eval_structs::Counting;
 use eval_told::Ran;
 use state_marks::Numbers;
-use eval_structs::Counting;
 
 // How a repeat ended: how many values were counted, how many words of them were written, and the last of them.
 pub struct Repeated {
@@ -492,7 +492,17 @@ fn run_leaf(
     let kind = x.kind;
     match kind {
         1 => eval_params::eval_flag_from(known, marks, p, from, leaf, x.r == 1, mark),
-        2 => eval_params::eval_argument_from(known, sheet, items, marks, p, from, leaf, 2 <= x.r, mark),
+        2 => eval_params::eval_argument_from(
+            known,
+            sheet,
+            items,
+            marks,
+            p,
+            from,
+            leaf,
+            2 <= x.r,
+            mark,
+        ),
         3 => eval_params::eval_positional_from(sheet, items, marks, p, from, x.p, x.r == 2, mark),
         _ => run_node(form, known, sheet, items, marks, p, leaf, mark),
     }

@@ -14,7 +14,8 @@ use Rattle.rules.specs.Split.{Item}
 use Rattle.rules.specs.State.{State}
 use Rattle.rules.specs.Take.{Took, took, Taken, Operand, takeFlag, takeArg, takePositionalWord}
 use Rattle.rules.specs.Calls.{fromRaw}
-use Rattle.rules.specs.Eval.{visit, leaf, refuseMissing, notFound, flagValue, evalFlag, numberOf, parseText, argumentValue, evalArgument, wrongPosition, placedValue, positionalValue, evalPositional, eval}
+use Rattle.rules.specs.Eval.{visit, leaf, refuseMissing, notFound, flagValue, evalFlag, numberOf, parseText, argumentValue, evalArgument, wrongPosition, placedValue, positionalValue}
+use Rattle.rules.specs.Eval.{evalPositional, eval}
 use Rattle.rules.specs.Sound.{isNamed}
 use Rattle.rules.proofs.Nodes.{named-shown}
 use Rattle.rules.proofs.CodeLaws.{code-place}

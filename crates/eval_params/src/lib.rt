@@ -18,9 +18,9 @@ ghost use Rattle.take_table.specs.Bits.{bitAt};
 ghost use Rattle.take.specs.Takes.{Ready, Reaches, Skips};
 ghost use Rattle.eval_told.specs.Told.{Evaluates};
 ghost use Rattle.eval_params.specs.Leaves.{Leaf, valueRan, refusedRan, Tells, refusalOf};
-use split_arg::Part;
 use eval_number::Number;
 use eval_told::Ran;
+use split_arg::Part;
 use state_marks::Numbers;
 
 fn wide(x: u32) -> usize

@@ -15,12 +15,14 @@ use Rattle.rules.specs.Outcome.{Spot, Outcome, ok, refused, fault, takeArgument
 use Rattle.rules.specs.Value.{Base, yesNo, text, number, Kind, isYes, isText, isNumber, Value, base, absent, present, nil, cons}
 use Rattle.rules.specs.Form.{nodeCount, readForm}
 use Rattle.rules.specs.Sheet.{sheetArea}
-use Rattle.rules.specs.Tree.{Named, Position, unrestricted, strict, nonStrict, Tree, Flag, Argument, Positional, Optional, Many, Some, Count, Last, Choice, Fallback, Guard, positionOf, kindOf}
+use Rattle.rules.specs.Tree.{Named, Position, unrestricted, strict, nonStrict, Tree, Flag, Argument, Positional, Optional, Many, Some, Count, Last, Choice, Fallback, Guard, positionOf}
+use Rattle.rules.specs.Tree.{kindOf}
 use Rattle.rules.specs.Split.{Item}
 use Rattle.rules.specs.State.{State, parsed}
 use Rattle.rules.specs.Take.{Took, Taken, Operand, takeArg, takePositionalWord}
 use Rattle.rules.specs.Calls.{fromRaw}
-use Rattle.rules.specs.Eval.{Ran as Run, visit, leaf, refuseMissing, notFound, numberOf, parseText, argumentValue, evalArgument, wrongPosition, placedValue, positionalValue, evalPositional, fewer, swallowed, ended, after, _then_, guarded, evalGuard, eval}
+use Rattle.rules.specs.Eval.{Ran as Run, visit, leaf, refuseMissing, notFound, numberOf, parseText, argumentValue, evalArgument, wrongPosition, placedValue, positionalValue, evalPositional}
+use Rattle.rules.specs.Eval.{fewer, swallowed, ended, after, _then_, guarded, evalGuard, eval}
 use Rattle.rules.specs.Sound.{Good, isNamed, isRead, wellBuilt}
 use Rattle.rules.proofs.Nodes.{named-shown}
 use Rattle.rules.proofs.Places.{left}

@@ -35,7 +35,8 @@ use Rattle.eval_told.specs.Told.{Evaluates}
 use Rattle.eval_told.specs.Nodes.{treeAt, isScalar, Standing, Scalar}
 use Rattle.eval_params.specs.Leaves as params
 use Rattle.eval_shortcut.specs.Children.{Wraps, Wrapped, Falls, Both, Hint}
-use Rattle.eval_shortcut.proofs.Trees.{Leaf, Single, Fallen, Double, form-good, node-inside, sound-at, flag-tree, argument-tree, positional-tree, optional-tree, count-tree, last-tree, choice-tree, fallback-tree, other-tree}
+use Rattle.eval_shortcut.proofs.Trees.{Leaf, Single, Fallen, Double, form-good, node-inside, sound-at, flag-tree, argument-tree, positional-tree, optional-tree, count-tree}
+use Rattle.eval_shortcut.proofs.Trees.{last-tree, choice-tree, fallback-tree, other-tree}
 
 -- ---- kinds of children
 optional-base : (k : Option Kind) → isScalar (k >>? optionalKind) ≡ true → (b : Base) × (k ≡ some (one b))

@@ -12,7 +12,8 @@ use Rattle.utf8.specs.Utf8.{if_then_else_}
 use Rattle.rules.specs.Base.{isSome, contains, _>>?_}
 use Rattle.rules.specs.Value.{text, number, Kind, one, optional, list, listOfOptional, optionalList, BaseValue}
 use Rattle.rules.specs.Form.{Node, Form, nodeCount, nameCount, readForm}
-use Rattle.rules.specs.Tree.{Named, Tree, Flag, Argument, Positional, Optional, Many, Some, Count, Last, Choice, Fallback, Guard, listKind, shapeOf, kindOf, hasRepeat, zeros, namedOf, flagOf, argumentOf, positionOf, positionalOf, fitting, repeatOf, fallbackValue, fallbackOf, guardOf, childOf, caughtOf, choiceOf, treeOf}
+use Rattle.rules.specs.Tree.{Named, Tree, Flag, Argument, Positional, Optional, Many, Some, Count, Last, Choice, Fallback, Guard, listKind, shapeOf, kindOf, hasRepeat, zeros, namedOf}
+use Rattle.rules.specs.Tree.{flagOf, argumentOf, positionOf, positionalOf, fitting, repeatOf, fallbackValue, fallbackOf, guardOf, childOf, caughtOf, choiceOf, treeOf}
 use Rattle.rules.specs.Accept.{Accepted, accepted, lengthGood, checkForm}
 use Rattle.rules.specs.Sound.{Sound}
 use Rattle.rules.proofs.Acceptance.{if-some, if-not-some, bind-some, branch, lookup-inside, accepted-length, accepted-form, accepted-trees}

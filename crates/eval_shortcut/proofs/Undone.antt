@@ -18,7 +18,8 @@ use Rattle.rules.specs.Split.{Item}
 use Rattle.rules.specs.State.{State, Found, Picked, get, find, remove, withCurrent}
 use Rattle.rules.specs.Take.{took, matchesArg, takeFlag, valueText, takeValue, takeArg}
 use Rattle.rules.specs.Calls.{fromRaw}
-use Rattle.rules.specs.Eval.{Ran as Run, ended, after, visit, leaf, flagValue, evalFlag, parseText, argumentValue, evalArgument, picksFirst, valueOf, picked, chosen, evalChoice, evalFallback, eval}
+use Rattle.rules.specs.Eval.{Ran as Run, ended, after, visit, leaf, flagValue, evalFlag, parseText, argumentValue, evalArgument, picksFirst, valueOf, picked, chosen, evalChoice}
+use Rattle.rules.specs.Eval.{evalFallback, eval}
 use Rattle.rules.proofs.Places.{left, right}
 use Rattle.rules.proofs.Went.{if-holds}
 use Rattle.form_layout.specs.Layout.{nodeOf}

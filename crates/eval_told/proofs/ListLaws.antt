@@ -161,7 +161,8 @@ module _ (r : Run (List Value)) (x : ToldList) (h : toldList r ≡ some x) (nb :
       then-values r (λ vs t. ended (g vs) t) (d .values)
       (record { number = 0; place = 0; tries = 0; words = w; state = r .state })
       (d .outcome)
-      (subst (λ (t : State). told (ended (g (d .values)) t) ≡ some (record { number = 0; place = 0; tries = 0; words = w; state = t })) (sym (list-state r x h)) (make (d .values) (d .words)))
+      (subst (λ (t : State). told (ended (g (d .values)) t) ≡ some (record { number = 0; place = 0; tries = 0; words = w; state = t }))
+      (sym (list-state r x h)) (make (d .values) (d .words)))
       ∙ (λ i. some (record { number = 0; place = 0; tries = tries i; words = w; state = list-state r x h i }))
     where
       tries : r .tries + 0 ≡ x .tries

@@ -288,7 +288,8 @@ module _
     unfolding optionBy someOf _then_ after ended
     counted-by v q = rw (q, someOf)
 
-    counts : (q : State → Run (List Value)) → ((v : Value) → next (some v) (f s .state) ≡ prefixed 0 [] (v ∷ []) (q (f s .state))) → Way catch len s (f s) x h nb Counted → Counts (q (x .state))
+    counts : (q : State → Run (List Value)) → ((v : Value) → next (some v) (f s .state) ≡ prefixed 0 [] (v ∷ []) (q (f s .state))) → Way catch len s
+        (f s) x h nb Counted → Counts (q (x .state))
     counts q rest e =
         let z = counted-number (x .number) catch (s .remaining) (x .state .remaining) len e in
         let d = told-value (f s) x h nb z in

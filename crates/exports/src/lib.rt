@@ -15,9 +15,9 @@ ghost use Rattle.call_text.specs.Text.{PartOf};
 ghost use Rattle.exports.specs.Exports.{decoding};
 use call_check::SplitAnswer;
 use call_check::Told;
+use call_text::TextPart;
 use rules::Refused;
 use run::RunAnswer;
-use call_text::TextPart;
 use utf8::Decoded;
 
 // The character at a place. Where there is none, found is false and the numbers are 0.

@@ -19,7 +19,8 @@ use Rattle.rules.specs.Codes.{checkCode}
 use Rattle.rules.specs.Tree.{Tree, kindOf, treeOf}
 use Rattle.rules.specs.Accept.{refusedAt, treesFrom}
 use Rattle.rules.specs.declared.Refused.{Refused}
-use Rattle.rules.proofs.Acceptance.{Made, flagMade, argumentMade, positionalMade, optionalMade, manyMade, someMade, countMade, lastMade, choiceMade, fallbackMade, guardMade, inside-same, tree-made, lookup-some}
+use Rattle.rules.proofs.Acceptance.{Made, flagMade, argumentMade, positionalMade, optionalMade, manyMade, someMade, countMade, lastMade, choiceMade, fallbackMade, guardMade, inside-same}
+use Rattle.rules.proofs.Acceptance.{tree-made, lookup-some}
 use Rattle.form_kinds.specs.Known.{codeBy, codes, codeAt, Sound, Done}
 use Rattle.form_names.specs.Names.{faultOr}
 use Rattle.form_names.proofs.Faults.{fault-here, fault-nowhere, fault-same}

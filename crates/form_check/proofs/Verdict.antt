@@ -26,7 +26,8 @@ abbrev pub said : ℕ → ℕ → Refused
 said n k = record { number = n; place = k }
 
 -- ---- uses
-module _ (b : List ℕ) (ts : List Tree) (long : length ts ≡ nodeCount b) (n : ℕ) (en : n ≡ nodeCount b) (c₀ c : List ℕ) (g : Bool) (s : FieldsCounted n (readForm b .fields) c₀ c g) (r : Refused) where
+module _ (b : List ℕ) (ts : List Tree) (long : length ts ≡ nodeCount b) (n : ℕ) (en : n ≡ nodeCount b) (c₀ c : List ℕ) (g : Bool)
+    (s : FieldsCounted n (readForm b .fields) c₀ c g) (r : Refused) where
   trees : length ts ≡ n
   trees = long ∙ sym en
 
@@ -34,7 +35,8 @@ module _ (b : List ℕ) (ts : List Tree) (long : length ts ≡ nodeCount b) (n :
   unfolding checkUse
   uses-outside z e = e ∙ rw (trees-none ts n trees (readForm b .fields) (sym (s .nodes) ∙ not-true g z), checkUse)
 
-  module _ (z : not g ≡ false) (few : nodeCount b ≤ 64) (e₀ : c₀ ≡ replicate 64 0) (d : List ℕ) (ed : d ≡ tally c (concatMap childrenOf (readForm b .nodes))) (i : ℕ) (ei : i ≡ faultOr n (firstFault (onceIn d n) 0 (numbers n 0))) where
+  module _ (z : not g ≡ false) (few : nodeCount b ≤ 64) (e₀ : c₀ ≡ replicate 64 0) (d : List ℕ)
+      (ed : d ≡ tally c (concatMap childrenOf (readForm b .nodes))) (i : ℕ) (ei : i ≡ faultOr n (firstFault (onceIn d n) 0 (numbers n 0))) where
     count : length (readForm b .nodes) ≡ n
     count = nodes-length b ∙ sym en
 

@@ -14,10 +14,13 @@ use Rattle.rules.specs.Base.{all, contains, isSome, _>>?_}
 use Rattle.rules.specs.Value.{Base, yesNo, text, number, baseNumber, sameBase, Kind, one, optional, list, listOfOptional, optionalList, BaseValue, isYes, isText, isNumber, baseOf, name}
 use Rattle.rules.specs.Form.{Node, Name, Form}
 use Rattle.rules.specs.Codes.{baseCode, kindCode}
-use Rattle.rules.specs.Tree.{Named, Tree, Flag, Argument, Positional, Optional, Many, Some, Count, Last, Choice, Fallback, Guard, optionalKind, listKind, countKind, lastKind, shapeOf, innerBase, sameKind, choiceKind, baseKind, kindOf, hasRepeat, zeros, namesOf, namedBy, namedOf, flagOf, argumentOf, positionOf, positionalOf, fitting, repeatOf, fallbackValue, fallbackOf, guardOf, childOf, caughtOf, choiceOf, treeOf}
+use Rattle.rules.specs.Tree.{Named, Tree, Flag, Argument, Positional, Optional, Many, Some, Count, Last, Choice, Fallback, Guard, optionalKind, listKind, countKind, lastKind, shapeOf}
+use Rattle.rules.specs.Tree.{innerBase, sameKind, choiceKind, baseKind, kindOf, hasRepeat, zeros, namesOf, namedBy, namedOf, flagOf, argumentOf, positionOf, positionalOf, fitting, repeatOf}
+use Rattle.rules.specs.Tree.{fallbackValue, fallbackOf, guardOf, childOf, caughtOf, choiceOf, treeOf}
 use Rattle.rules.proofs.Acceptance.{is-some}
 use Rattle.rules.proofs.KindLaws.{same-kind}
-use Rattle.form_kinds.specs.Kinds.{namedGood, flagCode, argumentCode, positionalCode, leafCode, childGood, optionalCode, repeatCode, wrapCode, bothCode, choiceCode, textName, fallbackBy, fallbackCode, guardBy, guardCode, innerCode, childQ}
+use Rattle.form_kinds.specs.Kinds.{namedGood, flagCode, argumentCode, positionalCode, leafCode, childGood, optionalCode, repeatCode, wrapCode, bothCode, choiceCode, textName}
+use Rattle.form_kinds.specs.Kinds.{fallbackBy, fallbackCode, guardBy, guardCode, innerCode, childQ}
 use Rattle.form_kinds.specs.Known.{ruled}
 use Rattle.form_kinds.proofs.Steps.{eqb-flip}
 

@@ -9,7 +9,8 @@ use lib.ListN.{length}
 use borrow.Author.Tests.{eqb-true, eq-eqb}
 use Rattle.utf8.specs.Utf8.{if_then_else_}
 use Rattle.rules.specs.Base.{isSome, _>>?_}
-use Rattle.rules.specs.Value.{Base, yesNo, text, number, Kind, one, optional, list, listOfOptional, optionalList, BaseValue, isNumber, Value, base, absent, present, listOf, baseNumber, sameBase, baseOf, isBase, isOptional, isList, hasKind, size, ofKind, basesOf}
+use Rattle.rules.specs.Value.{Base, yesNo, text, number, Kind, one, optional, list, listOfOptional, optionalList, BaseValue, isNumber, Value, base, absent, present, listOf}
+use Rattle.rules.specs.Value.{baseNumber, sameBase, baseOf, isBase, isOptional, isList, hasKind, size, ofKind, basesOf}
 use Rattle.rules.specs.Tree.{optionalKind, listKind, countKind, lastKind, shapeOf, innerBase, sameKind, choiceKind, baseKind}
 use Rattle.rules.specs.Demands.{All}
 use Rattle.rules.proofs.Acceptance.{All-append}

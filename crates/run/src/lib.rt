@@ -12,8 +12,8 @@ ghost use Rattle.state_marks.specs.Lent.{rawOf};
 ghost use Rattle.split_args.specs.Construct.{Unmarked};
 ghost use Rattle.run_fields.specs.Line.{refusedWith, Starts, Reaches};
 ghost use Rattle.run.specs.Runner.{runAnswer, ended, answerOf, Checked, Begins, shortSlices};
-use run_fields::Reached;
 use rules::State;
+use run_fields::Reached;
 use state_marks::Numbers;
 
 // How the run ended. A place is itself plus 1, or 0 for none; `words` is how many answer words there are.

@@ -296,7 +296,9 @@ module _ (b known s words m₀ : List ℕ) (p₀ : Numbers) (o₀ : List ℕ) (m
                 let d = told-value (one is i) _ (says is i) (numbered is i) z in
                 whole is i
                 ∙ behind-value tries (g .values) (one is i) (λ u. runFields mark is (drop (suc k) (a .fields)) u) (d .value) (d .outcome)
-                ∙ (λ j. behind (tries + told-tries (one is i) _ (says is i) j) (g .values ++ d .words j) (runFields mark is (drop (sym (add-one k) j) (a .fields)) (told-state (one is i) _ (says is i) j)));
+                ∙
+                (λ j. behind (tries + told-tries (one is i) _ (says is i) j) (g .values ++ d .words j)
+                (runFields mark is (drop (sym (add-one k) j) (a .fields)) (told-state (one is i) _ (says is i) j)));
             size = let l = length-append (g .values) (wrote .value) in omega (arith, g .size, wrote .len);
             put =
                 wrote .put

@@ -13,7 +13,8 @@ use Rattle.rules.specs.Value.{Kind, one, optional, list, listOfOptional, option
 use Rattle.rules.specs.Form.{Node, Form, readForm}
 use Rattle.rules.specs.Tree.{Tree, optionalKind, listKind, countKind, lastKind, shapeOf, kindOf}
 use Rattle.rules.specs.Accept.{Accepted, accepted, checkForm}
-use Rattle.rules.proofs.Acceptance.{Made, flagMade, argumentMade, positionalMade, optionalMade, manyMade, someMade, countMade, lastMade, choiceMade, fallbackMade, guardMade, Child, TreeAt, TreesAt, trees-made, accepted-passed}
+use Rattle.rules.proofs.Acceptance.{Made, flagMade, argumentMade, positionalMade, optionalMade, manyMade, someMade, countMade, lastMade, choiceMade, fallbackMade, guardMade, Child, TreeAt}
+use Rattle.rules.proofs.Acceptance.{TreesAt, trees-made, accepted-passed}
 use Rattle.rules.proofs.KindLaws.{choice-kind, base-kind}
 use Rattle.form_layout.specs.Layout.{nodeOf}
 use Rattle.form_layout.specs.declared.Node as declared

@@ -17,7 +17,8 @@ use Rattle.rules.specs.Base.{all, null, sliceFrom}
 use Rattle.rules.specs.Outcome.{Outcome, ok, at, _>>=_}
 use Rattle.rules.specs.Accept.{Letters}
 use Rattle.rules.specs.Sheet.{argumentCount, arguments}
-use Rattle.rules.specs.Split.{dash, short, long, Parts, beforeEquals, behindEquals, parts, splitLong, splitShort, behindDash, splitOsArgument, clusterFrom, disambiguateShort, Group, shortGroup, partsGroup, wordGroup, splitArgument, Split, splitFrom}
+use Rattle.rules.specs.Split.{dash, short, long, Parts, beforeEquals, behindEquals, parts, splitLong, splitShort, behindDash, splitOsArgument, clusterFrom, disambiguateShort, Group}
+use Rattle.rules.specs.Split.{shortGroup, partsGroup, wordGroup, splitArgument, Split, splitFrom}
 use Rattle.rules.specs.Run.{lineOf}
 use Rattle.rules.specs.Demands.{All}
 use Rattle.rules.proofs.LetterLaws.{split-alike}

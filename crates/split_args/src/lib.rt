@@ -9,8 +9,8 @@ ghost use Rattle.split_group.specs.Groups.{Fits, Makes};
 ghost use Rattle.state_marks.specs.Lent.{rawOf as joined};
 ghost use Rattle.split_args.specs.Construct.{groupAt, markerAfter, plainArgument, rawOf};
 ghost use Rattle.split_args.specs.Construct.{Marked, Unmarked, Given, Cleared, Ends};
-use split_group::Group;
 use rules::State;
+use split_group::Group;
 use state_marks::Numbers;
 
 // How splitting ended: 0, 8 or 9; the place of 9 plus 1; how many items there are; the place of the first `--` plus 1. A place

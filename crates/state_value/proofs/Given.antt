@@ -12,7 +12,8 @@ use Rattle.utf8.specs.Utf8.{if_then_else_}
 use Rattle.rules.specs.Base.{null, minus, sliceFrom, _>>?_}
 use Rattle.rules.specs.Outcome.{Outcome, ok, _>>=_, at}
 use Rattle.rules.specs.Split.{Item}
-use Rattle.rules.specs.State.{State, parsed, presentFrom, countPresent, unused, winner, construct, findIn, find, first, remove, pickFrom, pickWinner, saveConflicts, conflicts, conflictAt, conflict, setScope, untilPresent, proposed, adjacentScope, adjacentlyAvailableFrom}
+use Rattle.rules.specs.State.{State, parsed, presentFrom, countPresent, unused, winner, construct, findIn, find, first, remove, pickFrom, pickWinner, saveConflicts, conflicts, conflictAt}
+use Rattle.rules.specs.State.{conflict, setScope, untilPresent, proposed, adjacentScope, adjacentlyAvailableFrom}
 use Rattle.rules.specs.Run.{padded, parsedMark}
 use Rattle.rules.specs.Calls.{fromRaw, toRaw, stateIn}
 use Rattle.rules.specs.Sound.{Good}

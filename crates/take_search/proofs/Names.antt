@@ -191,7 +191,8 @@ sifting-first table first count want end e =
     let z : end - first ≡ count = omega arith in
     record { within = omega arith; same = rw z }
 
-module _ (table : List ℕ) (first count character wide want end k : ℕ) (ew : wide ≡ character) (et : want ≡ wide + 1) (room : first + count ≤ length table) (ee : end ≡ first + count) (z : Sifting table first count want end k) where
+module _ (table : List ℕ) (first count character wide want end k : ℕ) (ew : wide ≡ character) (et : want ≡ wide + 1)
+    (room : first + count ≤ length table) (ee : end ≡ first + count) (z : Sifting table first count want end k) where
   pub sifting-next : k < end → (x : ℕ) → x ≡ getD table k 0 → (x ≡ want → ⊥) → Sifting table first count want end (k + 1)
   unfolding contains
   sifting-next h x e n =

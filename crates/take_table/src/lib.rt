@@ -73,7 +73,12 @@ fn mark_node(x: form_layout::Node, n: usize, count: usize, owners: &mut [u64; 12
     if 2 < x.kind {
         return;
     }
-    mark(owners, only(n), x.p, form_letters::names_end(x.p, x.q, count));
+    mark(
+        owners,
+        only(n),
+        x.p,
+        form_letters::names_end(x.p, x.q, count),
+    );
 }
 
 fn is_adjacent(x: form_layout::Node) -> bool

@@ -108,7 +108,8 @@ module _ (line : List ℕ) (at : ℕ) where
     module _ (i end : ℕ) (inv : Follows line at (concatMap byteText (take i bytes)) end) where
       pub hex-more : i < length bytes → (r : ℕ) → Follows line end (byteText (getD bytes i 0)) r → Follows line at (concatMap byteText (take (i + 1) bytes)) r
       hex-more l r g =
-          rw (add-one, take-suc bytes i 0 l, concat-last byteText (take i bytes) (getD bytes i 0)) (joined line at (concatMap byteText (take i bytes)) end inv (byteText (getD bytes i 0)) r g)
+          rw (add-one, take-suc bytes i 0 l, concat-last byteText (take i bytes) (getD bytes i 0))
+          (joined line at (concatMap byteText (take i bytes)) end inv (byteText (getD bytes i 0)) r g)
 
       pub hex-all : length bytes ≤ i → Follows line at (concatMap byteText bytes) end
       hex-all l = rw (take-all i bytes l) at inv

@@ -11,7 +11,8 @@ use Rattle.rules.specs.Tree.{zeros}
 use Rattle.rules.specs.declared.State.{State}
 use Rattle.call_answers.specs.declared.Answer.{Answer}
 use Rattle.tokens.specs.declared.call.Call.{Call}
-use Rattle.tokens.specs.declared.call.Call.the-variants.{Remove, PickWinner, SaveConflicts, SetScope, AdjacentScope, AvailableFrom, Get, Conflict, TakePositional, OnlyOnce, MatchesArg, TakeFlag, TakeArg, TakeCmd}
+use Rattle.tokens.specs.declared.call.Call.the-variants.{Remove, PickWinner, SaveConflicts, SetScope, AdjacentScope, AvailableFrom, Get, Conflict, TakePositional, OnlyOnce}
+use Rattle.tokens.specs.declared.call.Call.the-variants.{MatchesArg, TakeFlag, TakeArg, TakeCmd}
 use Rattle.tokens.specs.declared.call.Shape.{Shape}
 use Rattle.tokens.specs.declared.call.Shape.the-variants.{Done, Yes, Pick, Pair, Place, Operand}
 use Rattle.tokens.specs.declared.call.Layout.{Layout}

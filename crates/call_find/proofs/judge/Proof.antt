@@ -33,55 +33,122 @@ slice-aggregate-matches : tie.Need-slice-aggregate-matches
 slice-aggregate-matches c = search needs
 
 matches-requires : tie.Need-matches-requires
-matches-requires c κs = (
-  judge-names _ _ _ _ _ _ _ (c .before .before .before .before .before .before .before .before .before .before .before .before .if1 .left)
-      (c .before .before .before .before .before .before .before .before .before .before .before .before .before .before .before .pre) _
-      (c .before .before .before .before .before .before .before .before .before .before .before .words-of .ensures) _
-      (c .before .before .before .before .before .before .before .before .before .record-good .ensures) (c .before .before .before .before .before .before .before .before .if2 .left)
-      (c .before .before .before .before .before .before .before .if3 .left) _ (c .before .before .before .before .before .before .is-reached .ensures)
-      (c .before .before .before .before .before .if4 .left),
-  judge-item _ _ _ _ _ _ _ (c .before .before .before .before .before .before .before .before .before .before .before .before .if1 .left)
-      (c .before .before .before .before .before .before .before .before .before .before .before .before .before .before .before .pre) _
-      (c .before .before .before .before .before .before .before .before .before .before .before .words-of .ensures) _
-      (c .before .before .before .before .before .before .before .before .before .record-good .ensures) (c .before .before .before .before .before .before .before .before .if2 .left)
-      (c .before .before .before .before .before .before .before .if3 .left) _ (c .before .before .before .before .before .before .is-reached .ensures)
-      (c .before .before .before .before .before .if4 .left),
-)
+matches-requires c κs =
+    let by-if4 = c .before .before .before .before .before in
+    let if4 = by-if4 .if4 in
+    let by-is-reached = by-if4 .before in
+    let is-reached = by-is-reached .is-reached in
+    let by-if3 = by-is-reached .before in
+    let if3 = by-if3 .if3 in
+    let by-if2 = by-if3 .before in
+    let if2 = by-if2 .if2 in
+    let by-record-good = by-if2 .before in
+    let record-good = by-record-good .record-good in
+    let by-words-of = by-record-good .before .before in
+    let words-of = by-words-of .words-of in
+    let by-if1 = by-words-of .before in
+    let if1 = by-if1 .if1 in
+    let pre = by-if1 .before .before .before .pre in (
+      judge-names _ _ _ _ _ _ _ (if1 .left)
+          pre _
+          (words-of .ensures) _
+          (record-good .ensures) (if2 .left)
+          (if3 .left) _ (is-reached .ensures)
+          (if4 .left),
+      judge-item _ _ _ _ _ _ _ (if1 .left)
+          pre _
+          (words-of .ensures) _
+          (record-good .ensures) (if2 .left)
+          (if3 .left) _ (is-reached .ensures)
+          (if4 .left),
+    )
 
 add-result : tie.Need-add-result
-add-result c = record {
-  fits = omega (
-    arith,
-    judge-near _ _ _ _ _ _ _
-        (c .before .before .before .before .before .before .before .before .before .before .before .before .before .before .if1 .left)
-        (c .before .before .before .before .before .before .before .before .before .before .before .before .before .before .before .before .before .pre) _
-        (c .before .before .before .before .before .before .before .before .before .before .before .before .before .words-of .ensures) _
-        (c .before .before .before .before .before .before .before .before .before .before .before .record-good .ensures)
-        (c .before .before .before .before .before .before .before .before .before .before .if2 .left)
-        (c .before .before .before .before .before .before .before .before .before .if3 .left) _
-        (c .before .before .before .before .before .before .before .before .is-reached .ensures) (c .before .before .before .before .before .before .before .if4 .left),
-  );
-}
+add-result c =
+    let by-if4 = c .before .before .before .before .before .before .before in
+    let if4 = by-if4 .if4 in
+    let by-is-reached = by-if4 .before in
+    let is-reached = by-is-reached .is-reached in
+    let by-if3 = by-is-reached .before in
+    let if3 = by-if3 .if3 in
+    let by-if2 = by-if3 .before in
+    let if2 = by-if2 .if2 in
+    let by-record-good = by-if2 .before in
+    let record-good = by-record-good .record-good in
+    let by-words-of = by-record-good .before .before in
+    let words-of = by-words-of .words-of in
+    let by-if1 = by-words-of .before in
+    let if1 = by-if1 .if1 in
+    let pre = by-if1 .before .before .before .pre in
+    record {
+      fits = omega (
+        arith,
+        judge-near _ _ _ _ _ _ _
+            (if1 .left)
+            pre _
+            (words-of .ensures) _
+            (record-good .ensures)
+            (if2 .left)
+            (if3 .left) _
+            (is-reached .ensures) (if4 .left),
+      );
+    }
 
 returns-5 : tie.Need-returns-5
-returns-5 c = judge-found _ _ _ _ _ _ _ (c .before .before .before .before .before .before .before .before .before .before .before .before .before .before .if1 .left)
-    (c .before .before .before .before .before .before .before .before .before .before .before .before .before .before .before .before .before .pre) _
-    (c .before .before .before .before .before .before .before .before .before .before .before .before .before .words-of .ensures) _
-    (c .before .before .before .before .before .before .before .before .before .before .before .record-good .ensures)
-    (c .before .before .before .before .before .before .before .before .before .before .if2 .left)
-    (c .before .before .before .before .before .before .before .before .before .if3 .left) _
-    (c .before .before .before .before .before .before .before .before .is-reached .ensures) (c .before .before .before .before .before .before .before .if4 .left) _
-    (c .before .matches .ensures) (c .if5 .taken)
+returns-5 c =
+    let by-matches = c .before in
+    let matches = by-matches .matches in
+    let by-if4 = by-matches .before .before .before .before .before .before in
+    let if4 = by-if4 .if4 in
+    let by-is-reached = by-if4 .before in
+    let is-reached = by-is-reached .is-reached in
+    let by-if3 = by-is-reached .before in
+    let if3 = by-if3 .if3 in
+    let by-if2 = by-if3 .before in
+    let if2 = by-if2 .if2 in
+    let by-record-good = by-if2 .before in
+    let record-good = by-record-good .record-good in
+    let by-words-of = by-record-good .before .before in
+    let words-of = by-words-of .words-of in
+    let by-if1 = by-words-of .before in
+    let if1 = by-if1 .if1 in
+    let pre = by-if1 .before .before .before .pre in
+    judge-found _ _ _ _ _ _ _ (if1 .left)
+    pre _
+    (words-of .ensures) _
+    (record-good .ensures)
+    (if2 .left)
+    (if3 .left) _
+    (is-reached .ensures) (if4 .left) _
+    (matches .ensures) (c .if5 .taken)
 
 returns-6 : tie.Need-returns-6
-returns-6 c = judge-other _ _ _ _ _ _ _ (c .before .before .before .before .before .before .before .before .before .before .before .before .before .before .if1 .left)
-    (c .before .before .before .before .before .before .before .before .before .before .before .before .before .before .before .before .before .pre) _
-    (c .before .before .before .before .before .before .before .before .before .before .before .before .before .words-of .ensures) _
-    (c .before .before .before .before .before .before .before .before .before .before .before .record-good .ensures)
-    (c .before .before .before .before .before .before .before .before .before .before .if2 .left)
-    (c .before .before .before .before .before .before .before .before .before .if3 .left) _
-    (c .before .before .before .before .before .before .before .before .is-reached .ensures) (c .before .before .before .before .before .before .before .if4 .left) _
-    (c .before .matches .ensures) (c .if5 .left)
+returns-6 c =
+    let by-matches = c .before in
+    let matches = by-matches .matches in
+    let by-if4 = by-matches .before .before .before .before .before .before in
+    let if4 = by-if4 .if4 in
+    let by-is-reached = by-if4 .before in
+    let is-reached = by-is-reached .is-reached in
+    let by-if3 = by-is-reached .before in
+    let if3 = by-if3 .if3 in
+    let by-if2 = by-if3 .before in
+    let if2 = by-if2 .if2 in
+    let by-record-good = by-if2 .before in
+    let record-good = by-record-good .record-good in
+    let by-words-of = by-record-good .before .before in
+    let words-of = by-words-of .words-of in
+    let by-if1 = by-words-of .before in
+    let if1 = by-if1 .if1 in
+    let pre = by-if1 .before .before .before .pre in
+    judge-other _ _ _ _ _ _ _ (if1 .left)
+    pre _
+    (words-of .ensures) _
+    (record-good .ensures)
+    (if2 .left)
+    (if3 .left) _
+    (is-reached .ensures) (if4 .left) _
+    (matches .ensures) (c .if5 .left)
 
 pub judge-spec : {M : Type 1} → statement M
 judge-spec =

@@ -27,7 +27,11 @@ returns-2 : tie.Need-returns-2
 returns-2 c = search start-sheet
 
 key-at-requires : tie.Need-key-at-requires
-key-at-requires c κs = check-accepted _ _ (c .before .before .before .before .check .ensures) (c .before .before .if1 .left)
+key-at-requires c κs =
+    let by-if1 = c .before .before in
+    let if1 = by-if1 .if1 in
+    let check = by-if1 .before .before .check in
+    check-accepted _ _ (check .ensures) (if1 .left)
 
 codes-of-requires : tie.Need-codes-of-requires
 codes-of-requires c κs = search start-checked

@@ -22,12 +22,27 @@ joined-requires : tie.Need-joined-requires
 joined-requires c κs = search needs
 
 value-answer-requires : tie.Need-value-answer-requires
-value-answer-requires c κs = arg-small _ _ _ _ _ _ _ _ _ (ready _ _ _ (c .before .before .before .before .before .before .before .before .before .before .before .pre .0 .state) _ (c .before .before .before .numbers .ensures)) (c .before .before .take-arg .ensures)
+value-answer-requires c κs =
+    let by-take-arg = c .before .before in
+    let take-arg = by-take-arg .take-arg in
+    let by-numbers = by-take-arg .before in
+    let numbers = by-numbers .numbers in
+    let pre = by-numbers .before .before .before .before .before .before .before .before .pre in
+    arg-small _ _ _ _ _ _ _ _ _ (ready _ _ _ (pre .0 .state) _ (numbers .ensures)) (take-arg .ensures)
 
 returns : tie.Need-returns
 returns c =
-    let long : length (c .before .before .before .before .before .before .before .before .before .before .before .before .args .s .marks) ≡ 256 = search (needs, c .before .before .before .before .before .before .before .before .before .before .before .before .good) in
-    arg-hands _ _ _ _ (c .before .before .before .before .numbers .ensures) long _ _ _ (c .before .joined .ensures) _ (c .value-answer .ensures) _ _ (c .before .before .before .take-arg .ensures)
+    let by-joined = c .before in
+    let joined = by-joined .joined in
+    let by-take-arg = by-joined .before .before in
+    let take-arg = by-take-arg .take-arg in
+    let by-numbers = by-take-arg .before in
+    let numbers = by-numbers .numbers in
+    let by-args = by-numbers .before .before .before .before .before .before .before .before in
+    let args = by-args .args in
+    let good = by-args .good in
+    let long : length (args .s .marks) ≡ 256 = search (needs, good) in
+    arg-hands _ _ _ _ (numbers .ensures) long _ _ _ (joined .ensures) _ (c .value-answer .ensures) _ _ (take-arg .ensures)
 
 pub arg-taken-spec : {M : Type 1} → statement M
 arg-taken-spec =

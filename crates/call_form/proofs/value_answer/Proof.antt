@@ -14,7 +14,11 @@ enum-known-value : tie.Need-enum-known-value
 enum-known-value c = search needs
 
 narrow-requires : tie.Need-narrow-requires
-narrow-requires c κs = small-taken _ _ _ (c .before .before .before .pre) (c .before .value .given .1)
+narrow-requires c κs =
+    let by-value = c .before in
+    let value = by-value .value in
+    let pre = by-value .before .before .pre in
+    small-taken _ _ _ pre (value .given .1)
 
 changed-requires-2 : tie.Need-changed-requires-2
 changed-requires-2 c κs = search needs
@@ -23,7 +27,11 @@ enum-known-value-2 : tie.Need-enum-known-value-2
 enum-known-value-2 c = search needs
 
 place-code-requires : tie.Need-place-code-requires
-place-code-requires c κs = small-refused _ _ (c .before .before .before .pre) (c .before .value2 .given .1)
+place-code-requires c κs =
+    let by-value2 = c .before in
+    let value2 = by-value2 .value2 in
+    let pre = by-value2 .before .before .pre in
+    small-refused _ _ pre (value2 .given .1)
 
 unchanged-requires : tie.Need-unchanged-requires
 unchanged-requires c κs = search needs
@@ -32,10 +40,18 @@ returns : tie.Need-returns
 returns c = search answer-missing
 
 returns-2 : tie.Need-returns-2
-returns-2 c = answer-taken _ _ _ _ _ _ (c .before .before .before .value .given .1) _ (c .before .narrow .ensures) (c .changed2 .ensures)
+returns-2 c =
+    let by-narrow = c .before in
+    let narrow = by-narrow .narrow in
+    let value = by-narrow .before .before .value in
+    answer-taken _ _ _ _ _ _ (value .given .1) _ (narrow .ensures) (c .changed2 .ensures)
 
 returns-3 : tie.Need-returns-3
-returns-3 c = answer-refused _ _ _ _ _ (c .before .before .before .value2 .given .1) _ (c .before .place-code .ensures) (c .unchanged .ensures)
+returns-3 c =
+    let by-place-code = c .before in
+    let place-code = by-place-code .place-code in
+    let value2 = by-place-code .before .before .value2 in
+    answer-refused _ _ _ _ _ (value2 .given .1) _ (place-code .ensures) (c .unchanged .ensures)
 
 pub value-answer-spec : {M : Type 1} → statement M
 value-answer-spec =

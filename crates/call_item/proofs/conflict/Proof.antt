@@ -34,12 +34,28 @@ answered-requires-2 : tie.Need-answered-requires-2
 answered-requires-2 c κs = search needs
 
 returns-2 : tie.Need-returns-2
-returns-2 c = conflict-told _ _ _ _ (c .before .before .before .before .before .before .given-state .ensures) (c .before .before .before .before .before .if1 .left) (c .before .before .before .before .conflict .result) (c .before .before .before .before .conflict .ensures)
-    ∙ ap (λ (o : ConflictOption). some (answerWith 0 0 (conflictCode (conflictOf o)))) (c .before .before .c .given .1) ∙ ap some (sym (c .answered .ensures))
+returns-2 c =
+    let by-at-c = c .before .before in
+    let at-c = by-at-c .c in
+    let by-conflict = by-at-c .before .before in
+    let conflict = by-conflict .conflict in
+    let by-if1 = by-conflict .before in
+    let if1 = by-if1 .if1 in
+    let given-state = by-if1 .before .given-state in
+    conflict-told _ _ _ _ (given-state .ensures) (if1 .left) (conflict .result) (conflict .ensures)
+    ∙ ap (λ (o : ConflictOption). some (answerWith 0 0 (conflictCode (conflictOf o)))) (at-c .given .1) ∙ ap some (sym (c .answered .ensures))
 
 returns-3 : tie.Need-returns-3
-returns-3 c = conflict-told _ _ _ _ (c .before .before .before .before .before .given-state .ensures) (c .before .before .before .before .if1 .left) (c .before .before .before .conflict .result) (c .before .before .before .conflict .ensures)
-    ∙ ap (λ (o : ConflictOption). some (answerWith 0 0 (conflictCode (conflictOf o)))) (c .before .enum-told .given .1) ∙ ap some (sym (c .answered2 .ensures))
+returns-3 c =
+    let by-enum-told = c .before in
+    let enum-told = by-enum-told .enum-told in
+    let by-conflict = by-enum-told .before .before in
+    let conflict = by-conflict .conflict in
+    let by-if1 = by-conflict .before in
+    let if1 = by-if1 .if1 in
+    let given-state = by-if1 .before .given-state in
+    conflict-told _ _ _ _ (given-state .ensures) (if1 .left) (conflict .result) (conflict .ensures)
+    ∙ ap (λ (o : ConflictOption). some (answerWith 0 0 (conflictCode (conflictOf o)))) (enum-told .given .1) ∙ ap some (sym (c .answered2 .ensures))
 
 pub conflict-spec : {M : Type 1} → statement M
 conflict-spec =

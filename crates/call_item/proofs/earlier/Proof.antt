@@ -19,10 +19,20 @@ sub-same-name : tie.Need-sub-same-name Inv-loop μ-loop
 sub-same-name c = search needs
 
 same-name-requires : tie.Need-same-name-requires Inv-loop μ-loop
-same-name-requires c κs = (place-item _ _ _ _ (c .before .before .before .before .pre) (omega arith), place-item _ _ _ _ (c .before .before .before .before .pre) (omega (arith, c .before .loop .inv .within)))
+same-name-requires c κs =
+    let by-loop = c .before in
+    let loop = by-loop .loop in
+    let pre = by-loop .before .before .before .pre in
+    (place-item _ _ _ _ pre (omega arith), place-item _ _ _ _ pre (omega (arith, loop .inv .within)))
 
 returns : tie.Need-returns Inv-loop μ-loop
-returns c = looking-hit _ _ _ _ (c .before .before .before .loop .inv) (c .before .before .loop-test .taken) _ (c .before .same-name .ensures) (c .if1 .taken)
+returns c =
+    let by-same-name = c .before in
+    let same-name = by-same-name .same-name in
+    let by-loop-test = by-same-name .before in
+    let loop-test = by-loop-test .loop-test in
+    let loop = by-loop-test .before .loop in
+    looking-hit _ _ _ _ (loop .inv) (loop-test .taken) _ (same-name .ensures) (c .if1 .taken)
 
 sub-j : tie.Need-sub-j Inv-loop μ-loop
 sub-j c = search needs
@@ -31,7 +41,13 @@ loop-less : tie.Need-loop-less Inv-loop μ-loop
 loop-less c = search needs
 
 loop-again : tie.Need-loop-again Inv-loop μ-loop
-loop-again c = looking-next _ _ _ _ (c .before .before .before .loop .inv) (c .before .before .loop-test .taken) _ (c .before .same-name .ensures) (c .if1 .left)
+loop-again c =
+    let by-same-name = c .before in
+    let same-name = by-same-name .same-name in
+    let by-loop-test = by-same-name .before in
+    let loop-test = by-loop-test .loop-test in
+    let loop = by-loop-test .before .loop in
+    looking-next _ _ _ _ (loop .inv) (loop-test .taken) _ (same-name .ensures) (c .if1 .left)
 
 returns-2 : tie.Need-returns-2 Inv-loop μ-loop
 returns-2 c = looking-last _ _ _ _ (c .before .loop .inv) (c .loop-test .left)

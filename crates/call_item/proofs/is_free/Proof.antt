@@ -14,7 +14,13 @@ wide-requires-2 : tie.Need-wide-requires-2
 wide-requires-2 c κs = search needs
 
 returns-2 : tie.Need-returns-2
-returns-2 c = free-behind _ _ _ (c .before .before .before .wide .ensures) (c .before .before .if1 .left) _ (c .before .wide2 .ensures) (c .if2 .taken)
+returns-2 c =
+    let by-wide2 = c .before in
+    let wide2 = by-wide2 .wide2 in
+    let by-if1 = by-wide2 .before in
+    let if1 = by-if1 .if1 in
+    let wide = by-if1 .before .wide in
+    free-behind _ _ _ (wide .ensures) (if1 .left) _ (wide2 .ensures) (c .if2 .taken)
 
 mul-result : tie.Need-mul-result
 mul-result c = search needs
@@ -23,7 +29,15 @@ element-copy-out-result : tie.Need-element-copy-out-result
 element-copy-out-result c = search needs
 
 returns-3 : tie.Need-returns-3
-returns-3 c = free-here _ _ _ (c .before .before .before .before .wide .ensures) (c .before .before .before .if1 .left) _ (c .before .before .wide2 .ensures) (c .before .if2 .left)
+returns-3 c =
+    let by-if2 = c .before in
+    let if2 = by-if2 .if2 in
+    let by-wide2 = by-if2 .before in
+    let wide2 = by-wide2 .wide2 in
+    let by-if1 = by-wide2 .before in
+    let if1 = by-if1 .if1 in
+    let wide = by-if1 .before .wide in
+    free-here _ _ _ (wide .ensures) (if1 .left) _ (wide2 .ensures) (if2 .left)
 
 pub is-free-spec : {M : Type 1} → statement M
 is-free-spec =

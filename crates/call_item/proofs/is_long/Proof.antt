@@ -15,7 +15,13 @@ returns : tie.Need-returns
 returns c y e = long-not _ _ _ (c .before .read-item .ensures) y e _ (c .match .keys2)
 
 part-bytes-requires : tie.Need-part-bytes-requires
-part-bytes-requires c κs = long-part _ _ _ (c .before .before .before .before .before .before .pre .0) _ (c .before .before .before .read-item .ensures) _ _ _ (c .before .item .given .1)
+part-bytes-requires c κs =
+    let by-item = c .before in
+    let item = by-item .item in
+    let by-read-item = by-item .before .before in
+    let read-item = by-read-item .read-item in
+    let pre = by-read-item .before .before .before .pre in
+    long-part _ _ _ (pre .0) _ (read-item .ensures) _ _ _ (item .given .1)
 
 part-bytes-requires-2 : tie.Need-part-bytes-requires-2
 part-bytes-requires-2 c κs = search needs
@@ -24,7 +30,15 @@ same-bytes-requires : tie.Need-same-bytes-requires
 same-bytes-requires c κs = search needs
 
 returns-2 : tie.Need-returns-2
-returns-2 c y e = long-is _ _ _ (c .before .before .before .before .before .before .read-item .ensures) y e _ _ _ _ (c .before .before .before .before .item .given .1) _ _ (c .before .before .part-bytes .ensures) (c .before .part-bytes2 .ensures) _ (c .same-bytes .ensures)
+returns-2 c y e =
+    let by-part-bytes2 = c .before in
+    let part-bytes2 = by-part-bytes2 .part-bytes2 in
+    let by-part-bytes = by-part-bytes2 .before in
+    let part-bytes = by-part-bytes .part-bytes in
+    let by-item = by-part-bytes .before .before in
+    let item = by-item .item in
+    let read-item = by-item .before .before .read-item in
+    long-is _ _ _ (read-item .ensures) y e _ _ _ _ (item .given .1) _ _ (part-bytes .ensures) (part-bytes2 .ensures) _ (c .same-bytes .ensures)
 
 pub is-long-spec : {M : Type 1} → statement M
 is-long-spec =

@@ -14,7 +14,11 @@ returns : tie.Need-returns
 returns c area y e = short-not _ _ _ (c .before .read-item .ensures) y e _ (c .match .keys2)
 
 returns-2 : tie.Need-returns-2
-returns-2 c area y e = short-is _ _ _ (c .before .before .before .read-item .ensures) y e _ _ _ _ (c .before .item .given .1)
+returns-2 c area y e =
+    let by-item = c .before in
+    let item = by-item .item in
+    let read-item = by-item .before .before .read-item in
+    short-is _ _ _ (read-item .ensures) y e _ _ _ _ (item .given .1)
 
 pub is-short-spec : {M : Type 1} → statement M
 is-short-spec = tie.close (tie.spec read-item-requires enum-known-item returns returns-2)

@@ -68,7 +68,11 @@ shared-slice-read-t30 : tie.Need-shared-slice-read-t30
 shared-slice-read-t30 c = search needs
 
 returns : tie.Need-returns
-returns c = record-list (c .before .before .before .before .before .before .before .args .items .now) (c .before .before .before .before .before .before .before .args .i) (c .before .before .before .before .before .before .before .pre)
+returns c =
+    let by-args = c .before .before .before .before .before .before .before in
+    let args = by-args .args in
+    let pre = by-args .pre in
+    record-list (args .items .now) (args .i) pre
 
 pub record-words-spec : {M : Type 1} → statement M
 record-words-spec =

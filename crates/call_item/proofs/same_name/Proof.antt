@@ -18,13 +18,27 @@ enum-known-item-2 : tie.Need-enum-known-item-2
 enum-known-item-2 c = search needs
 
 is-long-requires : tie.Need-is-long-requires
-is-long-requires c κs = (c .before .before .before .before .before .before .pre .1, long-part _ _ _ (c .before .before .before .before .before .before .pre .0) _ (c .before .before .before .read-item .ensures) _ _ _ (c .before .item2 .given .1))
+is-long-requires c κs =
+    let by-item2 = c .before in
+    let item2 = by-item2 .item2 in
+    let by-read-item = by-item2 .before .before in
+    let read-item = by-read-item .read-item in
+    let pre = by-read-item .before .before .before .pre in
+    (pre .1, long-part _ _ _ (pre .0) _ (read-item .ensures) _ _ _ (item2 .given .1))
 
 returns : tie.Need-returns
-returns c x y e d = named-short _ _ _ (c .before .before .before .before .read-item .ensures) x e y _ _ _ (c .before .before .item .given .1) _ (c .is-short .ensures _ y d)
+returns c x y e d =
+    let by-item = c .before .before in
+    let item = by-item .item in
+    let read-item = by-item .before .before .read-item in
+    named-short _ _ _ (read-item .ensures) x e y _ _ _ (item .given .1) _ (c .is-short .ensures _ y d)
 
 returns-2 : tie.Need-returns-2
-returns-2 c x y e d = named-long _ _ _ (c .before .before .before .before .read-item .ensures) x e y _ _ _ (c .before .before .item2 .given .1) _ (c .is-long .ensures y d)
+returns-2 c x y e d =
+    let by-item2 = c .before .before in
+    let item2 = by-item2 .item2 in
+    let read-item = by-item2 .before .before .read-item in
+    named-long _ _ _ (read-item .ensures) x e y _ _ _ (item2 .given .1) _ (c .is-long .ensures y d)
 
 returns-3 : tie.Need-returns-3
 returns-3 c x y e d = named-not _ _ _ (c .before .read-item .ensures) x e y (c .match .keys3)

@@ -17,8 +17,10 @@ use prog.Wp.{Heap, Calls, Loops, WpFn, Tables}
 use ghost.Atoms.{Atoms, sem}
 use contract.Monad.{Fun, fact}
 use contract.Running.{givenOf, tables, tablesOf}
-use types.Kit.{Given, ‵, raw, some, later, _⊛_, ⋆, _$_, _∵_, !, qed, by, move, keep, drop, use1, split, join, pick, rewrite, fsplit, fsplit3, fjoin, fjoin3, feqI, suffices, frame, await, done}
-use types.Run.{look, look-raw, store-raw, init, forget, stop, hop, fld, from, load, of-opd, and-then, no-more, assigns, land, returns, enter, alloc1, alloc0, params1, pass1, pass0, free1, free0}
+use types.Kit.{Given, ‵, raw, some, later, _⊛_, ⋆, _$_, _∵_, !, qed, by, move, keep, drop, use1, split, join, pick, rewrite, fsplit, fsplit3, fjoin, fjoin3, feqI, suffices, frame, await}
+use types.Kit.{done}
+use types.Run.{look, look-raw, store-raw, init, forget, stop, hop, fld, from, load, of-opd, and-then, no-more, assigns, land, returns, enter, alloc1, alloc0, params1, pass1, pass0, free1}
+use types.Run.{free0}
 use types.Part.{whole, sub, look-in}
 use types.SemTy.{Body}
 use sound.WpLaws.{FmC, fmOf, WpFn-mono}
@@ -102,7 +104,8 @@ module _ {M : Type 1} (𝓤 : URA M) (H : Heap 𝓤) (A : Atoms 𝓤) (at-mem : 
   part-of : (r : StateAnswer) (a : Answer) → ent 𝓤 (ensured 𝓤 H A part.ended (part.clauses 𝓤 H A at-mem run) tt (r, tt) tt a) (fact 𝓤 (a ≡ answerPart r))
   part-of r a = exE 𝓤 _ (λ ws. snd∗ 𝓤 (sem 𝓤 H A (lasts part.ended tt (r, tt) ws)) (fact 𝓤 (a ≡ answerPart r)))
 
-module _ {M : Type 1} (𝓤 : URA M) (H : Heap 𝓤) (A : Atoms 𝓤) (W : Given 𝓤 H A) (at-mem : Memory → SProp 𝓤) (run : Routine → Fun 𝓤) (κ : Lft) (q : Share) (b o : ℕ) (γ : GName) (h : State) (n : ℕ) (gn : n < 2 ^ 64) where
+module _ {M : Type 1} (𝓤 : URA M) (H : Heap 𝓤) (A : Atoms 𝓤) (W : Given 𝓤 H A) (at-mem : Memory → SProp 𝓤) (run : Routine → Fun 𝓤) (κ : Lft)
+    (q : Share) (b o : ℕ) (γ : GName) (h : State) (n : ℕ) (gn : n < 2 ^ 64) where
   abbrev x : Arg
   x = (record { ptr = (b, o); name = γ; now = h }, (n, tt))
 
@@ -112,12 +115,14 @@ module _ {M : Type 1} (𝓤 : URA M) (H : Heap 𝓤) (A : Atoms 𝓤) (W : Given
   abbrev Post : Val → SProp 𝓤
   Post = walkOf 𝓤 H A in-place.ended stayed (in-place.clauses 𝓤 H A at-mem run) .post (((κ, tt), (q, tt), tt, x, at), tt)
 
-  exits : (r : StateAnswer) (a : Answer) (v : Val) → Removed h n r → a ≡ answerPart r → Is TA.the-row a (v ∷ []) → ent 𝓤 (⋆ 𝓤 H A (‵ (fobs γ (S .coded .code (r .state))) ∷ ‵ (fbor κ (Body (mem S) b o γ)) ∷ ‵ (flft κ q) ∷ [])) (Post v)
+  exits : (r : StateAnswer) (a : Answer) (v : Val) → Removed h n r → a ≡ answerPart r → Is TA.the-row a (v ∷ []) → ent 𝓤
+      (⋆ 𝓤 H A (‵ (fobs γ (S .coded .code (r .state))) ∷ ‵ (fbor κ (Body (mem S) b o γ)) ∷ ‵ (flft κ q) ∷ [])) (Post v)
   exits r a v e d is =
       qed W (‵ (fobs γ (S .coded .code (r .state))) ∷ ‵ (fbor κ (Body (mem S) b o γ)) ∷ ‵ (flft κ q) ∷ []) ∵
       suffices ! _ (ends-at 𝓤 H A in-place.ended stayed (in-place.clauses 𝓤 H A at-mem run) W (((κ, tt), (q, tt), tt, x, at), tt) v a (r .state, (tt, tt)) (tt, (tt, tt))) $
       says ! (e ∙ ap (λ (t : Answer). only-some (joined t (r .state))) (sym d)) $ nothing ! $ move ! (3 ∷ 0 ∷ []) $ join ! $
-      frame ! $ feqI ! (List Val) (vptr b o ∷ []) (vptr b o ∷ []) refl $ fjoin3 ! $ nothing ! $ owned ! usize (Is usize) (uint-makes 𝓤 H A W w64) n _ (refl, gn) $ fjoin ! $ move ! (1 ∷ 0 ∷ []) $ fjoin ! $
+      frame ! $ feqI ! (List Val) (vptr b o ∷ []) (vptr b o ∷ []) refl $ fjoin3 ! $ nothing ! $ owned ! usize (Is usize) (uint-makes 𝓤 H A W w64) n _
+      (refl, gn) $ fjoin ! $ move ! (1 ∷ 0 ∷ []) $ fjoin ! $
       owned ! TA.the-row (Is TA.the-row) (LL.makes TA.the-type TA′.the-plain 𝓤 H A) a _ is $ move ! (1 ∷ 0 ∷ []) $ done !
 
   abbrev to-remove : Remove 𝓤 H A at-mem run .Ghost
@@ -125,7 +130,8 @@ module _ {M : Type 1} (𝓤 : URA M) (H : Heap 𝓤) (A : Atoms 𝓤) (W : Given
 
   goes-remove : Is S h (valS h ∷ []) → ent 𝓤 (sem 𝓤 H A ftrue) (Remove 𝓤 H A at-mem run .pre to-remove)
   goes-remove g =
-      qed W (‵ ftrue ∷ []) ∵ owned ! usize (Is usize) (uint-makes 𝓤 H A W w64) n _ (refl, gn) $ fjoin ! $ owned ! S (Is S) (LL.makes TS.the-type TS′.the-plain 𝓤 H A) h _ g $ fjoin ! $ nothing ! $ join ! $ frame ! $ done !
+      qed W (‵ ftrue ∷ []) ∵ owned ! usize (Is usize) (uint-makes 𝓤 H A W w64) n _ (refl, gn) $ fjoin ! $ owned ! S (Is S)
+      (LL.makes TS.the-type TS′.the-plain 𝓤 H A) h _ g $ fjoin ! $ nothing ! $ join ! $ frame ! $ done !
 
   abbrev to-part : StateAnswer → Part 𝓤 H A at-mem run .Ghost
   to-part r = ((tt, tt, tt, (r, tt), (valR r ∷ [], tt)), tt)
@@ -140,29 +146,60 @@ module _ {M : Type 1} (𝓤 : URA M) (H : Heap 𝓤) (A : Atoms 𝓤) (W : Given
   state-is : (r : StateAnswer) (v : Val) → Is R r (v ∷ []) → Is S (r .state) (valS (r .state) ∷ [])
   state-is r v is = LL.owed TT.the-type TT′.the-laws r _ is .1 .1 .1 .1 .1 .0
 
-  module _ (C : Calls 𝓤 H) (Λ : Loops 𝓤 H) (fm : FmC 𝓤 H (W .laws) C) (known : Triple 𝓤 (C #state-calls·remove) (Remove 𝓤 H A at-mem run)) (known-part : Triple 𝓤 (C #in-place·answer-of) (Part 𝓤 H A at-mem run)) where
+  module _ (C : Calls 𝓤 H) (Λ : Loops 𝓤 H) (fm : FmC 𝓤 H (W .laws) C) (known : Triple 𝓤 (C #state-calls·remove) (Remove 𝓤 H A at-mem run))
+      (known-part : Triple 𝓤 (C #in-place·answer-of) (Part 𝓤 H A at-mem run)) where
     walk : ent 𝓤 (onEntry 𝓤 H A in-place.signature (κ, tt) (q, tt) x at) (WpFn 𝓤 H C Λ code.function (vptr b o ∷ vint w64 n ∷ []) Post)
     walk =
         qed W ((‵ (flft κ q) ⊛ ‵ ftrue) ∷ ‵ (owns (MutRef (named 0) κ S ∷ usize ∷ []) x at) ∷ []) ∵ enter ! C Λ code.function (vptr b o ∷ vint w64 n ∷ []) _ $
-        alloc1 ! (λ l₀. alloc1 ! (λ l₁. alloc1 ! (λ l₂. alloc1 ! (λ l₃. alloc1 ! (λ l₄. alloc0 ! $ params1 ! $ pass1 ! (init ! 6 refl (tt, tt)) $ pass1 ! (init ! 4 refl (tt, record { fits = gn })) $ pass0 ! $
+        alloc1
+        !
+        (λ
+        l₀.
+        alloc1
+        !
+        (λ
+        l₁.
+        alloc1
+        !
+        (λ
+        l₂.
+        alloc1
+        !
+        (λ
+        l₃.
+        alloc1 ! (λ l₄. alloc0 ! $ params1 ! $ pass1 ! (init ! 6 refl (tt, tt)) $ pass1 ! (init ! 4 refl (tt, record { fits = gn })) $ pass0 ! $
         move ! (11 ∷ []) $ fsplit ! $ fsplit3 ! $ drop ! $ move ! (13 ∷ []) $ split ! $ move ! (1 ∷ 4 ∷ []) $ drop ! $ drop ! $
         -- [the token; obs; the borrow; room for _4; …; room for _3; …; _2; …; _1; …; room for _0; …]
         move ! (1 ∷ 2 ∷ 0 ∷ []) $ opens ! tt S {h = h} b o (λ vs. spelt ! S (Is S) (shows 𝓤 H A S) (LL.vals TS.the-type TS′.the-laws) (LL.tells TS.the-type TS′.the-laws) fullShare h vs b o $
         move ! (1 ∷ []) $ peeks ! S (Is S) (shows 𝓤 H A S) h (valS h ∷ []) (λ g. drop ! $
         -- [the state's cell; the open borrow; obs; auth; room for _4; …; room for _3; …; _2; …; _1; …; room for _0; …]
-        assigns ! (of-opd ! (load ! (from ! (hop ! (look ! 10 refl) (stop !))) (look-raw ! 0 refl))) (from ! (stop !)) (init ! 4 refl (LL.lawful TS.the-type TS′.the-laws 𝓤 H A W .typed h _ g .0)) $
+        assigns ! (of-opd ! (load ! (from ! (hop ! (look ! 10 refl) (stop !))) (look-raw ! 0 refl))) (from ! (stop !))
+        (init ! 4 refl (LL.lawful TS.the-type TS′.the-laws 𝓤 H A W .typed h _ g .0)) $
         nothing ! $ use1 W (raw (Remove 𝓤 H A at-mem run .pre to-remove)) (goes-remove g) $
-        calls-at ! fm (Remove 𝓤 H A at-mem run) known to-remove (and-then ! (load ! (from ! (stop !)) (look ! 5 refl)) (and-then ! (load ! (from ! (stop !)) (look ! 9 refl)) (no-more !))) (λ v.
-        use1 W (later (some (λ (r : StateAnswer). (‵ ftrue ⊛ ‵ (R .own r (v ∷ []))) ⊛ raw (ensured 𝓤 H A remove.ended (remove.clauses 𝓤 H A at-mem run) tt (h, (n, tt)) tt r)))) (id⊢ 𝓤 _) $ await ! tt $ pick ! (λ r.
+        calls-at ! fm (Remove 𝓤 H A at-mem run) known to-remove
+        (and-then ! (load ! (from ! (stop !)) (look ! 5 refl)) (and-then ! (load ! (from ! (stop !)) (look ! 9 refl)) (no-more !))) (λ v.
+        use1
+        W
+        (later
+        (some
+        (λ (r : StateAnswer). (‵ ftrue ⊛ ‵ (R .own r (v ∷ []))) ⊛ raw
+        (ensured 𝓤 H A remove.ended (remove.clauses 𝓤 H A at-mem run) tt (h, (n, tt)) tt r)))) (id⊢ 𝓤 _) $ await ! tt $ pick ! (λ r.
         split ! $ move ! (1 ∷ []) $ use1 W (raw (fact 𝓤 (Removed h n r))) (removed-of 𝓤 H A at-mem run h n r) $ heard ! (Removed h n r) (λ e. split ! $ drop ! $
         peeks ! R (Is R) (shows 𝓤 H A R) r (v ∷ []) (λ is. drop ! $
         -- [the cell; the open borrow; obs; auth; _4; …; room for _3; …; _2; …; _1; …; room for _0; …]
         land ! (from ! (stop !)) (init ! 6 refl (LL.lawful TT.the-type TT′.the-laws 𝓤 H A W .typed r _ is .0)) $
         rewrite ! 6 (λ (u : Val). ‵ (fat fullShare TT′.mir l₃ 0 u)) (ap only (LL.tells TT.the-type TT′.the-laws r _ is)) refl $
-        assigns ! (of-opd ! (load ! (from ! (fld ! refl (stop !))) (look-in ! 6 (sub ! 5 refl (whole !))))) (from ! (hop ! (look ! 10 refl) (stop !))) (store-raw ! 0 refl (LL.lawful TS.the-type TS′.the-laws 𝓤 H A W .typed (r .state) _ (state-is r v is) .0)) $
+        assigns ! (of-opd ! (load ! (from ! (fld ! refl (stop !))) (look-in ! 6 (sub ! 5 refl (whole !)))))
+        (from ! (hop ! (look ! 10 refl) (stop !)))
+        (store-raw ! 0 refl (LL.lawful TS.the-type TS′.the-laws 𝓤 H A W .typed (r .state) _ (state-is r v is) .0)) $
         nothing ! $ use1 W (raw (Part 𝓤 H A at-mem run .pre (to-part r))) (goes-part r (answer-is r v is)) $
         calls-at ! fm (Part 𝓤 H A at-mem run) known-part (to-part r) (and-then ! (load ! (from ! (stop !)) (look ! 7 refl)) (no-more !)) (λ u.
-        use1 W (later (some (λ (a : Answer). (‵ ftrue ⊛ ‵ (TA.the-row .own a (u ∷ []))) ⊛ raw (ensured 𝓤 H A part.ended (part.clauses 𝓤 H A at-mem run) tt (r, tt) tt a)))) (id⊢ 𝓤 _) $ await ! tt $ pick ! (λ a.
+        use1
+        W
+        (later
+        (some
+        (λ (a : Answer). (‵ ftrue ⊛ ‵ (TA.the-row .own a (u ∷ []))) ⊛ raw
+        (ensured 𝓤 H A part.ended (part.clauses 𝓤 H A at-mem run) tt (r, tt) tt a)))) (id⊢ 𝓤 _) $ await ! tt $ pick ! (λ a.
         split ! $ move ! (1 ∷ []) $ use1 W (raw (fact 𝓤 (a ≡ answerPart r))) (part-of 𝓤 H A at-mem run r a) $ heard ! (a ≡ answerPart r) (λ d. split ! $ drop ! $
         peeks ! TA.the-row (Is TA.the-row) (shows 𝓤 H A TA.the-row) a (u ∷ []) (λ ia. drop ! $
         land ! (from ! (stop !)) (init ! 12 refl (LL.lawful TA.the-type TA′.the-laws 𝓤 H A W .typed a _ ia .0)) $
@@ -173,7 +210,8 @@ module _ {M : Type 1} (𝓤 : URA M) (H : Heap 𝓤) (A : Atoms 𝓤) (W : Given
         keep ! (0 ∷ 1 ∷ 2 ∷ []) $ by ! (exits r a u e d ia))))))))))))))))
 
 module _ {M : Type 1} (𝓤 : URA M) (H : Heap 𝓤) (A : Atoms 𝓤) (W : Given 𝓤 H A) (at-mem : Memory → SProp 𝓤) (run : Routine → Fun 𝓤) where
-  in-place-walks : (C : Calls 𝓤 H) (Λ : Loops 𝓤 H) → FmC 𝓤 H (W .laws) C → Triple 𝓤 (C #state-calls·remove) (Remove 𝓤 H A at-mem run) → Triple 𝓤 (C #in-place·answer-of) (Part 𝓤 H A at-mem run)
+  in-place-walks : (C : Calls 𝓤 H) (Λ : Loops 𝓤 H) → FmC 𝓤 H (W .laws) C → Triple 𝓤 (C #state-calls·remove) (Remove 𝓤 H A at-mem run) → Triple 𝓤
+      (C #in-place·answer-of) (Part 𝓤 H A at-mem run)
       → Walks 𝓤 H A in-place.ended stayed (WpFn 𝓤 H C Λ code.function) (in-place.clauses 𝓤 H A at-mem run)
   in-place-walks C Λ fm known known-part = walked 𝓤 H A in-place.ended stayed (in-place.clauses 𝓤 H A at-mem run) (WpFn 𝓤 H C Λ code.function)
       (λ κs. (ptr-vals, (uint-vals w64, tt))) (λ κs. (mut-tells (named 0) (κs .0) S, (uint-tells w64, tt)))
@@ -183,9 +221,11 @@ module _ {M : Type 1} (𝓤 : URA M) (H : Heap 𝓤) (A : Atoms 𝓤) (W : Given
   goes : AllGo 𝓤 H A W 1 (in-place.signature .params) (in-place.ended .kept) stayed
   goes = (goes-ref 𝓤 H A W 1 0 tt (plain (λ _. S)), (goes-none 𝓤 H A W 1 (λ _. usize) yes (λ κs x f. refl), tt))
 
-in-place-meets : {M : Type 1} (𝓤 : URA M) (H : Heap 𝓤) (A : Atoms 𝓤) (W : Given 𝓤 H A) (at-mem : Memory → SProp 𝓤) (run : Routine → Fun 𝓤) (𝓣 : Tables 𝓤 H) → Triple 𝓤 (𝓣 .C #state-calls·remove) (Remove 𝓤 H A at-mem run)
+in-place-meets : {M : Type 1} (𝓤 : URA M) (H : Heap 𝓤) (A : Atoms 𝓤) (W : Given 𝓤 H A) (at-mem : Memory → SProp 𝓤) (run : Routine → Fun 𝓤)
+    (𝓣 : Tables 𝓤 H) → Triple 𝓤 (𝓣 .C #state-calls·remove) (Remove 𝓤 H A at-mem run)
     → Triple 𝓤 (𝓣 .C #in-place·answer-of) (Part 𝓤 H A at-mem run) → Meets 𝓤 H A in-place.signature (WpFn 𝓤 H (𝓣 .C) (𝓣 .Λ) code.function) (in-place.spec 𝓤 H A at-mem run)
-in-place-meets 𝓤 H A W at-mem run 𝓣 known known-part = walk-meets 𝓤 H A in-place.ended stayed W (goes 𝓤 H A W at-mem run) (in-place.clauses 𝓤 H A at-mem run) (WpFn 𝓤 H (𝓣 .C) (𝓣 .Λ) code.function) (WpFn-mono 𝓤 H (W .laws) 𝓣 code.function)
+in-place-meets 𝓤 H A W at-mem run 𝓣 known known-part = walk-meets 𝓤 H A in-place.ended stayed W (goes 𝓤 H A W at-mem run)
+    (in-place.clauses 𝓤 H A at-mem run) (WpFn 𝓤 H (𝓣 .C) (𝓣 .Λ) code.function) (WpFn-mono 𝓤 H (W .laws) 𝓣 code.function)
     (in-place-walks 𝓤 H A W at-mem run (𝓣 .C) (𝓣 .Λ) (fmOf 𝓤 H (W .laws) 𝓣) known known-part)
 
 pub remove-spec : {M : Type 1} → stated.statement M

@@ -18,8 +18,10 @@ use ghost.Atoms.{Atoms, sem}
 use contract.Monad.{Fun, fact}
 use contract.Running.{givenOf, tables, tablesOf}
 use contract.Lifetimes.{AllOutlive}
-use types.Kit.{Given, Item, ‵, raw, some, later, _⊛_, ⋆, _$_, _∵_, !, qed, by, move, keep, drop, use1, group, split, join, pick, rewrite, fsplit, fsplit3, fjoin, fjoin3, feqI, suffices, frame, await, done}
-use types.Run.{look, look-raw, store-raw, init, forget, stop, hop, fld, from, load, of-opd, and-then, no-more, assigns, land, returns, enter, alloc1, alloc0, params1, pass1, pass0, free1, free0}
+use types.Kit.{Given, Item, ‵, raw, some, later, _⊛_, ⋆, _$_, _∵_, !, qed, by, move, keep, drop, use1, group, split, join, pick, rewrite, fsplit, fsplit3, fjoin, fjoin3, feqI, suffices}
+use types.Kit.{frame, await, done}
+use types.Run.{look, look-raw, store-raw, init, forget, stop, hop, fld, from, load, of-opd, and-then, no-more, assigns, land, returns, enter, alloc1, alloc0, params1, pass1, pass0, free1}
+use types.Run.{free0}
 use types.Part.{whole, sub, look-in}
 use types.SemTy.{Body}
 use sound.WpLaws.{FmC, fmOf, WpFn-mono}
@@ -89,8 +91,14 @@ abbrev valOf : Bytes → Val
 valOf l = sliceVal (l .ptr) (length (l .now))
 
 abbrev stayed : Stays (in-place.ended .signature .params) (in-place.ended .kept)
-stayed =
-    (stay-ref (0 ∷ []) tt (plain (λ _. S)), (stay-none-slice (1 ∷ []) tt (plain (λ _. u8)) yes, (stay-none-slice (2 ∷ []) tt (plain (λ _. u8)) yes, (stay-none-slice (3 ∷ []) tt (plain (λ _. u32)) yes, (stay-none (λ _. usize) yes, tt)))))
+stayed = (
+  stay-ref
+      (0 ∷ []) tt (plain (λ _. S)),
+  (
+    stay-none-slice (1 ∷ []) tt (plain (λ _. u8)) yes,
+    (stay-none-slice (2 ∷ []) tt (plain (λ _. u8)) yes, (stay-none-slice (3 ∷ []) tt (plain (λ _. u32)) yes, (stay-none (λ _. usize) yes, tt))),
+  ),
+)
 
 -- what `call_form::take_flag` says of its answer
 abbrev Taken : Bytes → Bytes → Bytes → State → ℕ → StateAnswer → Type 0
@@ -105,13 +113,15 @@ module _ {M : Type 1} (𝓤 : URA M) (H : Heap 𝓤) (A : Atoms 𝓤) (at-mem : 
   Part = tripleOf 𝓤 H A part.signature (part.spec 𝓤 H A at-mem run)
 
   -- of what a callee ensures, the clause alone
-  taken-of : (κ₁ κ₂ κ₃ : Lft) (f s i : Bytes) (h : State) (n : ℕ) (r : StateAnswer) → ent 𝓤 (ensured 𝓤 H A take.ended (take.clauses 𝓤 H A at-mem run) (κ₁, (κ₂, (κ₃, tt))) (f, (s, (i, (h, (n, tt))))) tt r) (fact 𝓤 (Taken f s i h n r))
+  taken-of : (κ₁ κ₂ κ₃ : Lft) (f s i : Bytes) (h : State) (n : ℕ) (r : StateAnswer) → ent 𝓤
+      (ensured 𝓤 H A take.ended (take.clauses 𝓤 H A at-mem run) (κ₁, (κ₂, (κ₃, tt))) (f, (s, (i, (h, (n, tt))))) tt r) (fact 𝓤 (Taken f s i h n r))
   taken-of κ₁ κ₂ κ₃ f s i h n r = exE 𝓤 _ (λ ws. snd∗ 𝓤 (sem 𝓤 H A (lasts take.ended (κ₁, (κ₂, (κ₃, tt))) (f, (s, (i, (h, (n, tt))))) ws)) (fact 𝓤 (Taken f s i h n r)))
 
   part-of : (r : StateAnswer) (a : Answer) → ent 𝓤 (ensured 𝓤 H A part.ended (part.clauses 𝓤 H A at-mem run) tt (r, tt) tt a) (fact 𝓤 (a ≡ answerPart r))
   part-of r a = exE 𝓤 _ (λ ws. snd∗ 𝓤 (sem 𝓤 H A (lasts part.ended tt (r, tt) ws)) (fact 𝓤 (a ≡ answerPart r)))
 
-module _ {M : Type 1} (𝓤 : URA M) (H : Heap 𝓤) (A : Atoms 𝓤) (W : Given 𝓤 H A) (at-mem : Memory → SProp 𝓤) (run : Routine → Fun 𝓤) (κ κ₁ κ₂ κ₃ : Lft) (bounds : AllOutlive 4 (in-place.signature .outlives) (κ, (κ₁, (κ₂, (κ₃, tt))))) (q q₁ q₂ q₃ : Share)
+module _ {M : Type 1} (𝓤 : URA M) (H : Heap 𝓤) (A : Atoms 𝓤) (W : Given 𝓤 H A) (at-mem : Memory → SProp 𝓤) (run : Routine → Fun 𝓤) (κ κ₁ κ₂ κ₃ : Lft)
+    (bounds : AllOutlive 4 (in-place.signature .outlives) (κ, (κ₁, (κ₂, (κ₃, tt))))) (q q₁ q₂ q₃ : Share)
     (b o : ℕ) (γ : GName) (h : State) (b₁ o₁ : ℕ) (γ₁ : GName) (y₁ : List ℕ) (b₂ o₂ : ℕ) (γ₂ : GName) (y₂ : List ℕ) (b₃ o₃ : ℕ) (γ₃ : GName) (y₃ : List ℕ) (n : ℕ)
     (g₁ : Room u8 (length y₁)) (g₂ : Room u8 (length y₂)) (g₃ : Room u32 (length y₃)) (gn : n < 2 ^ 64) where
   abbrev f : Bytes
@@ -149,9 +159,15 @@ module _ {M : Type 1} (𝓤 : URA M) (H : Heap 𝓤) (A : Atoms 𝓤) (W : Given
       → ent 𝓤 (⋆ 𝓤 H A (‵ (fobs γ (S .coded .code (r .state))) ∷ ‵ (fbor κ (Body (mem S) b o γ)) ∷ ‵ (flft κ q) ∷ Tokens ∷ ‵ Own₁ ∷ ‵ Own₂ ∷ ‵ Own₃ ∷ [])) (Post v)
   exits r a v e d is =
       qed W (‵ (fobs γ (S .coded .code (r .state))) ∷ ‵ (fbor κ (Body (mem S) b o γ)) ∷ ‵ (flft κ q) ∷ Tokens ∷ ‵ Own₁ ∷ ‵ Own₂ ∷ ‵ Own₃ ∷ []) ∵
-      suffices ! _ (ends-at 𝓤 H A in-place.ended stayed (in-place.clauses 𝓤 H A at-mem run) W (((κ, (κ₁, (κ₂, (κ₃, tt)))), (q, (q₁, (q₂, (q₃, tt)))), bounds, x, at), tt) v a (r .state, (tt, (tt, (tt, (tt, tt))))) (tt, (tt, (tt, (tt, (tt, tt)))))) $
+      suffices
+      !
+      _
+      (ends-at 𝓤 H A in-place.ended stayed (in-place.clauses 𝓤 H A at-mem run) W
+      (((κ, (κ₁, (κ₂, (κ₃, tt)))), (q, (q₁, (q₂, (q₃, tt)))), bounds, x, at), tt) v a (r .state, (tt, (tt, (tt, (tt, tt)))))
+      (tt, (tt, (tt, (tt, (tt, tt)))))) $
       says ! (e ∙ ap (λ (t : Answer). only-some (joined t (r .state))) (sym d)) $ move ! (2 ∷ 3 ∷ []) $ join ! $ frame ! $ feqI ! (List Val) (vptr b o ∷ []) (vptr b o ∷ []) refl $ fjoin3 ! $
-      nothing ! $ owned ! usize (Is usize) (uint-makes 𝓤 H A W w64) n _ (refl, gn) $ fjoin ! $ move ! (4 ∷ 0 ∷ []) $ fjoin ! $ move ! (3 ∷ 0 ∷ []) $ fjoin ! $ move ! (2 ∷ 0 ∷ []) $ fjoin ! $ move ! (1 ∷ 0 ∷ []) $ fjoin ! $
+      nothing ! $ owned ! usize (Is usize) (uint-makes 𝓤 H A W w64) n _ (refl, gn) $ fjoin ! $ move ! (4 ∷ 0 ∷ []) $ fjoin ! $ move ! (3 ∷ 0 ∷ []) $
+      fjoin ! $ move ! (2 ∷ 0 ∷ []) $ fjoin ! $ move ! (1 ∷ 0 ∷ []) $ fjoin ! $
       owned ! TA.the-row (Is TA.the-row) (LL.makes TA.the-type TA′.the-plain 𝓤 H A) a _ is $ move ! (1 ∷ 0 ∷ []) $ done !
 
   abbrev to-take : Take 𝓤 H A at-mem run .Ghost
@@ -176,13 +192,28 @@ module _ {M : Type 1} (𝓤 : URA M) (H : Heap 𝓤) (A : Atoms 𝓤) (W : Given
   state-is : (r : StateAnswer) (v : Val) → Is R r (v ∷ []) → Is S (r .state) (valS (r .state) ∷ [])
   state-is r v is = LL.owed TT.the-type TT′.the-laws r _ is .1 .1 .1 .1 .1 .0
 
-  module _ (C : Calls 𝓤 H) (Λ : Loops 𝓤 H) (fm : FmC 𝓤 H (W .laws) C) (known : Triple 𝓤 (C #form-calls·take-flag) (Take 𝓤 H A at-mem run)) (known-part : Triple 𝓤 (C #in-place·answer-of) (Part 𝓤 H A at-mem run)) where
-    walk : ent 𝓤 (onEntry 𝓤 H A in-place.signature (κ, (κ₁, (κ₂, (κ₃, tt)))) (q, (q₁, (q₂, (q₃, tt)))) x at) (WpFn 𝓤 H C Λ code.function (vptr b o ∷ valOf f ∷ valOf s ∷ valOf i ∷ vint w64 n ∷ []) Post)
+  module _ (C : Calls 𝓤 H) (Λ : Loops 𝓤 H) (fm : FmC 𝓤 H (W .laws) C) (known : Triple 𝓤 (C #form-calls·take-flag) (Take 𝓤 H A at-mem run))
+      (known-part : Triple 𝓤 (C #in-place·answer-of) (Part 𝓤 H A at-mem run)) where
+    walk : ent 𝓤 (onEntry 𝓤 H A in-place.signature (κ, (κ₁, (κ₂, (κ₃, tt)))) (q, (q₁, (q₂, (q₃, tt)))) x at)
+        (WpFn 𝓤 H C Λ code.function (vptr b o ∷ valOf f ∷ valOf s ∷ valOf i ∷ vint w64 n ∷ []) Post)
     walk =
         qed W ((‵ (flft κ q) ⊛ Tokens) ∷ ‵ (owns (MutRef (named 0) κ S ∷ ShrSlice (named 1) κ₁ u8 ∷ ShrSlice (named 2) κ₂ u8 ∷ ShrSlice (named 3) κ₃ u32 ∷ usize ∷ []) x at) ∷ []) ∵
         enter ! C Λ code.function (vptr b o ∷ valOf f ∷ valOf s ∷ valOf i ∷ vint w64 n ∷ []) _ $
-        alloc1 ! (λ l₀. alloc1 ! (λ l₁. alloc1 ! (λ l₂. alloc1 ! (λ l₃. alloc1 ! (λ l₄. alloc1 ! (λ l₅. alloc1 ! (λ l₆. alloc1 ! (λ l₇. alloc0 ! $ params1 ! $ pass1 ! (init ! 12 refl (tt, tt)) $
-        pass1 ! (init ! 10 refl (tt, (tt, (record { fits = g₁ .0 }, tt)))) $ pass1 ! (init ! 8 refl (tt, (tt, (record { fits = g₂ .0 }, tt)))) $ pass1 ! (init ! 6 refl (tt, (tt, (record { fits = g₃ .0 }, tt)))) $
+        alloc1
+        !
+        (λ
+        l₀.
+        alloc1
+        !
+        (λ
+        l₁.
+        alloc1
+        !
+        (λ
+        l₂.
+        alloc1 ! (λ l₃. alloc1 ! (λ l₄. alloc1 ! (λ l₅. alloc1 ! (λ l₆. alloc1 ! (λ l₇. alloc0 ! $ params1 ! $ pass1 ! (init ! 12 refl (tt, tt)) $
+        pass1 ! (init ! 10 refl (tt, (tt, (record { fits = g₁ .0 }, tt)))) $ pass1 ! (init ! 8 refl (tt, (tt, (record { fits = g₂ .0 }, tt)))) $
+        pass1 ! (init ! 6 refl (tt, (tt, (record { fits = g₃ .0 }, tt)))) $
         pass1 ! (init ! 4 refl (tt, record { fits = gn })) $ pass0 ! $
         move ! (17 ∷ []) $ fsplit ! $ fsplit3 ! $ drop ! $
         -- [obs; the borrow; what the others own; room for _7; …; the tokens]
@@ -194,21 +225,38 @@ module _ {M : Type 1} (𝓤 : URA M) (H : Heap 𝓤) (A : Atoms 𝓤) (W : Given
         move ! (8 ∷ 9 ∷ 0 ∷ []) $ opens ! tt S {h = h} b o (λ vs. spelt ! S (Is S) (shows 𝓤 H A S) (LL.vals TS.the-type TS′.the-laws) (LL.tells TS.the-type TS′.the-laws) fullShare h vs b o $
         move ! (1 ∷ []) $ peeks ! S (Is S) (shows 𝓤 H A S) h (valS h ∷ []) (λ g. move ! (1 ∷ 0 ∷ []) $
         -- [the state's cell; what a State owns; the open borrow; obs; auth; the tokens; Own₃; Own₃; Own₂; Own₂; Own₁; Own₁; room for _7; …; room for _6; …; _5; …; _4; …; _3; …; _2; …; _1; …; room for _0; …]
-        assigns ! (of-opd ! (load ! (from ! (hop ! (look ! 24 refl) (stop !))) (look-raw ! 0 refl))) (from ! (stop !)) (init ! 12 refl (LL.lawful TS.the-type TS′.the-laws 𝓤 H A W .typed h _ g .0)) $
+        assigns ! (of-opd ! (load ! (from ! (hop ! (look ! 24 refl) (stop !))) (look-raw ! 0 refl))) (from ! (stop !))
+        (init ! 12 refl (LL.lawful TS.the-type TS′.the-laws 𝓤 H A W .typed h _ g .0)) $
         move ! (5 ∷ 1 ∷ 10 ∷ 8 ∷ 6 ∷ []) $ group ! 5 $ use1 W (raw (Take 𝓤 H A at-mem run .pre to-take)) goes-take $
         -- [what `take_flag` asks; the cell; the open borrow; obs; auth; Own₃; Own₂; Own₁; _7; …; room for _6; …; _5; …; _4; …; _3; …; _2; …; _1; …; room for _0; …]
         calls-at ! fm (Take 𝓤 H A at-mem run) known to-take
-        (and-then ! (load ! (from ! (stop !)) (look ! 18 refl)) (and-then ! (load ! (from ! (stop !)) (look ! 16 refl)) (and-then ! (load ! (from ! (stop !)) (look ! 14 refl)) (and-then ! (load ! (from ! (stop !)) (look ! 8 refl)) (and-then ! (load ! (from ! (stop !)) (look ! 12 refl)) (no-more !)))))) (λ v.
-        use1 W (later (some (λ (r : StateAnswer). (Tokens ⊛ ‵ (R .own r (v ∷ []))) ⊛ raw (ensured 𝓤 H A take.ended (take.clauses 𝓤 H A at-mem run) (κ₁, (κ₂, (κ₃, tt))) (f, (s, (i, (h, (n, tt))))) tt r)))) (id⊢ 𝓤 _) $ await ! tt $ pick ! (λ r.
+        (and-then ! (load ! (from ! (stop !)) (look ! 18 refl))
+        (and-then ! (load ! (from ! (stop !)) (look ! 16 refl))
+        (and-then ! (load ! (from ! (stop !)) (look ! 14 refl))
+        (and-then ! (load ! (from ! (stop !)) (look ! 8 refl)) (and-then ! (load ! (from ! (stop !)) (look ! 12 refl)) (no-more !)))))) (λ v.
+        use1
+        W
+        (later
+        (some
+        (λ (r : StateAnswer). (Tokens ⊛ ‵ (R .own r (v ∷ []))) ⊛ raw
+        (ensured 𝓤 H A take.ended (take.clauses 𝓤 H A at-mem run) (κ₁, (κ₂, (κ₃, tt))) (f, (s, (i, (h, (n, tt))))) tt r)))) (id⊢ 𝓤 _) $ await !
+        tt $ pick ! (λ r.
         split ! $ move ! (1 ∷ []) $ use1 W (raw (fact 𝓤 (Taken f s i h n r))) (taken-of 𝓤 H A at-mem run κ₁ κ₂ κ₃ f s i h n r) $ heard ! (Taken f s i h n r) (λ e. split ! $
         move ! (1 ∷ []) $ peeks ! R (Is R) (shows 𝓤 H A R) r (v ∷ []) (λ is. drop ! $
         -- [the tokens; the cell; the open borrow; obs; auth; Own₃; Own₂; Own₁; _7; …; room for _6; …; _5; …; _4; …; _3; …; _2; …; _1; …; room for _0; …]
         land ! (from ! (stop !)) (init ! 10 refl (LL.lawful TT.the-type TT′.the-laws 𝓤 H A W .typed r _ is .0)) $
         rewrite ! 10 (λ (u : Val). ‵ (fat fullShare TT′.mir l₆ 0 u)) (ap only (LL.tells TT.the-type TT′.the-laws r _ is)) refl $
-        assigns ! (of-opd ! (load ! (from ! (fld ! refl (stop !))) (look-in ! 10 (sub ! 5 refl (whole !))))) (from ! (hop ! (look ! 20 refl) (stop !))) (store-raw ! 1 refl (LL.lawful TS.the-type TS′.the-laws 𝓤 H A W .typed (r .state) _ (state-is r v is) .0)) $
+        assigns ! (of-opd ! (load ! (from ! (fld ! refl (stop !))) (look-in ! 10 (sub ! 5 refl (whole !)))))
+        (from ! (hop ! (look ! 20 refl) (stop !)))
+        (store-raw ! 1 refl (LL.lawful TS.the-type TS′.the-laws 𝓤 H A W .typed (r .state) _ (state-is r v is) .0)) $
         nothing ! $ use1 W (raw (Part 𝓤 H A at-mem run .pre (to-part r))) (goes-part r (answer-is r v is)) $
         calls-at ! fm (Part 𝓤 H A at-mem run) known-part (to-part r) (and-then ! (load ! (from ! (stop !)) (look ! 11 refl)) (no-more !)) (λ u.
-        use1 W (later (some (λ (a : Answer). (‵ ftrue ⊛ ‵ (TA.the-row .own a (u ∷ []))) ⊛ raw (ensured 𝓤 H A part.ended (part.clauses 𝓤 H A at-mem run) tt (r, tt) tt a)))) (id⊢ 𝓤 _) $ await ! tt $ pick ! (λ a.
+        use1
+        W
+        (later
+        (some
+        (λ (a : Answer). (‵ ftrue ⊛ ‵ (TA.the-row .own a (u ∷ []))) ⊛ raw
+        (ensured 𝓤 H A part.ended (part.clauses 𝓤 H A at-mem run) tt (r, tt) tt a)))) (id⊢ 𝓤 _) $ await ! tt $ pick ! (λ a.
         split ! $ move ! (1 ∷ []) $ use1 W (raw (fact 𝓤 (a ≡ answerPart r))) (part-of 𝓤 H A at-mem run r a) $ heard ! (a ≡ answerPart r) (λ d. split ! $ drop ! $
         peeks ! TA.the-row (Is TA.the-row) (shows 𝓤 H A TA.the-row) a (u ∷ []) (λ ia. drop ! $
         land ! (from ! (stop !)) (init ! 22 refl (LL.lawful TA.the-type TA′.the-laws 𝓤 H A W .typed a _ ia .0)) $
@@ -220,22 +268,45 @@ module _ {M : Type 1} (𝓤 : URA M) (H : Heap 𝓤) (A : Atoms 𝓤) (W : Given
         keep ! (0 ∷ 1 ∷ 2 ∷ 3 ∷ 6 ∷ 5 ∷ 4 ∷ []) $ by ! (exits r a u e d ia)))))))))))))))))))
 
 module _ {M : Type 1} (𝓤 : URA M) (H : Heap 𝓤) (A : Atoms 𝓤) (W : Given 𝓤 H A) (at-mem : Memory → SProp 𝓤) (run : Routine → Fun 𝓤) where
-  in-place-walks : (C : Calls 𝓤 H) (Λ : Loops 𝓤 H) → FmC 𝓤 H (W .laws) C → Triple 𝓤 (C #form-calls·take-flag) (Take 𝓤 H A at-mem run) → Triple 𝓤 (C #in-place·answer-of) (Part 𝓤 H A at-mem run)
+  in-place-walks : (C : Calls 𝓤 H) (Λ : Loops 𝓤 H) → FmC 𝓤 H (W .laws) C → Triple 𝓤 (C #form-calls·take-flag) (Take 𝓤 H A at-mem run) → Triple 𝓤
+      (C #in-place·answer-of) (Part 𝓤 H A at-mem run)
       → Walks 𝓤 H A in-place.ended stayed (WpFn 𝓤 H C Λ code.function) (in-place.clauses 𝓤 H A at-mem run)
   in-place-walks C Λ fm known known-part = walked 𝓤 H A in-place.ended stayed (in-place.clauses 𝓤 H A at-mem run) (WpFn 𝓤 H C Λ code.function)
       (λ κs. (ptr-vals, (slice-vals, (slice-vals, (slice-vals, (uint-vals w64, tt))))))
-      (λ κs. (mut-tells (named 0) (κs .0) S, (shr-slice-tells (named 1) (κs .1 .0) u8, (shr-slice-tells (named 2) (κs .1 .1 .0) u8, (shr-slice-tells (named 3) (κs .1 .1 .1 .0) u32, (uint-tells w64, tt))))))
+      (λ
+      κs. (
+        mut-tells
+            (named 0) (κs .0) S,
+        (
+          shr-slice-tells (named 1) (κs .1 .0) u8,
+          (shr-slice-tells (named 2) (κs .1 .1 .0) u8, (shr-slice-tells (named 3) (κs .1 .1 .1 .0) u32, (uint-tells w64, tt))),
+        ),
+      ))
       (λ κs qs bounds a _ are. via 𝓤 _ (fst∗ 𝓤 _ (emp 𝓤))
-      (walk 𝓤 H A W at-mem run (κs .0) (κs .1 .0) (κs .1 .1 .0) (κs .1 .1 .1 .0) bounds (qs .0) (qs .1 .0) (qs .1 .1 .0) (qs .1 .1 .1 .0) (a .0 .ptr .0) (a .0 .ptr .1) (a .0 .name) (a .0 .now)
-      (a .1 .0 .ptr .0) (a .1 .0 .ptr .1) (a .1 .0 .name) (a .1 .0 .now) (a .1 .1 .0 .ptr .0) (a .1 .1 .0 .ptr .1) (a .1 .1 .0 .name) (a .1 .1 .0 .now) (a .1 .1 .1 .0 .ptr .0) (a .1 .1 .1 .0 .ptr .1) (a .1 .1 .1 .0 .name) (a .1 .1 .1 .0 .now) (a .1 .1 .1 .1 .0)
+      (walk 𝓤 H A W at-mem run (κs .0) (κs .1 .0) (κs .1 .1 .0) (κs .1 .1 .1 .0) bounds (qs .0) (qs .1 .0) (qs .1 .1 .0) (qs .1 .1 .1 .0)
+      (a .0 .ptr .0) (a .0 .ptr .1) (a .0 .name) (a .0 .now)
+      (a .1 .0 .ptr .0) (a .1 .0 .ptr .1) (a .1 .0 .name) (a .1 .0 .now) (a .1 .1 .0 .ptr .0) (a .1 .1 .0 .ptr .1) (a .1 .1 .0 .name)
+      (a .1 .1 .0 .now) (a .1 .1 .1 .0 .ptr .0) (a .1 .1 .1 .0 .ptr .1) (a .1 .1 .1 .0 .name) (a .1 .1 .1 .0 .now) (a .1 .1 .1 .1 .0)
       (are .1 .0 .0 .1) (are .1 .1 .0 .0 .1) (are .1 .1 .1 .0 .0 .1) (are .1 .1 .1 .1 .0 .1) C Λ fm known known-part))
 
   goes : AllGo 𝓤 H A W 4 (in-place.signature .params) (in-place.ended .kept) stayed
-  goes = (goes-ref 𝓤 H A W 4 0 tt (plain (λ _. S)), (goes-none-slice 𝓤 H A W 4 (1 ∷ []) tt (plain (λ _. u8)) yes, (goes-none-slice 𝓤 H A W 4 (2 ∷ []) tt (plain (λ _. u8)) yes, (goes-none-slice 𝓤 H A W 4 (3 ∷ []) tt (plain (λ _. u32)) yes, (goes-none 𝓤 H A W 4 (λ _. usize) yes (λ κs x f. refl), tt)))))
+  goes
+      = (
+        goes-ref 𝓤 H A W 4 0 tt (plain (λ _. S)),
+        (
+          goes-none-slice 𝓤 H A W 4 (1 ∷ []) tt (plain (λ _. u8)) yes,
+          (
+            goes-none-slice 𝓤 H A W 4 (2 ∷ []) tt (plain (λ _. u8)) yes,
+            (goes-none-slice 𝓤 H A W 4 (3 ∷ []) tt (plain (λ _. u32)) yes, (goes-none 𝓤 H A W 4 (λ _. usize) yes (λ κs x f. refl), tt)),
+          ),
+        ),
+      )
 
-in-place-meets : {M : Type 1} (𝓤 : URA M) (H : Heap 𝓤) (A : Atoms 𝓤) (W : Given 𝓤 H A) (at-mem : Memory → SProp 𝓤) (run : Routine → Fun 𝓤) (𝓣 : Tables 𝓤 H) → Triple 𝓤 (𝓣 .C #form-calls·take-flag) (Take 𝓤 H A at-mem run)
+in-place-meets : {M : Type 1} (𝓤 : URA M) (H : Heap 𝓤) (A : Atoms 𝓤) (W : Given 𝓤 H A) (at-mem : Memory → SProp 𝓤) (run : Routine → Fun 𝓤)
+    (𝓣 : Tables 𝓤 H) → Triple 𝓤 (𝓣 .C #form-calls·take-flag) (Take 𝓤 H A at-mem run)
     → Triple 𝓤 (𝓣 .C #in-place·answer-of) (Part 𝓤 H A at-mem run) → Meets 𝓤 H A in-place.signature (WpFn 𝓤 H (𝓣 .C) (𝓣 .Λ) code.function) (in-place.spec 𝓤 H A at-mem run)
-in-place-meets 𝓤 H A W at-mem run 𝓣 known known-part = walk-meets 𝓤 H A in-place.ended stayed W (goes 𝓤 H A W at-mem run) (in-place.clauses 𝓤 H A at-mem run) (WpFn 𝓤 H (𝓣 .C) (𝓣 .Λ) code.function) (WpFn-mono 𝓤 H (W .laws) 𝓣 code.function)
+in-place-meets 𝓤 H A W at-mem run 𝓣 known known-part = walk-meets 𝓤 H A in-place.ended stayed W (goes 𝓤 H A W at-mem run)
+    (in-place.clauses 𝓤 H A at-mem run) (WpFn 𝓤 H (𝓣 .C) (𝓣 .Λ) code.function) (WpFn-mono 𝓤 H (W .laws) 𝓣 code.function)
     (in-place-walks 𝓤 H A W at-mem run (𝓣 .C) (𝓣 .Λ) (fmOf 𝓤 H (W .laws) 𝓣) known known-part)
 
 pub take-flag-spec : {M : Type 1} → stated.statement M

@@ -21,16 +21,24 @@ fill-requires c κs = search needs
 
 run-admitted-requires : tie.Need-run-admitted-requires
 run-admitted-requires c κs =
-    let c5 = c .before .before .before .before .before in
-    call-cleared _ _ _ _ _ _ _ (c5 .before .before .admit .ensures) (c5 .if1 .left) _ (c .before .before .before .fill .ensures)
+    let by-fill = c .before .before .before in
+    let fill = by-fill .fill in
+    let before = by-fill .before .before in
+    let c5 = before in
+    call-cleared _ _ _ _ _ _ _ (c5 .before .before .admit .ensures) (c5 .if1 .left) _ (fill .ensures)
 
 same-length-2 : tie.Need-same-length-2
 same-length-2 c = search needs
 
 returns-2 : tie.Need-returns-2
 returns-2 c =
-    let c8 = c .before .before .before .before .before .before .before .before in
-    call-runs _ _ _ _ _ _ _ (c8 .before .before .admit .ensures) (c8 .if1 .left) _ (c .before .before .before .before .before .before .fill .ensures) _ _ (c .before .before .run-admitted .ensures)
+    let by-run-admitted = c .before .before in
+    let run-admitted = by-run-admitted .run-admitted in
+    let by-fill = by-run-admitted .before .before .before .before in
+    let fill = by-fill .fill in
+    let before = by-fill .before .before in
+    let c8 = before in
+    call-runs _ _ _ _ _ _ _ (c8 .before .before .admit .ensures) (c8 .if1 .left) _ (fill .ensures) _ _ (run-admitted .ensures)
 
 pub eval-spec : {M : Type 1} → statement M
 eval-spec =

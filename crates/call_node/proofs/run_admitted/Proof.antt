@@ -34,9 +34,12 @@ marks-long k c = search (needs, c .good)
 
 returns : tie.Need-returns
 returns c =
-    let c5 = c .before .before .before .before .before in
+    let by-run-value = c .before .before .before in
+    let run-value = by-run-value .run-value in
+    let before = by-run-value .before .before in
+    let c5 = before in
     let c15 = c5 .before .before .before .before .before .before .before .before .before .before in
-    node-runs _ _ _ _ _ _ (c15 .pre) _ (c5 .numbers .ensures) _ _ _ _ (marks-long _ c15) (c .before .before .before .run-value .ensures) (c .answered .ensures)
+    node-runs _ _ _ _ _ _ (c15 .pre) _ (c5 .numbers .ensures) _ _ _ _ (marks-long _ c15) (run-value .ensures) (c .answered .ensures)
 
 pub run-admitted-spec : {M : Type 1} → statement M
 run-admitted-spec =

@@ -28,7 +28,11 @@ same-length-2 : tie.Need-same-length-2
 same-length-2 c = search needs
 
 returns-2 : tie.Need-returns-2
-returns-2 c = λ t h. field-written _ _ _ t _ _ _ _ _ _ _ _ _ (c .before .before .before .before .before .run-node .ensures t h) (c .before .before .before .put .ensures) (c .wrote .ensures)
+returns-2 c =
+    let by-put = c .before .before .before in
+    let put = by-put .put in
+    let run-node = by-put .before .before .run-node in
+    λ t h. field-written _ _ _ t _ _ _ _ _ _ _ _ _ (run-node .ensures t h) (put .ensures) (c .wrote .ensures)
 
 pub run-value-spec : {M : Type 1} → statement M
 run-value-spec =

@@ -13,7 +13,11 @@ area-start-requires : tie.Need-area-start-requires
 area-start-requires c κs = (inl refl, start-small _ (c .before .before .before .pre) _ (c .count .ensures))
 
 sub-area : tie.Need-sub-area
-sub-area c = start-within _ (c .before .before .before .before .pre) _ (c .before .count .ensures) _ (c .area-start .ensures)
+sub-area c =
+    let by-count = c .before in
+    let count = by-count .count in
+    let pre = by-count .before .before .before .pre in
+    start-within _ pre _ (count .ensures) _ (c .area-start .ensures)
 
 trimmed-count-requires : tie.Need-trimmed-count-requires
 trimmed-count-requires c κs = search needs
@@ -25,10 +29,22 @@ records-good-requires : tie.Need-records-good-requires
 records-good-requires c κs = search needs
 
 returns : tie.Need-returns
-returns c = checks _ _ _ (c .before .before .before .trimmed-count .ensures) _ (c .before .before .tail-good .ensures) (c .before .if1 .taken) _
+returns c =
+    let by-if1 = c .before in
+    let if1 = by-if1 .if1 in
+    let by-tail-good = by-if1 .before in
+    let tail-good = by-tail-good .tail-good in
+    let by-trimmed-count = by-tail-good .before in
+    let trimmed-count = by-trimmed-count .trimmed-count in
+    let by-area-start = by-trimmed-count .before in
+    let area-start = by-area-start .area-start in
+    let by-count = by-area-start .before in
+    let count = by-count .count in
+    let pre = by-count .before .before .before .pre in
+    checks _ _ _ (trimmed-count .ensures) _ (tail-good .ensures) (if1 .taken) _
     (c .records-good .ensures _
-    (area-length _ (c .before .before .before .before .before .before .before .before .pre) _ (c .before .before .before .before .before .count .ensures)
-    _ (c .before .before .before .before .area-start .ensures)))
+    (area-length _ pre _ (count .ensures)
+    _ (area-start .ensures)))
 
 returns-2 : tie.Need-returns-2
 returns-2 c = checks-tail _ _ _ (c .before .before .trimmed-count .ensures) _ (c .before .tail-good .ensures) (c .if1 .left)

@@ -13,10 +13,22 @@ good-requires : tie.Need-good-requires
 good-requires c κs = tt
 
 returns-2 : tie.Need-returns-2
-returns-2 c = state-bad _ _ _ _ (c .before .before .before .before .given .ensures) (c .before .before .if1 .left) _ (c .before .good2 .ensures) (c .if2 .taken)
+returns-2 c =
+    let by-good2 = c .before in
+    let good2 = by-good2 .good2 in
+    let by-if1 = by-good2 .before in
+    let if1 = by-if1 .if1 in
+    let given = by-if1 .before .before .given in
+    state-bad _ _ _ _ (given .ensures) (if1 .left) _ (good2 .ensures) (c .if2 .taken)
 
 returns-3 : tie.Need-returns-3
-returns-3 c = state-good _ _ _ _ (c .before .before .before .before .given .ensures) (c .before .before .if1 .left) _ (c .before .good2 .ensures) (c .if2 .left)
+returns-3 c =
+    let by-good2 = c .before in
+    let good2 = by-good2 .good2 in
+    let by-if1 = by-good2 .before in
+    let if1 = by-if1 .if1 in
+    let given = by-if1 .before .before .given in
+    state-good _ _ _ _ (given .ensures) (if1 .left) _ (good2 .ensures) (c .if2 .left)
 
 pub given-state-spec : {M : Type 1} → statement M
 given-state-spec = tie.close (tie.spec given-requires returns good-requires returns-2 returns-3)

@@ -24,10 +24,23 @@ words-at-requires : tie.Need-words-at-requires Inv-loop μ-loop
 words-at-requires c κs = search needs
 
 record-good-requires : tie.Need-record-good-requires Inv-loop μ-loop
-record-good-requires c κs = ap length (c .words-at .ensures) ∙ record-long (c .before .before .before .before .args .items .now) (c .before .before .loop .i) (omega arith)
+record-good-requires c κs =
+    let by-loop = c .before .before in
+    let loop = by-loop .loop in
+    let args = by-loop .before .before .args in
+    ap length (c .words-at .ensures) ∙ record-long (args .items .now) (loop .i) (omega arith)
 
 returns : tie.Need-returns Inv-loop μ-loop
-returns c = itemizing-bad _ _ _ _ (c .before .before .before .before .loop .inv) (c .before .before .before .loop-test .taken) _ (λ bytes e. c .before .record-good .ensures bytes e ∙ ap (λ (r : List ℕ). isSome (itemFrom bytes r)) (c .before .before .words-at .ensures)) (c .if1 .taken)
+returns c =
+    let by-record-good = c .before in
+    let record-good = by-record-good .record-good in
+    let by-words-at = by-record-good .before in
+    let words-at = by-words-at .words-at in
+    let by-loop-test = by-words-at .before in
+    let loop-test = by-loop-test .loop-test in
+    let loop = by-loop-test .before .loop in
+    itemizing-bad _ _ _ _ (loop .inv) (loop-test .taken) _
+    (λ bytes e. record-good .ensures bytes e ∙ ap (λ (r : List ℕ). isSome (itemFrom bytes r)) (words-at .ensures)) (c .if1 .taken)
 
 add-i : tie.Need-add-i Inv-loop μ-loop
 add-i c = search needs
@@ -36,7 +49,16 @@ loop-less : tie.Need-loop-less Inv-loop μ-loop
 loop-less c = search needs
 
 loop-again : tie.Need-loop-again Inv-loop μ-loop
-loop-again c = itemizing-next _ _ _ _ (c .before .before .before .before .loop .inv) (c .before .before .before .loop-test .taken) _ (λ bytes e. c .before .record-good .ensures bytes e ∙ ap (λ (r : List ℕ). isSome (itemFrom bytes r)) (c .before .before .words-at .ensures)) (c .if1 .left)
+loop-again c =
+    let by-record-good = c .before in
+    let record-good = by-record-good .record-good in
+    let by-words-at = by-record-good .before in
+    let words-at = by-words-at .words-at in
+    let by-loop-test = by-words-at .before in
+    let loop-test = by-loop-test .loop-test in
+    let loop = by-loop-test .before .loop in
+    itemizing-next _ _ _ _ (loop .inv) (loop-test .taken) _
+    (λ bytes e. record-good .ensures bytes e ∙ ap (λ (r : List ℕ). isSome (itemFrom bytes r)) (words-at .ensures)) (c .if1 .left)
 
 returns-2 : tie.Need-returns-2 Inv-loop μ-loop
 returns-2 c = itemizing-last _ _ _ _ (c .before .loop .inv) (c .loop-test .left)

@@ -25,7 +25,13 @@ all-zero-requires : tie.Need-all-zero-requires
 all-zero-requires c κs = search needs
 
 returns-2 : tie.Need-returns-2
-returns-2 c = within _ _ _ (c .before .before .if1 .left) (c .all-zero .ensures ∙ ap zeros (words-name (c .before .before .before .before .before .args .r .now) (c .before .before .before .before .before .pre)))
+returns-2 c =
+    let by-if1 = c .before .before in
+    let if1 = by-if1 .if1 in
+    let by-args = by-if1 .before .before .before in
+    let args = by-args .args in
+    let pre = by-args .pre in
+    within _ _ _ (if1 .left) (c .all-zero .ensures ∙ ap zeros (words-name (args .r .now) pre))
 
 pub short-good-spec : {M : Type 1} → statement M
 short-good-spec =

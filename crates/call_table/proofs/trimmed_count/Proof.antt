@@ -21,13 +21,25 @@ sub-words-at : tie.Need-sub-words-at Inv-loop μ-loop
 sub-words-at c = search needs
 
 words-at-requires : tie.Need-words-at-requires Inv-loop μ-loop
-words-at-requires c κs = omega (arith, c .before .loop .inv .within, div-fact (length (c .before .before .before .args .items .now)) 6)
+words-at-requires c κs =
+    let by-loop = c .before in
+    let loop = by-loop .loop in
+    let args = by-loop .before .before .args in
+    omega (arith, loop .inv .within, div-fact (length (args .items .now)) 6)
 
 all-zero-requires : tie.Need-all-zero-requires Inv-loop μ-loop
 all-zero-requires c κs = search needs
 
 returns : tie.Need-returns Inv-loop μ-loop
-returns c = trimming-last _ _ (c .before .before .before .before .loop .inv) (c .before .before .before .loop-test .taken) _ (c .before .all-zero .ensures ∙ ap zeros (c .before .before .words-at .ensures)) (c .if1 .taken)
+returns c =
+    let by-all-zero = c .before in
+    let all-zero = by-all-zero .all-zero in
+    let by-words-at = by-all-zero .before in
+    let words-at = by-words-at .words-at in
+    let by-loop-test = by-words-at .before in
+    let loop-test = by-loop-test .loop-test in
+    let loop = by-loop-test .before .loop in
+    trimming-last _ _ (loop .inv) (loop-test .taken) _ (all-zero .ensures ∙ ap zeros (words-at .ensures)) (c .if1 .taken)
 
 sub-n : tie.Need-sub-n Inv-loop μ-loop
 sub-n c = search needs
@@ -36,7 +48,15 @@ loop-less : tie.Need-loop-less Inv-loop μ-loop
 loop-less c = search needs
 
 loop-again : tie.Need-loop-again Inv-loop μ-loop
-loop-again c = trimming-next _ _ (c .before .before .before .before .loop .inv) (c .before .before .before .loop-test .taken) _ (c .before .all-zero .ensures ∙ ap zeros (c .before .before .words-at .ensures)) (c .if1 .left)
+loop-again c =
+    let by-all-zero = c .before in
+    let all-zero = by-all-zero .all-zero in
+    let by-words-at = by-all-zero .before in
+    let words-at = by-words-at .words-at in
+    let by-loop-test = by-words-at .before in
+    let loop-test = by-loop-test .loop-test in
+    let loop = by-loop-test .before .loop in
+    trimming-next _ _ (loop .inv) (loop-test .taken) _ (all-zero .ensures ∙ ap zeros (words-at .ensures)) (c .if1 .left)
 
 returns-2 : tie.Need-returns-2 Inv-loop μ-loop
 returns-2 c = trimming-none _ _ (c .before .loop .inv) (c .loop-test .left)

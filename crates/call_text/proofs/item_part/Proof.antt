@@ -30,10 +30,22 @@ wide-requires : tie.Need-wide-requires
 wide-requires c κs = search needs
 
 add-offset : tie.Need-add-offset
-add-offset c = record { fits = omega (arith, item-small _ _ _ (c .before .before .before .before .before .before .pre) _ (c .before .before .before .count .ensures) _ (c .before .before .area-start .ensures) _ _ (c .wide .ensures) refl) }
+add-offset c =
+    let by-area-start = c .before .before in
+    let area-start = by-area-start .area-start in
+    let by-count = by-area-start .before in
+    let count = by-count .count in
+    let pre = by-count .before .before .before .pre in
+    record { fits = omega (arith, item-small _ _ _ pre _ (count .ensures) _ (area-start .ensures) _ _ (c .wide .ensures) refl) }
 
 cast-t11 : tie.Need-cast-t11
-cast-t11 c = record { fits = omega (arith, item-small _ _ _ (c .before .before .before .before .before .before .pre) _ (c .before .before .before .count .ensures) _ (c .before .before .area-start .ensures) _ _ (c .wide .ensures) refl) }
+cast-t11 c =
+    let by-area-start = c .before .before in
+    let area-start = by-area-start .area-start in
+    let by-count = by-area-start .before in
+    let count = by-count .count in
+    let pre = by-count .before .before .before .pre in
+    record { fits = omega (arith, item-small _ _ _ pre _ (count .ensures) _ (area-start .ensures) _ _ (c .wide .ensures) refl) }
 
 add-t7 : tie.Need-add-t7
 add-t7 c = search needs
@@ -45,7 +57,15 @@ shared-slice-read-t13 : tie.Need-shared-slice-read-t13
 shared-slice-read-t13 c = search needs
 
 returns : tie.Need-returns
-returns c = item-finds _ _ _ (c .before .before .before .before .before .before .before .pre) _ (c .before .before .before .before .count .ensures) _ (c .before .before .before .area-start .ensures) _ _ (c .before .wide .ensures) refl
+returns c =
+    let by-wide = c .before in
+    let wide = by-wide .wide in
+    let by-area-start = by-wide .before .before in
+    let area-start = by-area-start .area-start in
+    let by-count = by-area-start .before in
+    let count = by-count .count in
+    let pre = by-count .before .before .before .pre in
+    item-finds _ _ _ pre _ (count .ensures) _ (area-start .ensures) _ _ (wide .ensures) refl
 
 pub item-part-spec : {M : Type 1} → statement M
 item-part-spec =

@@ -19,13 +19,31 @@ area-at-requires : tie.Need-area-at-requires
 area-at-requires c κs = search (length-counts, needs)
 
 add-offset : tie.Need-add-offset
-add-offset c = record { fits = omega (arith, record-small _ _ (c .before .before .before .before .before .before .pre) _ (c .before .before .before .before .name-at .ensures) _ (c .before .area-at .ensures)) }
+add-offset c =
+    let by-area-at = c .before in
+    let area-at = by-area-at .area-at in
+    let by-name-at = by-area-at .before .before .before in
+    let name-at = by-name-at .name-at in
+    let pre = by-name-at .before .before .pre in
+    record { fits = omega (arith, record-small _ _ pre _ (name-at .ensures) _ (area-at .ensures)) }
 
 cast-t7 : tie.Need-cast-t7
-cast-t7 c = record { fits = omega (arith, record-small _ _ (c .before .before .before .before .before .before .pre) _ (c .before .before .before .before .name-at .ensures) _ (c .before .area-at .ensures)) }
+cast-t7 c =
+    let by-area-at = c .before in
+    let area-at = by-area-at .area-at in
+    let by-name-at = by-area-at .before .before .before in
+    let name-at = by-name-at .name-at in
+    let pre = by-name-at .before .before .pre in
+    record { fits = omega (arith, record-small _ _ pre _ (name-at .ensures) _ (area-at .ensures)) }
 
 cast-t8 : tie.Need-cast-t8
-cast-t8 c = record { fits = omega (arith, record-small _ _ (c .before .before .before .before .before .before .before .pre) _ (c .before .before .before .before .before .name-at .ensures) _ (c .before .before .area-at .ensures)) }
+cast-t8 c =
+    let by-area-at = c .before .before in
+    let area-at = by-area-at .area-at in
+    let by-name-at = by-area-at .before .before .before in
+    let name-at = by-name-at .name-at in
+    let pre = by-name-at .before .before .pre in
+    record { fits = omega (arith, record-small _ _ pre _ (name-at .ensures) _ (area-at .ensures)) }
 
 returns-2 : tie.Need-returns-2
 returns-2 c = search text-type

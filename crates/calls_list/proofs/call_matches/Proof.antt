@@ -56,7 +56,29 @@ after-states-requires : tie.Need-after-states-requires
 after-states-requires c κs = search needs
 
 returns : tie.Need-returns
-returns c = λ t. call-told _ _ _ _ _ (c .before .before .before .before .before .before .before .before .before .before .before .before .before .before .before .before .before .call-at .result) _ (c .before .before .before .before .before .before .before .before .before .before .before .before .before .before .before .before .layout-of .ensures) _ _ _ _ _ (c .before .before .before .before .before .before .before .before .before .before .size .ensures) (c .before .before .before .before .before .before .before .before .before .size2 .ensures) _ (c .before .before .before .before .before .before .before .before .call-answer .ensures) _ (c .before .before .before .before .before .before .after-name .ensures) _ (c .before .before .before .before .before .after-arguments .ensures) _ (c .before .before .before .after-text .ensures) _ (c .before .before .without-state .ensures) _ (c .before .after-answer .ensures) _ (c .after-states .ensures) t
+returns c =
+    let by-after-answer = c .before in
+    let after-answer = by-after-answer .after-answer in
+    let by-without-state = by-after-answer .before in
+    let without-state = by-without-state .without-state in
+    let by-after-text = by-without-state .before in
+    let after-text = by-after-text .after-text in
+    let by-after-arguments = by-after-text .before .before in
+    let after-arguments = by-after-arguments .after-arguments in
+    let by-after-name = by-after-arguments .before in
+    let after-name = by-after-name .after-name in
+    let by-call-answer = by-after-name .before .before in
+    let call-answer = by-call-answer .call-answer in
+    let by-size2 = by-call-answer .before in
+    let size2 = by-size2 .size2 in
+    let by-size = by-size2 .before in
+    let size = by-size .size in
+    let by-layout-of = by-size .before .before .before .before .before .before in
+    let layout-of = by-layout-of .layout-of in
+    let call-at = by-layout-of .before .call-at in
+    λ t. call-told _ _ _ _ _ (call-at .result) _ (layout-of .ensures) _ _ _ _ _ (size .ensures) (size2 .ensures) _ (call-answer .ensures) _
+    (after-name .ensures) _ (after-arguments .ensures) _ (after-text .ensures) _ (without-state .ensures) _ (after-answer .ensures) _
+    (c .after-states .ensures) t
 
 pub call-matches-spec : {M : Type 1} → statement M
 call-matches-spec =

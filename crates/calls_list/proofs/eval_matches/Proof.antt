@@ -68,7 +68,33 @@ after-states-requires : tie.Need-after-states-requires
 after-states-requires c κs = search needs
 
 returns : tie.Need-returns
-returns c = λ t. eval-told _ _ _ _ _ _ (c .before .before .before .before .before .before .before .before .before .before .before .before .before .before .before .before .before .before .before .before .before .before .answer-slice .ensures) _ _ (c .before .before .before .before .before .before .before .before .before .before .before .before .before .before .before .before .before .before .size .ensures) _ _ (c .before .before .before .before .before .before .before .before .before .before .before .before .before .before .before .before .before .eval .ensures) _ (c .before .before .before .before .before .before .before .before .before .before .before .before .before .after-text .ensures) _ (c .before .before .before .before .before .before .before .before .before .before .before .before .after-word .ensures) _ (c .before .before .before .before .before .before .before .before .before .before .after-text2 .ensures) _ (c .before .before .before .before .before .before .before .before .before .after-refusal .ensures) _ (c .before .before .before .before .before .before .before .after-text3 .ensures) _ (c .before .before .before .before .before .before .after-word2 .ensures) _ (c .before .before .before .before .after-text4 .ensures) _ (c .before .before .size2 .ensures) _ (c .before .after-words .ensures) _ (c .after-states .ensures) t
+returns c =
+    let by-after-words = c .before in
+    let after-words = by-after-words .after-words in
+    let by-size2 = by-after-words .before in
+    let size2 = by-size2 .size2 in
+    let by-after-text4 = by-size2 .before .before in
+    let after-text4 = by-after-text4 .after-text4 in
+    let by-after-word2 = by-after-text4 .before .before in
+    let after-word2 = by-after-word2 .after-word2 in
+    let by-after-text3 = by-after-word2 .before in
+    let after-text3 = by-after-text3 .after-text3 in
+    let by-after-refusal = by-after-text3 .before .before in
+    let after-refusal = by-after-refusal .after-refusal in
+    let by-after-text2 = by-after-refusal .before in
+    let after-text2 = by-after-text2 .after-text2 in
+    let by-after-word = by-after-text2 .before .before in
+    let after-word = by-after-word .after-word in
+    let by-after-text = by-after-word .before in
+    let after-text = by-after-text .after-text in
+    let by-eval = by-after-text .before .before .before .before in
+    let eval = by-eval .eval in
+    let by-size = by-eval .before in
+    let size = by-size .size in
+    let answer-slice = by-size .before .before .before .before .answer-slice in
+    λ t. eval-told _ _ _ _ _ _ (answer-slice .ensures) _ _ (size .ensures) _ _ (eval .ensures) _ (after-text .ensures) _ (after-word .ensures) _
+    (after-text2 .ensures) _ (after-refusal .ensures) _ (after-text3 .ensures) _ (after-word2 .ensures) _ (after-text4 .ensures) _
+    (size2 .ensures) _ (after-words .ensures) _ (c .after-states .ensures) t
 
 pub eval-matches-spec : {M : Type 1} → statement M
 eval-matches-spec =

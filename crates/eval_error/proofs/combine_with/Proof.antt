@@ -14,9 +14,12 @@ returns c = combine-missing _ _ (c .before .before .if2 .taken) (c .if3 .taken)
 
 returns-2 : tie.Need-returns-2
 returns-2 c =
+    let by-if1 = c .before .before in
+    let if1 = by-if1 .if1 in
+    let can-catch = by-if1 .before .can-catch in
     ⊎-elim
     (λ w. combine-second _ _ (w .0 .taken) (w .2 .left))
-    (λ w. combine-caught _ _ (w .left) (sym (c .before .before .before .can-catch .ensures) ∙ c .before .before .if1 .taken))
+    (λ w. combine-caught _ _ (w .left) (sym (can-catch .ensures) ∙ if1 .taken))
     (c .if2 .came)
 
 returns-3 : tie.Need-returns-3

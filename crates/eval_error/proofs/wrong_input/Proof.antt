@@ -23,14 +23,15 @@ returns c =
 
 returns-2 : tie.Need-returns-2
 returns-2 c =
+    let match = c .before .before .match in
     sym
     (not-wrong
     _
-    (λ e. c .before .before .match .rest .1 (inl (sym e)))
+    (λ e. match .rest .1 (inl (sym e)))
     (λ e. omega arith)
     (λ e. omega arith)
     (λ e. omega arith)
-    (λ e. c .before .before .match .rest .1 (inr (sym e))))
+    (λ e. match .rest .1 (inr (sym e))))
 
 returns-3 : tie.Need-returns-3
 unfolding wrongInput contains

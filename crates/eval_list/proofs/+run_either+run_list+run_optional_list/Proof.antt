@@ -11,10 +11,19 @@ mod Common
 mod RunEither
 mod RunList
 mod RunOptionalList
-use Rattle.eval_list.proofs.+run_either+run_list+run_optional_list.Proof.Common.{μ-run-either, μ-run-list, μ-run-optional-list, run-either-at, run-list-at, run-optional-list-at, run-either-calls, run-list-calls, run-optional-list-calls}
-use Rattle.eval_list.proofs.+run_either+run_list+run_optional_list.Proof.RunEither.{run-either-run-list-requires, run-either-wide-requires, run-either-set-aside-requires, run-either-run-list-requires-2, run-either-choose-requires, run-either-slice-aggregate-settle, run-either-wide-requires-2, run-either-settle-requires, run-either-same-length, run-either-returns}
-use Rattle.eval_list.proofs.+run_either+run_list+run_optional_list.Proof.RunList.{run-list-node-at-requires, run-list-run-optional-list-requires, run-list-run-many-requires, run-list-run-some-requires, run-list-run-either-requires, run-list-same-length, run-list-returns, run-list-same-length-2, run-list-returns-2, run-list-same-length-3, run-list-returns-3, run-list-same-length-4, run-list-returns-4}
-use Rattle.eval_list.proofs.+run_either+run_list+run_optional_list.Proof.RunOptionalList.{run-optional-list-run-list-requires, run-optional-list-optional-requires, run-optional-list-wide-requires, run-optional-list-shift-requires, run-optional-list-same-length, run-optional-list-returns}
+use Rattle.eval_list.proofs.+run_either+run_list+run_optional_list.Proof.Common.{μ-run-either, μ-run-list, μ-run-optional-list, run-either-at, run-list-at, run-optional-list-at}
+use Rattle.eval_list.proofs.+run_either+run_list+run_optional_list.Proof.Common.{run-either-calls, run-list-calls, run-optional-list-calls}
+use Rattle.eval_list.proofs.+run_either+run_list+run_optional_list.Proof.RunEither.{run-either-run-list-requires, run-either-wide-requires, run-either-set-aside-requires}
+use Rattle.eval_list.proofs.+run_either+run_list+run_optional_list.Proof.RunEither.{run-either-run-list-requires-2, run-either-choose-requires, run-either-slice-aggregate-settle}
+use Rattle.eval_list.proofs.+run_either+run_list+run_optional_list.Proof.RunEither.{run-either-wide-requires-2, run-either-settle-requires, run-either-same-length}
+use Rattle.eval_list.proofs.+run_either+run_list+run_optional_list.Proof.RunEither.{run-either-returns}
+use Rattle.eval_list.proofs.+run_either+run_list+run_optional_list.Proof.RunList.{run-list-node-at-requires, run-list-run-optional-list-requires, run-list-run-many-requires}
+use Rattle.eval_list.proofs.+run_either+run_list+run_optional_list.Proof.RunList.{run-list-run-some-requires, run-list-run-either-requires, run-list-same-length, run-list-returns}
+use Rattle.eval_list.proofs.+run_either+run_list+run_optional_list.Proof.RunList.{run-list-same-length-2, run-list-returns-2, run-list-same-length-3, run-list-returns-3}
+use Rattle.eval_list.proofs.+run_either+run_list+run_optional_list.Proof.RunList.{run-list-same-length-4, run-list-returns-4}
+use Rattle.eval_list.proofs.+run_either+run_list+run_optional_list.Proof.RunOptionalList.{run-optional-list-run-list-requires, run-optional-list-optional-requires}
+use Rattle.eval_list.proofs.+run_either+run_list+run_optional_list.Proof.RunOptionalList.{run-optional-list-wide-requires, run-optional-list-shift-requires}
+use Rattle.eval_list.proofs.+run_either+run_list+run_optional_list.Proof.RunOptionalList.{run-optional-list-same-length, run-optional-list-returns}
 
 pub +run-either+run-list+run-optional-list-spec : {M : Type 1} → statement M
 +run-either+run-list+run-optional-list-spec =

@@ -29,7 +29,15 @@ copy-requires : tie.Need-copy-requires
 copy-requires c κs = search needs
 
 returns : tie.Need-returns
-returns c = lifted (c .before .before .before .before .before .before .args .out .now) (c .before .before .before .before .blank .result) (c .before .before .before .before .before .before .args .at) (c .before .before .before .before .before .before .args .n) _ (c .before .before .before .before .before .before .pre .0) (c .before .before .before .before .before .before .pre .1) (c .before .before .before .before .blank .ensures) (c .before .copy .ensures)
+returns c =
+    let by-copy = c .before in
+    let copy = by-copy .copy in
+    let by-blank = by-copy .before .before .before in
+    let blank = by-blank .blank in
+    let by-args = by-blank .before .before in
+    let args = by-args .args in
+    let pre = by-args .pre in
+    lifted (args .out .now) (blank .result) (args .at) (args .n) _ (pre .0) (pre .1) (blank .ensures) (copy .ensures)
 
 pub lift-spec : {M : Type 1} → statement M
 lift-spec =

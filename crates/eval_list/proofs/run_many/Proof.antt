@@ -6,7 +6,9 @@ use Rattle.eval_list.proofs.run_many.Statement.{statement}
 use Rattle.eval_list.proofs.run_many.Tie as tie
 
 run-repeat-requires : tie.Need-run-repeat-requires
-run-repeat-requires c κs = asks (sound-many _) (c .before .before .before .before .before .before .before .pre)
+run-repeat-requires c κs =
+    let pre = c .before .before .before .before .before .before .before .pre in
+    asks (sound-many _) pre
 
 refused-requires : tie.Need-refused-requires
 refused-requires c κs = search needs
@@ -15,16 +17,34 @@ same-length : tie.Need-same-length
 same-length c = search needs
 
 returns : tie.Need-returns
-returns c = many-refuses (c .before .before .before .before .before .before .before .before .before .before .before .before .before .before .pre) (c .before .before .before .before .before .before .run-repeat .ensures) (c .before .before .if1 .taken) (c .refused .ensures)
+returns c =
+    let by-if1 = c .before .before in
+    let if1 = by-if1 .if1 in
+    let by-run-repeat = by-if1 .before .before .before .before in
+    let run-repeat = by-run-repeat .run-repeat in
+    let pre = by-run-repeat .before .before .before .before .before .before .before .before .pre in
+    many-refuses pre (run-repeat .ensures) (if1 .taken) (c .refused .ensures)
 
 counted-requires : tie.Need-counted-requires
-counted-requires c κs = counts (sound-many _) (c .before .before .before .before .before .before .before .before .before .before .before .before .before .pre) (c .before .before .before .before .before .run-repeat .ensures)
+counted-requires c κs =
+    let by-run-repeat = c .before .before .before .before .before in
+    let run-repeat = by-run-repeat .run-repeat in
+    let pre = by-run-repeat .before .before .before .before .before .before .before .before .pre in
+    counts (sound-many _) pre (run-repeat .ensures)
 
 same-length-2 : tie.Need-same-length-2
 same-length-2 c = search needs
 
 returns-2 : tie.Need-returns-2
-returns-2 c = many-ends (c .before .before .before .before .before .before .before .before .before .before .before .before .before .before .before .before .pre) (c .before .before .before .before .before .before .before .before .run-repeat .ensures) (c .before .before .before .before .if1 .left) (c .before .before .counted .ensures)
+returns-2 c =
+    let by-counted = c .before .before in
+    let counted = by-counted .counted in
+    let by-if1 = by-counted .before .before in
+    let if1 = by-if1 .if1 in
+    let by-run-repeat = by-if1 .before .before .before .before in
+    let run-repeat = by-run-repeat .run-repeat in
+    let pre = by-run-repeat .before .before .before .before .before .before .before .before .pre in
+    many-ends pre (run-repeat .ensures) (if1 .left) (counted .ensures)
 
 pub run-many-spec : {M : Type 1} → statement M
 run-many-spec =

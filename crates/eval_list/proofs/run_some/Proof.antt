@@ -6,7 +6,9 @@ use Rattle.eval_list.proofs.run_some.Statement.{statement}
 use Rattle.eval_list.proofs.run_some.Tie as tie
 
 run-repeat-requires : tie.Need-run-repeat-requires
-run-repeat-requires c κs = asks (sound-some _) (c .before .before .before .before .before .before .before .pre)
+run-repeat-requires c κs =
+    let pre = c .before .before .before .before .before .before .before .pre in
+    asks (sound-some _) pre
 
 refused-requires : tie.Need-refused-requires
 refused-requires c κs = search needs
@@ -15,7 +17,13 @@ same-length : tie.Need-same-length
 same-length c = search needs
 
 returns : tie.Need-returns
-returns c = some-refuses (c .before .before .before .before .before .before .before .before .before .before .before .before .before .before .pre) (c .before .before .before .before .before .before .run-repeat .ensures) (c .before .if1 .taken) (c .refused .ensures)
+returns c =
+    let by-if1 = c .before in
+    let if1 = by-if1 .if1 in
+    let by-run-repeat = by-if1 .before .before .before .before .before in
+    let run-repeat = by-run-repeat .run-repeat in
+    let pre = by-run-repeat .before .before .before .before .before .before .before .before .pre in
+    some-refuses pre (run-repeat .ensures) (if1 .taken) (c .refused .ensures)
 
 parse-some-requires : tie.Need-parse-some-requires
 parse-some-requires c κs = search needs
@@ -27,16 +35,42 @@ same-length-2 : tie.Need-same-length-2
 same-length-2 c = search needs
 
 returns-2 : tie.Need-returns-2
-returns-2 c = some-nothing (c .before .before .before .before .before .before .before .before .before .before .before .before .before .before .before .before .pre) (c .before .before .before .before .before .before .before .before .run-repeat .ensures) (c .before .before .before .if1 .left) (c .before .before .parse-some .ensures) (c .before .if2 .taken) (c .refused2 .ensures)
+returns-2 c =
+    let by-if2 = c .before in
+    let if2 = by-if2 .if2 in
+    let by-parse-some = by-if2 .before in
+    let parse-some = by-parse-some .parse-some in
+    let by-if1 = by-parse-some .before in
+    let if1 = by-if1 .if1 in
+    let by-run-repeat = by-if1 .before .before .before .before .before in
+    let run-repeat = by-run-repeat .run-repeat in
+    let pre = by-run-repeat .before .before .before .before .before .before .before .before .pre in
+    some-nothing pre (run-repeat .ensures) (if1 .left) (parse-some .ensures) (if2 .taken) (c .refused2 .ensures)
 
 counted-requires : tie.Need-counted-requires
-counted-requires c κs = counts (sound-some _) (c .before .before .before .before .before .before .before .before .before .before .before .before .before .before .before .before .pre) (c .before .before .before .before .before .before .before .before .run-repeat .ensures)
+counted-requires c κs =
+    let by-run-repeat = c .before .before .before .before .before .before .before .before in
+    let run-repeat = by-run-repeat .run-repeat in
+    let pre = by-run-repeat .before .before .before .before .before .before .before .before .pre in
+    counts (sound-some _) pre (run-repeat .ensures)
 
 same-length-3 : tie.Need-same-length-3
 same-length-3 c = search needs
 
 returns-3 : tie.Need-returns-3
-returns-3 c = some-ends (c .before .before .before .before .before .before .before .before .before .before .before .before .before .before .before .before .before .before .before .pre) (c .before .before .before .before .before .before .before .before .before .before .before .run-repeat .ensures) (c .before .before .before .before .before .before .if1 .left) (c .before .before .before .before .before .parse-some .ensures) (c .before .before .before .before .if2 .left) (c .before .before .counted .ensures)
+returns-3 c =
+    let by-counted = c .before .before in
+    let counted = by-counted .counted in
+    let by-if2 = by-counted .before .before in
+    let if2 = by-if2 .if2 in
+    let by-parse-some = by-if2 .before in
+    let parse-some = by-parse-some .parse-some in
+    let by-if1 = by-parse-some .before in
+    let if1 = by-if1 .if1 in
+    let by-run-repeat = by-if1 .before .before .before .before .before in
+    let run-repeat = by-run-repeat .run-repeat in
+    let pre = by-run-repeat .before .before .before .before .before .before .before .before .pre in
+    some-ends pre (run-repeat .ensures) (if1 .left) (parse-some .ensures) (if2 .left) (counted .ensures)
 
 pub run-some-spec : {M : Type 1} → statement M
 run-some-spec =

@@ -26,7 +26,11 @@ array-share-prefix-kept : tie.Need-array-share-prefix-kept
 array-share-prefix-kept c = search needs
 
 slice-aggregate-copy : tie.Need-slice-aggregate-copy
-slice-aggregate-copy c = let l : length (c .before .before .lift .result) ≡ 515 = search needs in sym (length-take-le _ _ (omega (arith, c .before .before .before .before .before .pre .0)))
+slice-aggregate-copy c =
+    let by-lift = c .before .before in
+    let lift = by-lift .lift in
+    let pre = by-lift .before .before .before .pre in
+    let l : length (lift .result) ≡ 515 = search needs in sym (length-take-le _ _ (omega (arith, pre .0)))
 
 copy-requires : tie.Need-copy-requires
 copy-requires c κs = search needs
@@ -35,7 +39,13 @@ same-length : tie.Need-same-length
 same-length c = ap length (c .before .before .copy .ensures) ∙ simp (length-sets, length-set)
 
 returns : tie.Need-returns
-returns c = shifted (c .before .before .before .before .before .before .before .before .args .out .now) (c .before .before .before .before .before .lift .result) (c .before .before .before .before .before .before .before .before .args .at) (c .before .before .before .before .before .before .before .before .args .n) _ (c .before .before .before .before .before .lift .ensures) (c .before .before .copy .ensures)
+returns c =
+    let by-copy = c .before .before in
+    let copy = by-copy .copy in
+    let by-lift = by-copy .before .before .before in
+    let lift = by-lift .lift in
+    let args = by-lift .before .before .before .args in
+    shifted (args .out .now) (lift .result) (args .at) (args .n) _ (lift .ensures) (copy .ensures)
 
 pub shift-spec : {M : Type 1} → statement M
 shift-spec =

@@ -38,19 +38,184 @@ mod RunNode
 mod RunOptional
 mod RunRepeat
 mod RunTurn
-use Rattle.eval_node.proofs.+choice_by_copy+fallback_by_copy+run_choice+run_count+run_fallback+run_guard+run_last+run_leaf+run_node+run_optional+run_repeat+run_turn.Proof.Common.{μ-choice-by-copy, μ-fallback-by-copy, μ-run-choice, μ-run-count, μ-run-fallback, μ-run-guard, μ-run-last, μ-run-leaf, μ-run-node, μ-run-optional, μ-run-repeat, μ-run-turn, choice-by-copy-at, fallback-by-copy-at, run-choice-at, run-count-at, run-fallback-at, run-guard-at, run-last-at, run-leaf-at, run-node-at, run-optional-at, run-repeat-at, run-turn-at, choice-by-copy-calls, fallback-by-copy-calls, run-choice-calls, run-count-calls, run-fallback-calls, run-guard-calls, run-last-calls, run-leaf-calls, run-node-calls, run-optional-calls, run-repeat-calls, run-turn-calls}
-use Rattle.eval_node.proofs.+choice_by_copy+fallback_by_copy+run_choice+run_count+run_fallback+run_guard+run_last+run_leaf+run_node+run_optional+run_repeat+run_turn.Proof.ChoiceByCopy.{choice-by-copy-run-node-requires, choice-by-copy-run-node-requires-2, choice-by-copy-choose-requires, choice-by-copy-returns}
-use Rattle.eval_node.proofs.+choice_by_copy+fallback_by_copy+run_choice+run_count+run_fallback+run_guard+run_last+run_leaf+run_node+run_optional+run_repeat+run_turn.Proof.FallbackByCopy.{fallback-by-copy-run-node-requires, fallback-by-copy-returns, fallback-by-copy-fallback-word-requires, fallback-by-copy-fallback-requires, fallback-by-copy-returns-2}
-use Rattle.eval_node.proofs.+choice_by_copy+fallback_by_copy+run_choice+run_count+run_fallback+run_guard+run_last+run_leaf+run_node+run_optional+run_repeat+run_turn.Proof.RunChoice.{run-choice-alone-requires, run-choice-run-node-requires, run-choice-first-alone-requires, run-choice-returns, run-choice-alone-requires-2, run-choice-run-node-requires-2, run-choice-second-alone-requires, run-choice-returns-2, run-choice-choice-by-copy-requires, run-choice-returns-3}
-use Rattle.eval_node.proofs.+choice_by_copy+fallback_by_copy+run_choice+run_count+run_fallback+run_guard+run_last+run_leaf+run_node+run_optional+run_repeat+run_turn.Proof.RunCount.{run-count-slice-aggregate-run-repeat, run-count-run-repeat-requires, run-count-refused-list-requires, run-count-returns, run-count-counted-requires, run-count-returns-2}
-use Rattle.eval_node.proofs.+choice_by_copy+fallback_by_copy+run_choice+run_count+run_fallback+run_guard+run_last+run_leaf+run_node+run_optional+run_repeat+run_turn.Proof.RunFallback.{run-fallback-stays-requires, run-fallback-run-node-requires, run-fallback-returns, run-fallback-fallback-word-requires, run-fallback-fallback-unchanged-requires, run-fallback-returns-2, run-fallback-fallback-by-copy-requires, run-fallback-returns-3}
-use Rattle.eval_node.proofs.+choice_by_copy+fallback_by_copy+run_choice+run_count+run_fallback+run_guard+run_last+run_leaf+run_node+run_optional+run_repeat+run_turn.Proof.RunGuard.{run-guard-run-node-requires, run-guard-guard-requires, run-guard-returns}
-use Rattle.eval_node.proofs.+choice_by_copy+fallback_by_copy+run_choice+run_count+run_fallback+run_guard+run_last+run_leaf+run_node+run_optional+run_repeat+run_turn.Proof.RunLast.{run-last-slice-aggregate-run-repeat, run-last-run-repeat-requires, run-last-refused-list-requires, run-last-returns, run-last-last-value-requires, run-last-returns-2, run-last-run-node-requires, run-last-more-tries-requires, run-last-returns-3}
-use Rattle.eval_node.proofs.+choice_by_copy+fallback_by_copy+run_choice+run_count+run_fallback+run_guard+run_last+run_leaf+run_node+run_optional+run_repeat+run_turn.Proof.RunLeaf.{run-leaf-node-at-requires, run-leaf-eval-flag-from-requires, run-leaf-eval-argument-from-requires, run-leaf-eval-positional-from-requires, run-leaf-run-node-requires, run-leaf-returns, run-leaf-returns-2, run-leaf-returns-3, run-leaf-returns-4}
-use Rattle.eval_node.proofs.+choice_by_copy+fallback_by_copy+run_choice+run_count+run_fallback+run_guard+run_last+run_leaf+run_node+run_optional+run_repeat+run_turn.Proof.RunNode.{run-node-node-at-requires, run-node-eval-flag-requires, run-node-eval-argument-requires, run-node-eval-positional-requires, run-node-run-optional-requires, run-node-run-count-requires, run-node-run-last-requires, run-node-run-choice-requires, run-node-run-fallback-requires, run-node-run-guard-requires, run-node-returns, run-node-returns-2, run-node-returns-3, run-node-returns-4, run-node-returns-5, run-node-returns-6, run-node-returns-7, run-node-returns-8, run-node-returns-9}
-use Rattle.eval_node.proofs.+choice_by_copy+fallback_by_copy+run_choice+run_count+run_fallback+run_guard+run_last+run_leaf+run_node+run_optional+run_repeat+run_turn.Proof.RunOptional.{run-optional-keeps-marks-requires, run-optional-run-node-requires, run-optional-optional-requires, run-optional-returns, run-optional-run-node-requires-2, run-optional-optional-unchanged-requires, run-optional-returns-2}
-use Rattle.eval_node.proofs.+choice_by_copy+fallback_by_copy+run_choice+run_count+run_fallback+run_guard+run_last+run_leaf+run_node+run_optional+run_repeat+run_turn.Proof.RunRepeat.{run-repeat-Inv-loop, run-repeat-μ-loop, run-repeat-leaf-below-requires, run-repeat-keeps-marks-requires, run-repeat-wide-requires, run-repeat-nothing-requires, run-repeat-loop-holds, run-repeat-run-turn-requires, run-repeat-parse-option-requires, run-repeat-enum-told, run-repeat-write-value-requires, run-repeat-one-more-requires, run-repeat-idle-requires, run-repeat-same-length, run-repeat-returns, run-repeat-copy-if-requires, run-repeat-next-from-requires, run-repeat-loop-less, run-repeat-loop-again, run-repeat-enum-told-2, run-repeat-ended-requires, run-repeat-same-length-2, run-repeat-returns-2, run-repeat-enum-told-3, run-repeat-copy-if-requires-2, run-repeat-ended-requires-2, run-repeat-same-length-3, run-repeat-returns-3, run-repeat-enum-told-4, run-repeat-unwrite-requires, run-repeat-passed-on-requires, run-repeat-same-length-4, run-repeat-returns-4}
-use Rattle.eval_node.proofs.+choice_by_copy+fallback_by_copy+run_choice+run_count+run_fallback+run_guard+run_last+run_leaf+run_node+run_optional+run_repeat+run_turn.Proof.RunTurn.{run-turn-run-leaf-requires, run-turn-wrap-requires, run-turn-returns}
+use Rattle.eval_node.proofs.+choice_by_copy+fallback_by_copy+run_choice+run_count+run_fallback+run_guard+run_last+run_leaf+run_node+run_optional+run_repeat+run_turn.Proof.Common.{
+  μ-choice-by-copy,
+  μ-fallback-by-copy,
+  μ-run-choice,
+  μ-run-count,
+  μ-run-fallback,
+  μ-run-guard,
+  μ-run-last,
+  μ-run-leaf,
+  μ-run-node,
+  μ-run-optional,
+  μ-run-repeat,
+  μ-run-turn,
+  choice-by-copy-at,
+  fallback-by-copy-at,
+  run-choice-at,
+  run-count-at,
+  run-fallback-at,
+  run-guard-at,
+  run-last-at,
+  run-leaf-at,
+  run-node-at,
+  run-optional-at,
+  run-repeat-at,
+  run-turn-at,
+  choice-by-copy-calls,
+  fallback-by-copy-calls,
+  run-choice-calls,
+  run-count-calls,
+  run-fallback-calls,
+  run-guard-calls,
+  run-last-calls,
+  run-leaf-calls,
+  run-node-calls,
+  run-optional-calls,
+  run-repeat-calls,
+  run-turn-calls,
+}
+use Rattle.eval_node.proofs.+choice_by_copy+fallback_by_copy+run_choice+run_count+run_fallback+run_guard+run_last+run_leaf+run_node+run_optional+run_repeat+run_turn.Proof.ChoiceByCopy.{
+  choice-by-copy-run-node-requires,
+  choice-by-copy-run-node-requires-2,
+  choice-by-copy-choose-requires,
+  choice-by-copy-returns,
+}
+use Rattle.eval_node.proofs.+choice_by_copy+fallback_by_copy+run_choice+run_count+run_fallback+run_guard+run_last+run_leaf+run_node+run_optional+run_repeat+run_turn.Proof.FallbackByCopy.{
+  fallback-by-copy-run-node-requires,
+  fallback-by-copy-returns,
+  fallback-by-copy-fallback-word-requires,
+  fallback-by-copy-fallback-requires,
+  fallback-by-copy-returns-2,
+}
+use Rattle.eval_node.proofs.+choice_by_copy+fallback_by_copy+run_choice+run_count+run_fallback+run_guard+run_last+run_leaf+run_node+run_optional+run_repeat+run_turn.Proof.RunChoice.{
+  run-choice-alone-requires,
+  run-choice-run-node-requires,
+  run-choice-first-alone-requires,
+  run-choice-returns,
+  run-choice-alone-requires-2,
+  run-choice-run-node-requires-2,
+  run-choice-second-alone-requires,
+  run-choice-returns-2,
+  run-choice-choice-by-copy-requires,
+  run-choice-returns-3,
+}
+use Rattle.eval_node.proofs.+choice_by_copy+fallback_by_copy+run_choice+run_count+run_fallback+run_guard+run_last+run_leaf+run_node+run_optional+run_repeat+run_turn.Proof.RunCount.{
+  run-count-slice-aggregate-run-repeat,
+  run-count-run-repeat-requires,
+  run-count-refused-list-requires,
+  run-count-returns,
+  run-count-counted-requires,
+  run-count-returns-2,
+}
+use Rattle.eval_node.proofs.+choice_by_copy+fallback_by_copy+run_choice+run_count+run_fallback+run_guard+run_last+run_leaf+run_node+run_optional+run_repeat+run_turn.Proof.RunFallback.{
+  run-fallback-stays-requires,
+  run-fallback-run-node-requires,
+  run-fallback-returns,
+  run-fallback-fallback-word-requires,
+  run-fallback-fallback-unchanged-requires,
+  run-fallback-returns-2,
+  run-fallback-fallback-by-copy-requires,
+  run-fallback-returns-3,
+}
+use Rattle.eval_node.proofs.+choice_by_copy+fallback_by_copy+run_choice+run_count+run_fallback+run_guard+run_last+run_leaf+run_node+run_optional+run_repeat+run_turn.Proof.RunGuard.{
+  run-guard-run-node-requires,
+  run-guard-guard-requires,
+  run-guard-returns,
+}
+use Rattle.eval_node.proofs.+choice_by_copy+fallback_by_copy+run_choice+run_count+run_fallback+run_guard+run_last+run_leaf+run_node+run_optional+run_repeat+run_turn.Proof.RunLast.{
+  run-last-slice-aggregate-run-repeat,
+  run-last-run-repeat-requires,
+  run-last-refused-list-requires,
+  run-last-returns,
+  run-last-last-value-requires,
+  run-last-returns-2,
+  run-last-run-node-requires,
+  run-last-more-tries-requires,
+  run-last-returns-3,
+}
+use Rattle.eval_node.proofs.+choice_by_copy+fallback_by_copy+run_choice+run_count+run_fallback+run_guard+run_last+run_leaf+run_node+run_optional+run_repeat+run_turn.Proof.RunLeaf.{
+  run-leaf-node-at-requires,
+  run-leaf-eval-flag-from-requires,
+  run-leaf-eval-argument-from-requires,
+  run-leaf-eval-positional-from-requires,
+  run-leaf-run-node-requires,
+  run-leaf-returns,
+  run-leaf-returns-2,
+  run-leaf-returns-3,
+  run-leaf-returns-4,
+}
+use Rattle.eval_node.proofs.+choice_by_copy+fallback_by_copy+run_choice+run_count+run_fallback+run_guard+run_last+run_leaf+run_node+run_optional+run_repeat+run_turn.Proof.RunNode.{
+  run-node-node-at-requires,
+  run-node-eval-flag-requires,
+  run-node-eval-argument-requires,
+  run-node-eval-positional-requires,
+  run-node-run-optional-requires,
+  run-node-run-count-requires,
+  run-node-run-last-requires,
+  run-node-run-choice-requires,
+  run-node-run-fallback-requires,
+  run-node-run-guard-requires,
+  run-node-returns,
+  run-node-returns-2,
+  run-node-returns-3,
+  run-node-returns-4,
+  run-node-returns-5,
+  run-node-returns-6,
+  run-node-returns-7,
+  run-node-returns-8,
+  run-node-returns-9,
+}
+use Rattle.eval_node.proofs.+choice_by_copy+fallback_by_copy+run_choice+run_count+run_fallback+run_guard+run_last+run_leaf+run_node+run_optional+run_repeat+run_turn.Proof.RunOptional.{
+  run-optional-keeps-marks-requires,
+  run-optional-run-node-requires,
+  run-optional-optional-requires,
+  run-optional-returns,
+  run-optional-run-node-requires-2,
+  run-optional-optional-unchanged-requires,
+  run-optional-returns-2,
+}
+use Rattle.eval_node.proofs.+choice_by_copy+fallback_by_copy+run_choice+run_count+run_fallback+run_guard+run_last+run_leaf+run_node+run_optional+run_repeat+run_turn.Proof.RunRepeat.{
+  run-repeat-Inv-loop,
+  run-repeat-μ-loop,
+  run-repeat-leaf-below-requires,
+  run-repeat-keeps-marks-requires,
+  run-repeat-wide-requires,
+  run-repeat-nothing-requires,
+  run-repeat-loop-holds,
+  run-repeat-run-turn-requires,
+  run-repeat-parse-option-requires,
+  run-repeat-enum-told,
+  run-repeat-write-value-requires,
+  run-repeat-one-more-requires,
+  run-repeat-idle-requires,
+  run-repeat-same-length,
+  run-repeat-returns,
+  run-repeat-copy-if-requires,
+  run-repeat-next-from-requires,
+  run-repeat-loop-less,
+  run-repeat-loop-again,
+  run-repeat-enum-told-2,
+  run-repeat-ended-requires,
+  run-repeat-same-length-2,
+  run-repeat-returns-2,
+  run-repeat-enum-told-3,
+  run-repeat-copy-if-requires-2,
+  run-repeat-ended-requires-2,
+  run-repeat-same-length-3,
+  run-repeat-returns-3,
+  run-repeat-enum-told-4,
+  run-repeat-unwrite-requires,
+  run-repeat-passed-on-requires,
+  run-repeat-same-length-4,
+  run-repeat-returns-4,
+}
+use Rattle.eval_node.proofs.+choice_by_copy+fallback_by_copy+run_choice+run_count+run_fallback+run_guard+run_last+run_leaf+run_node+run_optional+run_repeat+run_turn.Proof.RunTurn.{
+  run-turn-run-leaf-requires,
+  run-turn-wrap-requires,
+  run-turn-returns,
+}
 
 pub +choice-by-copy+fallback-by-copy+run-choice+run-count+run-fallback+run-guard+run-last+run-leaf+run-node+run-optional+run-repeat+run-turn-spec :
     {M : Type 1} → statement M

@@ -6,7 +6,11 @@ use Rattle.eval_node.proofs.unwrite.Statement.{statement}
 use Rattle.eval_node.proofs.unwrite.Tie as tie
 
 add-fill : tie.Need-add-fill
-add-fill c = omega (arith, c .before .before .before .pre (c .before .if1 .taken))
+add-fill c =
+    let by-if1 = c .before in
+    let if1 = by-if1 .if1 in
+    let pre = by-if1 .before .before .pre in
+    omega (arith, pre (if1 .taken))
 
 wide-requires : tie.Need-wide-requires
 wide-requires c κs = search needs

@@ -6,16 +6,28 @@ use Rattle.eval_node.proofs.write_value.Statement.{statement}
 use Rattle.eval_node.proofs.write_value.Tie as tie
 
 add-put : tie.Need-add-put
-add-put c = omega (arith, c .before .before .before .pre (c .before .if1 .taken))
+add-put c =
+    let by-if1 = c .before in
+    let if1 = by-if1 .if1 in
+    let pre = by-if1 .before .before .pre in
+    omega (arith, pre (if1 .taken))
 
 wide-requires : tie.Need-wide-requires
 wide-requires c κs = search needs
 
 add-put-2 : tie.Need-add-put-2
-add-put-2 c = omega (arith, c .before .before .before .before .pre (c .before .before .if1 .taken))
+add-put-2 c =
+    let by-if1 = c .before .before in
+    let if1 = by-if1 .if1 in
+    let pre = by-if1 .before .before .pre in
+    omega (arith, pre (if1 .taken))
 
 put-requires : tie.Need-put-requires
-put-requires c κs = search (needs, c .before .before .before .before .pre (c .before .before .if1 .taken))
+put-requires c κs =
+    let by-if1 = c .before .before in
+    let if1 = by-if1 .if1 in
+    let pre = by-if1 .before .before .pre in
+    search (needs, pre (if1 .taken))
 
 same-length : tie.Need-same-length
 same-length c = search needs

@@ -30,7 +30,11 @@ unsigned-requires-2 : tie.Need-unsigned-requires-2
 unsigned-requires-2 c κs = search needs
 
 returns-3 : tie.Need-returns-3
-returns-3 c = c .unsigned2 .ensures ∙ number-plain _ (c .before .before .before .if1 .left) (c .before .if2 .left)
+returns-3 c =
+    let by-if2 = c .before in
+    let if2 = by-if2 .if2 in
+    let if1 = by-if2 .before .before .if1 in
+    c .unsigned2 .ensures ∙ number-plain _ (if1 .left) (if2 .left)
 
 pub parse-spec : {M : Type 1} → statement M
 parse-spec =

@@ -28,9 +28,14 @@ wide-requires c κs = search needs
 
 returns : tie.Need-returns Inv-loop μ-loop
 returns c =
-    let t = c .before .before .before .loop-test .taken in
-    let e = c .before .wide .ensures in
-    unsigned-bad _ _ _ t (c .before .before .before .before .loop .inv .1 .1)
+    let by-wide = c .before in
+    let wide = by-wide .wide in
+    let by-loop-test = by-wide .before .before in
+    let loop-test = by-loop-test .loop-test in
+    let loop = by-loop-test .before .loop in
+    let t = loop-test .taken in
+    let e = wide .ensures in
+    unsigned-bad _ _ _ t (loop .inv .1 .1)
     (⊎-elim (λ w. digit-low _ _ _ _ t e (w .taken)) (λ w. digit-high _ _ _ _ t e (w .0 .left) (w .1 .taken)) (c .if1 .came))
 
 mul-n : tie.Need-mul-n Inv-loop μ-loop
@@ -41,10 +46,19 @@ add-n c = omega (arith, ltb-false)
 
 returns-2 : tie.Need-returns-2 Inv-loop μ-loop
 returns-2 c =
-    let l = c .before .before .before .before .before .before .loop in
-    let t = c .before .before .before .before .before .loop-test .taken in
-    let w = c .before .before .before .wide in
-    let d = digit-next _ _ _ _ t (w .ensures) (c .before .before .if1 .left) (c .before .if2 .left) in
+    let by-if2 = c .before in
+    let if2 = by-if2 .if2 in
+    let by-if1 = by-if2 .before in
+    let if1 = by-if1 .if1 in
+    let by-wide = by-if1 .before in
+    let wide = by-wide .wide in
+    let by-loop-test = by-wide .before .before in
+    let loop-test = by-loop-test .loop-test in
+    let loop = by-loop-test .before .loop in
+    let l = loop in
+    let t = loop-test .taken in
+    let w = wide in
+    let d = digit-next _ _ _ _ t (w .ensures) (if1 .left) (if2 .left) in
     unsigned-bad _ _ _ t (l .inv .1 .1) (d ∙ too-large (l .n * 10 + (w .result - 48)) _ (omega arith))
 
 add-i : tie.Need-add-i Inv-loop μ-loop
@@ -55,10 +69,19 @@ loop-less c = search needs
 
 loop-again : tie.Need-loop-again Inv-loop μ-loop
 loop-again c =
-    let l = c .before .before .before .before .before .before .loop in
-    let t = c .before .before .before .before .before .loop-test .taken in
-    let w = c .before .before .before .wide in
-    let d = digit-next _ _ _ _ t (w .ensures) (c .before .before .if1 .left) (c .before .if2 .left) in
+    let by-if2 = c .before in
+    let if2 = by-if2 .if2 in
+    let by-if1 = by-if2 .before in
+    let if1 = by-if1 .if1 in
+    let by-wide = by-if1 .before in
+    let wide = by-wide .wide in
+    let by-loop-test = by-wide .before .before in
+    let loop-test = by-loop-test .loop-test in
+    let loop = by-loop-test .before .loop in
+    let l = loop in
+    let t = loop-test .taken in
+    let w = wide in
+    let d = digit-next _ _ _ _ t (w .ensures) (if1 .left) (if2 .left) in
     (omega arith, (omega arith, l .inv .1 .1 ∙ d))
 
 cast-t15 : tie.Need-cast-t15 Inv-loop μ-loop

@@ -9,8 +9,11 @@ wide-requires c κs = search needs
 
 eval-argument-from-requires : tie.Need-eval-argument-from-requires
 eval-argument-from-requires c κs =
-    let h = c .before .before .before .before .before .pre in
-    (h .0, h .1, (h .2 .0, h .2 .1, h .2 .2, skip-none _ _ _ _ _ (h .2 .2 .state .fine) _ (c .before .wide .ensures)))
+    let by-wide = c .before in
+    let wide = by-wide .wide in
+    let pre = by-wide .before .before .before .before .pre in
+    let h = pre in
+    (h .0, h .1, (h .2 .0, h .2 .1, h .2 .2, skip-none _ _ _ _ _ (h .2 .2 .state .fine) _ (wide .ensures)))
 
 returns : tie.Need-returns
 returns c names adjacent leaf =

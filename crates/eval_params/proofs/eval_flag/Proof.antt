@@ -10,8 +10,11 @@ wide-requires c κs = search needs
 
 eval-flag-from-requires : tie.Need-eval-flag-from-requires
 eval-flag-from-requires c κs =
-    let h = c .before .before .before .pre in
-    (h .0, h .1, h .2, omega (arith, h .0 .order, c .before .wide .ensures))
+    let by-wide = c .before in
+    let wide = by-wide .wide in
+    let pre = by-wide .before .before .pre in
+    let h = pre in
+    (h .0, h .1, h .2, omega (arith, h .0 .order, wide .ensures))
 
 returns : tie.Need-returns
 returns c area words names leaf =

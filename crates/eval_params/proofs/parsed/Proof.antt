@@ -34,10 +34,26 @@ refused-requires : tie.Need-refused-requires
 refused-requires c κs = search needs
 
 returns-2 : tie.Need-returns-2
-returns-2 c = number-tells _ _ _ _ (c .before .before .before .before .before .before .if1 .left) (c .before .before .before .before .parse .result) (c .before .before .before .before .parse .ensures ∙ ap numberOf (c .before .before .before .before .before .text-bytes .ensures)) _ (c .before .before .n .given .1) _ (c .value2 .ensures)
+returns-2 c =
+    let by-n = c .before .before in
+    let n = by-n .n in
+    let by-parse = by-n .before .before in
+    let parse = by-parse .parse in
+    let by-text-bytes = by-parse .before in
+    let text-bytes = by-text-bytes .text-bytes in
+    let if1 = by-text-bytes .before .if1 in
+    number-tells _ _ _ _ (if1 .left) (parse .result) (parse .ensures ∙ ap numberOf (text-bytes .ensures)) _ (n .given .1) _ (c .value2 .ensures)
 
 returns-3 : tie.Need-returns-3
-returns-3 c = bad-tells _ _ _ _ (c .before .before .before .before .before .if1 .left) (c .before .before .before .parse .result) (c .before .before .before .parse .ensures ∙ ap numberOf (c .before .before .before .before .text-bytes .ensures)) (c .before .enum-told .given .1) _ (c .refused .ensures)
+returns-3 c =
+    let by-enum-told = c .before in
+    let enum-told = by-enum-told .enum-told in
+    let by-parse = by-enum-told .before .before in
+    let parse = by-parse .parse in
+    let by-text-bytes = by-parse .before in
+    let text-bytes = by-text-bytes .text-bytes in
+    let if1 = by-text-bytes .before .if1 in
+    bad-tells _ _ _ _ (if1 .left) (parse .result) (parse .ensures ∙ ap numberOf (text-bytes .ensures)) (enum-told .given .1) _ (c .refused .ensures)
 
 pub parsed-spec : {M : Type 1} → statement M
 parsed-spec =

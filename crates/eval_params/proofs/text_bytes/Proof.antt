@@ -17,7 +17,13 @@ cast-least : tie.Need-cast-least
 cast-least c = search needs
 
 add-least : tie.Need-add-least
-add-least c = record { fits = omega (arith, start-few _ (c .before .before .before .before .pre) _ (c .before .before .count .ensures) _ (c .before .area-start .ensures)) }
+add-least c =
+    let by-area-start = c .before in
+    let area-start = by-area-start .area-start in
+    let by-count = by-area-start .before in
+    let count = by-count .count in
+    let pre = by-count .before .before .pre in
+    record { fits = omega (arith, start-few _ pre _ (count .ensures) _ (area-start .ensures)) }
 
 least-requires : tie.Need-least-requires
 least-requires c κs = search needs
@@ -32,16 +38,50 @@ least-requires-2 : tie.Need-least-requires-2
 least-requires-2 c κs = search needs
 
 sub-result : tie.Need-sub-result
-sub-result c = text-order _ (c .before .before .before .before .before .before .before .pre) _ (c .before .before .before .before .before .count .ensures) _ (c .before .before .before .before .area-start .ensures) _ _ (c .before .before .least .ensures) _ (c .least2 .ensures)
+sub-result c =
+    let by-least = c .before .before in
+    let least = by-least .least in
+    let by-area-start = by-least .before .before in
+    let area-start = by-area-start .area-start in
+    let by-count = by-area-start .before in
+    let count = by-count .count in
+    let pre = by-count .before .before .pre in
+    text-order _ pre _ (count .ensures) _ (area-start .ensures) _ _ (least .ensures) _ (c .least2 .ensures)
 
 part-result-start : tie.Need-part-result-start
-part-result-start c = text-order _ (c .before .before .before .before .before .before .before .pre) _ (c .before .before .before .before .before .count .ensures) _ (c .before .before .before .before .area-start .ensures) _ _ (c .before .before .least .ensures) _ (c .least2 .ensures)
+part-result-start c =
+    let by-least = c .before .before in
+    let least = by-least .least in
+    let by-area-start = by-least .before .before in
+    let area-start = by-area-start .area-start in
+    let by-count = by-area-start .before in
+    let count = by-count .count in
+    let pre = by-count .before .before .pre in
+    text-order _ pre _ (count .ensures) _ (area-start .ensures) _ _ (least .ensures) _ (c .least2 .ensures)
 
 part-result-end : tie.Need-part-result-end
-part-result-end c = text-end _ (c .before .before .before .before .before .before .before .pre) _ (c .before .before .before .before .before .count .ensures) _ (c .before .before .before .before .area-start .ensures) _ _ (c .before .before .least .ensures) _ (c .least2 .ensures)
+part-result-end c =
+    let by-least = c .before .before in
+    let least = by-least .least in
+    let by-area-start = by-least .before .before in
+    let area-start = by-area-start .area-start in
+    let by-count = by-area-start .before in
+    let count = by-count .count in
+    let pre = by-count .before .before .pre in
+    text-end _ pre _ (count .ensures) _ (area-start .ensures) _ _ (least .ensures) _ (c .least2 .ensures)
 
 returns : tie.Need-returns
-returns c = text-bytes-are _ (c .before .before .before .before .before .before .before .before .pre) _ (c .before .before .before .before .before .before .count .ensures) _ (c .before .before .before .before .before .area-start .ensures) _ _ (c .before .before .before .least .ensures) _ (c .before .least2 .ensures)
+returns c =
+    let by-least2 = c .before in
+    let least2 = by-least2 .least2 in
+    let by-least = by-least2 .before .before in
+    let least = by-least .least in
+    let by-area-start = by-least .before .before in
+    let area-start = by-area-start .area-start in
+    let by-count = by-area-start .before in
+    let count = by-count .count in
+    let pre = by-count .before .before .pre in
+    text-bytes-are _ pre _ (count .ensures) _ (area-start .ensures) _ _ (least .ensures) _ (least2 .ensures)
 
 pub text-bytes-spec : {M : Type 1} → statement M
 text-bytes-spec =

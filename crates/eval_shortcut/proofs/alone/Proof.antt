@@ -8,13 +8,18 @@ stays-requires : tie.Need-stays-requires
 stays-requires c κs = c .before .before .pre .0
 
 is-missing-requires : tie.Need-is-missing-requires
-is-missing-requires c κs = c .before .before .before .before .pre .1
+is-missing-requires c κs =
+    let pre = c .before .before .before .before .pre in
+    pre .1
 
 returns : tie.Need-returns
-returns c = (
-  alone-other _ _ _ _ _ (c .before .before .stays .ensures .0) (c .before .if1 .taken) _ (c .is-missing .ensures .0),
-  λ e. record { stays = c .before .before .stays .ensures .1 (c .before .if1 .taken); misses = c .is-missing .ensures .1 e },
-)
+returns c =
+    let by-if1 = c .before in
+    let if1 = by-if1 .if1 in
+    let at-stays = by-if1 .before .stays in (
+      alone-other _ _ _ _ _ (at-stays .ensures .0) (if1 .taken) _ (c .is-missing .ensures .0),
+      λ e. record { stays = at-stays .ensures .1 (if1 .taken); misses = c .is-missing .ensures .1 e },
+    )
 
 returns-2 : tie.Need-returns-2
 returns-2 c = (alone-not _ _ _ _ _ (c .before .stays .ensures .0) (c .if1 .left), λ e. absurd (false≢true e))

@@ -10,7 +10,9 @@ returns : tie.Need-returns
 returns c = (stays-undone _ _ _ _ (c .before .undoes .ensures) (c .if1 .taken), λ _. undone-stays _ _ _ _ (c .before .undoes .ensures) (c .if1 .taken))
 
 is-missing-requires : tie.Need-is-missing-requires
-is-missing-requires c κs = c .before .before .before .before .pre
+is-missing-requires c κs =
+    let pre = c .before .before .before .before .pre in
+    pre
 
 returns-2 : tie.Need-returns-2
 returns-2 c = (stays-missing _ _ _ _ (c .before .before .undoes .ensures) (c .before .if1 .left) _ (c .is-missing .ensures .0), λ e. missing-stays _ _ _ (c .is-missing .ensures .1 e))

@@ -17,13 +17,35 @@ guard-requires : tie.Need-guard-requires
 guard-requires c κs = search needs
 
 returns-2 : tie.Need-returns-2
-returns-2 c = guard-hands _ _ _ _ _ (c .before .before .before .before .before .before .pre) (c .before .before .before .before .if1 .left) _ (c .before .before .before .node-at .ensures) (c .before .if2 .taken) _ (c .guard .ensures)
+returns-2 c =
+    let by-if2 = c .before in
+    let if2 = by-if2 .if2 in
+    let by-node-at = by-if2 .before .before in
+    let node-at = by-node-at .node-at in
+    let by-if1 = by-node-at .before in
+    let if1 = by-if1 .if1 in
+    let pre = by-if1 .before .before .pre in
+    guard-hands _ _ _ _ _ pre (if1 .left) _ (node-at .ensures) (if2 .taken) _ (c .guard .ensures)
 
 optional-unchanged-requires : tie.Need-optional-unchanged-requires
-optional-unchanged-requires c κs = c .before .before .before .before .before .before .pre .short (c .before .before .before .before .if1 .left)
+optional-unchanged-requires c κs =
+    let by-if1 = c .before .before .before .before in
+    let if1 = by-if1 .if1 in
+    let pre = by-if1 .before .before .pre in
+    pre .short (if1 .left)
 
 returns-3 : tie.Need-returns-3
-returns-3 c = optional-hands _ _ _ _ _ (c .before .before .before .before .before .before .before .before .pre) (c .before .before .before .before .before .before .if1 .left) _ (c .before .before .before .before .before .node-at .ensures) (c .before .before .before .if2 .left) _ (c .before .optional-unchanged .ensures .1)
+returns-3 c =
+    let by-optional-unchanged = c .before in
+    let optional-unchanged = by-optional-unchanged .optional-unchanged in
+    let by-if2 = by-optional-unchanged .before .before in
+    let if2 = by-if2 .if2 in
+    let by-node-at = by-if2 .before .before in
+    let node-at = by-node-at .node-at in
+    let by-if1 = by-node-at .before in
+    let if1 = by-if1 .if1 in
+    let pre = by-if1 .before .before .pre in
+    optional-hands _ _ _ _ _ pre (if1 .left) _ (node-at .ensures) (if2 .left) _ (optional-unchanged .ensures .1)
 
 pub wrap-spec : {M : Type 1} → statement M
 wrap-spec =

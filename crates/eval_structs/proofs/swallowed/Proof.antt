@@ -24,7 +24,13 @@ can-catch-requires c κs = search needs
 
 returns-3 : tie.Need-returns-3
 unfolding swallowed isMissing withRemaining if_then_else_
-returns-3 c = rw (← c .before .before .before .catches .ensures, c .before .before .if1 .left, ne-eqb _ _ (c .before .if2 .left), c .can-catch .ensures)
+returns-3 c =
+    let by-if2 = c .before in
+    let if2 = by-if2 .if2 in
+    let by-if1 = by-if2 .before in
+    let if1 = by-if1 .if1 in
+    let catches = by-if1 .before .catches in
+    rw (← catches .ensures, if1 .left, ne-eqb _ _ (if2 .left), c .can-catch .ensures)
 
 pub swallowed-spec : {M : Type 1} → statement M
 swallowed-spec =

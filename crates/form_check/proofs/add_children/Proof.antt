@@ -23,16 +23,32 @@ add-requires : tie.Need-add-requires
 add-requires c κs = search needs
 
 returns-2 : tie.Need-returns-2
-returns-2 c = children-one _ _ (c .before .before .before .before .if1 .left) _ (first (c .before .before)) (c .if3 .taken)
+returns-2 c =
+    let by-before = c .before in
+    let before = by-before .before in
+    let if1 = by-before .before .before .before .if1 in
+    children-one _ _ (if1 .left) _ (first before) (c .if3 .taken)
 
 add-requires-2 : tie.Need-add-requires-2
 add-requires-2 c κs = search needs
 
 returns-3 : tie.Need-returns-3
-returns-3 c = children-two _ _ (c .before .before .before .before .before .before .before .before .if1 .left) _ (first (c .before .before .before .before .before .before)) (c .before .before .before .before .if3 .left) _ (c .add2 .ensures)
+returns-3 c =
+    let by-if3 = c .before .before .before .before in
+    let if3 = by-if3 .if3 in
+    let by-before = by-if3 .before in
+    let before = by-before .before in
+    let if1 = by-before .before .before .before .if1 in
+    children-two _ _ (if1 .left) _ (first before) (if3 .left) _ (c .add2 .ensures)
 
 returns-4 : tie.Need-returns-4
-returns-4 c = children-two _ _ (c .before .before .before .before .before .before .if1 .left) _ (first (c .before .before .before .before)) (c .before .before .if3 .left) _ (added-outside _ _ (c .if4 .left))
+returns-4 c =
+    let by-if3 = c .before .before in
+    let if3 = by-if3 .if3 in
+    let by-before = by-if3 .before in
+    let before = by-before .before in
+    let if1 = by-before .before .before .before .if1 in
+    children-two _ _ (if1 .left) _ (first before) (if3 .left) _ (added-outside _ _ (c .if4 .left))
 
 pub add-children-spec : {M : Type 1} → statement M
 add-children-spec = tie.close (tie.spec returns add-requires returns-2 add-requires-2 returns-3 returns-4)

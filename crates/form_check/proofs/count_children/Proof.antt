@@ -26,22 +26,40 @@ loop-holds : tie.Need-loop-holds Inv-loop μ-loop
 loop-holds c = refl
 
 node-at-requires : tie.Need-node-at-requires Inv-loop μ-loop
-node-at-requires c κs = (c .before .before .before .before .pre, omega (arith, c .before .before .node-count .ensures))
+node-at-requires c κs =
+    let by-node-count = c .before .before in
+    let node-count = by-node-count .node-count in
+    let pre = by-node-count .before .before .pre in
+    (pre, omega (arith, node-count .ensures))
 
 add-children-requires : tie.Need-add-children-requires Inv-loop μ-loop
 add-children-requires c κs = search needs
 
 add-k : tie.Need-add-k Inv-loop μ-loop
-add-k c = omega (arith, c .before .before .before .before .before .node-count .ensures, sized _ (c .before .before .before .before .before .before .before .pre))
+add-k c =
+    let by-node-count = c .before .before .before .before .before in
+    let node-count = by-node-count .node-count in
+    let pre = by-node-count .before .before .pre in
+    omega (arith, node-count .ensures, sized _ pre)
 
 loop-less : tie.Need-loop-less Inv-loop μ-loop
 loop-less c = omega arith
 
 loop-again : tie.Need-loop-again Inv-loop μ-loop
-loop-again c = children-next _ _ _ _ _ _ (c .before .before .before .before .loop .inv) (c .before .before .node-at .ensures) (c .add-children .ensures)
+loop-again c =
+    let by-node-at = c .before .before in
+    let node-at = by-node-at .node-at in
+    let loop = by-node-at .before .before .loop in
+    children-next _ _ _ _ _ _ (loop .inv) (node-at .ensures) (c .add-children .ensures)
 
 returns : tie.Need-returns Inv-loop μ-loop
-returns c = children-last _ (readForm (c .before .before .before .before .args .b .now) .nodes) _ (c .before .loop .k) (c .before .loop .inv) (omega (arith, c .before .before .node-count .ensures, nodes-length (c .before .before .before .before .args .b .now)))
+returns c =
+    let by-loop = c .before in
+    let loop = by-loop .loop in
+    let by-node-count = by-loop .before in
+    let node-count = by-node-count .node-count in
+    let args = by-node-count .before .before .args in
+    children-last _ (readForm (args .b .now) .nodes) _ (loop .k) (loop .inv) (omega (arith, node-count .ensures, nodes-length (args .b .now)))
 
 pub count-children-spec : {M : Type 1} → statement M
 count-children-spec =

@@ -18,35 +18,58 @@ node-count-requires : tie.Need-node-count-requires Inv-loop μ-loop
 node-count-requires c κs = sized _ (c .before .pre .0) .counts .long
 
 loop-holds : tie.Need-loop-holds Inv-loop μ-loop
-loop-holds c = (filled-first _ _ _ (c .before .before .pre .1) (nodes-length (c .before .before .args .b .now) ∙ sym (c .node-count .ensures)), omega (arith, c .node-count .ensures))
+loop-holds c =
+    let by-args = c .before .before in
+    let args = by-args .args in
+    let pre = by-args .pre in
+    (filled-first _ _ _ (pre .1) (nodes-length (args .b .now) ∙ sym (c .node-count .ensures)), omega (arith, c .node-count .ensures))
 
 sub-k : tie.Need-sub-k Inv-loop μ-loop
 sub-k c = omega (arith, c .loop-test .taken)
 
 element-copy-out-if1 : tie.Need-element-copy-out-if1 Inv-loop μ-loop
-element-copy-out-if1 c = omega (arith, c .loop-test .taken, c .before .loop .inv .1, sized _ (c .before .before .before .before .pre .0))
+element-copy-out-if1 c =
+    let by-loop = c .before in
+    let loop = by-loop .loop in
+    let pre = by-loop .before .before .before .pre in
+    omega (arith, c .loop-test .taken, loop .inv .1, sized _ (pre .0))
 
 fill-requires : tie.Need-fill-requires Inv-loop μ-loop
-fill-requires c κs = record {
-  good = c .before .before .before .before .before .before .before .pre .0;
-  below = omega (arith, c .before .before .before .loop-test .taken, c .before .before .before .before .loop .inv .1);
-  sound = c .before .before .before .before .loop .inv .0 .sound;
-}
+fill-requires c κs =
+    let by-loop-test = c .before .before .before in
+    let loop-test = by-loop-test .loop-test in
+    let by-loop = by-loop-test .before in
+    let loop = by-loop .loop in
+    let pre = by-loop .before .before .before .pre in
+    record {
+      good = pre .0;
+      below = omega (arith, loop-test .taken, loop .inv .1);
+      sound = loop .inv .0 .sound;
+    }
 
 loop-less : tie.Need-loop-less Inv-loop μ-loop
-loop-less c = omega (arith, c .before .before .before .before .loop-test .taken)
+loop-less c =
+    let loop-test = c .before .before .before .before .loop-test in
+    omega (arith, loop-test .taken)
 
 loop-again : tie.Need-loop-again Inv-loop μ-loop
-loop-again c = (
-  filled-asked _ _ _ (omega (arith, c .before .before .before .before .loop-test .taken)) _ (c .before .before .before .before .before .loop .inv .0) _ _ refl (c .fill .ensures),
-  omega (arith, c .before .before .before .before .before .loop .inv .1),
-)
+loop-again c =
+    let by-loop-test = c .before .before .before .before in
+    let loop-test = by-loop-test .loop-test in
+    let loop = by-loop-test .before .loop in (
+      filled-asked _ _ _ (omega (arith, loop-test .taken)) _ (loop .inv .0) _ _ refl (c .fill .ensures),
+      omega (arith, loop .inv .1),
+    )
 
 loop-less-2 : tie.Need-loop-less-2 Inv-loop μ-loop
 loop-less-2 c = omega (arith, c .before .before .loop-test .taken)
 
 loop-again-2 : tie.Need-loop-again-2 Inv-loop μ-loop
-loop-again-2 c = (filled-known _ _ _ (omega (arith, c .before .before .loop-test .taken)) _ (c .before .before .before .loop .inv .0) _ refl (c .if1 .left), omega (arith, c .before .before .before .loop .inv .1))
+loop-again-2 c =
+    let by-loop-test = c .before .before in
+    let loop-test = by-loop-test .loop-test in
+    let loop = by-loop-test .before .loop in
+    (filled-known _ _ _ (omega (arith, loop-test .taken)) _ (loop .inv .0) _ refl (c .if1 .left), omega (arith, loop .inv .1))
 
 returns : tie.Need-returns Inv-loop μ-loop
 returns c = filled-last _ _ _ (c .before .loop .inv .0) (c .loop-test .left)

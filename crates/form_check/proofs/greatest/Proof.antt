@@ -33,16 +33,28 @@ loop-less c = omega arith
 
 loop-again : tie.Need-loop-again Inv-loop μ-loop
 loop-again c =
-    let step = greatest-step (c .before .before .before .before .args .codes .now) (c .before .before .before .loop .k) (omega (arith, c .before .before .loop-test .taken, c .before .before .before .before .pre)) in
+    let by-loop-test = c .before .before in
+    let loop-test = by-loop-test .loop-test in
+    let by-loop = by-loop-test .before in
+    let loop = by-loop .loop in
+    let by-args = by-loop .before in
+    let args = by-args .args in
+    let pre = by-args .pre in
+    let step = greatest-step (args .codes .now) (loop .k) (omega (arith, loop-test .taken, pre)) in
     ⊎-elim
-    (λ w. omega (arith, step, c .before .before .before .loop .inv, w .0 .taken, w .2))
-    (λ w. omega (arith, step, c .before .before .before .loop .inv, w .0 .left, w .1))
+    (λ w. omega (arith, step, loop .inv, w .0 .taken, w .2))
+    (λ w. omega (arith, step, loop .inv, w .0 .left, w .1))
     (c .if1 .came)
 
 returns : tie.Need-returns Inv-loop μ-loop
 returns c =
-    let end = greatest-end (c .before .before .args .codes .now) (c .before .loop .k) (omega (arith, c .loop-test .left, c .before .before .pre)) in
-    omega (arith, end, c .before .loop .inv)
+    let by-loop = c .before in
+    let loop = by-loop .loop in
+    let by-args = by-loop .before in
+    let args = by-args .args in
+    let pre = by-args .pre in
+    let end = greatest-end (args .codes .now) (loop .k) (omega (arith, c .loop-test .left, pre)) in
+    omega (arith, end, loop .inv)
 
 pub greatest-spec : {M : Type 1} → statement M
 greatest-spec =

@@ -23,22 +23,40 @@ part-names-fault-end : tie.Need-part-names-fault-end
 part-names-fault-end c = search needs
 
 sub-names-fault-2 : tie.Need-sub-names-fault-2
-sub-names-fault-2 c = omega (arith, sized _ (c .before .before .before .before .pre))
+sub-names-fault-2 c =
+    let pre = c .before .before .before .before .pre in
+    omega (arith, sized _ pre)
 
 part-names-fault-start-2 : tie.Need-part-names-fault-start-2
-part-names-fault-start-2 c = omega (arith, sized _ (c .before .before .before .before .pre))
+part-names-fault-start-2 c =
+    let pre = c .before .before .before .before .pre in
+    omega (arith, sized _ pre)
 
 part-names-fault-end-2 : tie.Need-part-names-fault-end-2
 part-names-fault-end-2 c = search needs
 
 name-count-requires : tie.Need-name-count-requires
-name-count-requires c κs = sized _ (c .before .before .before .before .before .pre) .counts .long
+name-count-requires c κs =
+    let pre = c .before .before .before .before .before .pre in
+    sized _ pre .counts .long
 
 names-fault-requires : tie.Need-names-fault-requires
-names-fault-requires c κs = rw (from-drop (c .before .before .before .before .names-at .result) (c .before .before .before .before .before .before .args .b .now)) (omega (arith, length-drop (c .before .before .before .before .names-at .result) (c .before .before .before .before .before .before .args .b .now), sized _ (c .before .before .before .before .before .before .pre)))
+names-fault-requires c κs =
+    let by-names-at = c .before .before .before .before in
+    let names-at = by-names-at .names-at in
+    let by-args = by-names-at .before .before in
+    let args = by-args .args in
+    let pre = by-args .pre in
+    rw (from-drop (names-at .result) (args .b .now)) (omega (arith, length-drop (names-at .result) (args .b .now), sized _ pre))
 
 returns : tie.Need-returns
-returns c = records-found _ _ _ _ _ (c .before .before .before .before .before .names-at .ensures) (c .before .before .before .before .area-at .ensures) (c .before .name-count .ensures) (c .names-fault .ensures)
+returns c =
+    let by-name-count = c .before in
+    let name-count = by-name-count .name-count in
+    let by-area-at = by-name-count .before .before .before in
+    let area-at = by-area-at .area-at in
+    let names-at = by-area-at .before .names-at in
+    records-found _ _ _ _ _ (names-at .ensures) (area-at .ensures) (name-count .ensures) (c .names-fault .ensures)
 
 pub records-fault-spec : {M : Type 1} → statement M
 records-fault-spec =

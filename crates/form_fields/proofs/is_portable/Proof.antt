@@ -19,19 +19,43 @@ loop-holds : tie.Need-loop-holds Inv-loop μ-loop
 loop-holds c = passing-first _
 
 portable-at-requires : tie.Need-portable-at-requires Inv-loop μ-loop
-portable-at-requires c κs = has-name _ _ _ (c .before .before .before .before .pre) (c .before .before .name-count .ensures) (c .loop-test .taken)
+portable-at-requires c κs =
+    let by-name-count = c .before .before in
+    let name-count = by-name-count .name-count in
+    let pre = by-name-count .before .before .pre in
+    has-name _ _ _ pre (name-count .ensures) (c .loop-test .taken)
 
 returns : tie.Need-returns Inv-loop μ-loop
-returns c = passing-bad _ _ _ (c .before .before .before .before .name-count .ensures) (c .before .before .before .loop .inv) (c .before .before .loop-test .taken) _ (c .before .portable-at .ensures) (c .if1 .taken)
+returns c =
+    let by-portable-at = c .before in
+    let portable-at = by-portable-at .portable-at in
+    let by-loop-test = by-portable-at .before in
+    let loop-test = by-loop-test .loop-test in
+    let by-loop = by-loop-test .before in
+    let loop = by-loop .loop in
+    let name-count = by-loop .before .name-count in
+    passing-bad _ _ _ (name-count .ensures) (loop .inv) (loop-test .taken) _ (portable-at .ensures) (c .if1 .taken)
 
 add-k : tie.Need-add-k Inv-loop μ-loop
-add-k c = omega (arith, c .before .before .before .before .name-count .ensures, sized _ (c .before .before .before .before .before .before .pre .good))
+add-k c =
+    let by-name-count = c .before .before .before .before in
+    let name-count = by-name-count .name-count in
+    let pre = by-name-count .before .before .pre in
+    omega (arith, name-count .ensures, sized _ (pre .good))
 
 loop-less : tie.Need-loop-less Inv-loop μ-loop
 loop-less c = omega arith
 
 loop-again : tie.Need-loop-again Inv-loop μ-loop
-loop-again c = passing-next _ _ _ (c .before .before .before .before .name-count .ensures) (c .before .before .before .loop .inv) (c .before .before .loop-test .taken) _ (c .before .portable-at .ensures) (c .if1 .left)
+loop-again c =
+    let by-portable-at = c .before in
+    let portable-at = by-portable-at .portable-at in
+    let by-loop-test = by-portable-at .before in
+    let loop-test = by-loop-test .loop-test in
+    let by-loop = by-loop-test .before in
+    let loop = by-loop .loop in
+    let name-count = by-loop .before .name-count in
+    passing-next _ _ _ (name-count .ensures) (loop .inv) (loop-test .taken) _ (portable-at .ensures) (c .if1 .left)
 
 returns-2 : tie.Need-returns-2 Inv-loop μ-loop
 returns-2 c = passing-last _ _ _ (c .before .before .name-count .ensures) (c .before .loop .inv) (c .loop-test .left)

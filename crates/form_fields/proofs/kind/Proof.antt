@@ -12,10 +12,16 @@ empty-requires : tie.Need-empty-requires
 empty-requires c κs = search needs
 
 fill-requires : tie.Need-fill-requires
-fill-requires c κs = record { good = c .before .before .before .pre .0; below = c .before .before .before .pre .1; sound = rw (c .before .empty .ensures) (empty-sound _) }
+fill-requires c κs =
+    let by-empty = c .before in
+    let empty = by-empty .empty in
+    let pre = by-empty .before .before .pre in
+    record { good = pre .0; below = pre .1; sound = rw (empty .ensures) (empty-sound _) }
 
 array-read-c : tie.Need-array-read-c
-array-read-c c = omega (arith, sized _ (c .before .before .before .before .pre .0))
+array-read-c c =
+    let pre = c .before .before .before .before .pre in
+    omega (arith, sized _ (pre .0))
 
 cast-result : tie.Need-cast-result
 cast-result c = search needs

@@ -22,10 +22,20 @@ part-portable-name-end : tie.Need-part-portable-name-end
 part-portable-name-end c = search needs
 
 portable-name-requires : tie.Need-portable-name-requires
-portable-name-requires c κs = name-fits _ _ (c .before .before .before .before .pre) _ (c .before .before .name-at .ensures) _ (c .before .area-at .ensures)
+portable-name-requires c κs =
+    let by-area-at = c .before in
+    let area-at = by-area-at .area-at in
+    let by-name-at = by-area-at .before in
+    let name-at = by-name-at .name-at in
+    let pre = by-name-at .before .before .pre in
+    name-fits _ _ pre _ (name-at .ensures) _ (area-at .ensures)
 
 returns : tie.Need-returns
-returns c = portable-there _ _ _ (c .before .before .before .name-at .ensures) _ (c .before .before .area-at .ensures) _ (c .portable-name .ensures)
+returns c =
+    let by-area-at = c .before .before in
+    let area-at = by-area-at .area-at in
+    let name-at = by-area-at .before .name-at in
+    portable-there _ _ _ (name-at .ensures) _ (area-at .ensures) _ (c .portable-name .ensures)
 
 pub portable-at-spec : {M : Type 1} → statement M
 portable-at-spec =

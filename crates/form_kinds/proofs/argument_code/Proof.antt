@@ -15,11 +15,19 @@ returns c = rw (← c .before .named-good .ensures, not-true (c .before .named-g
 
 returns-2 : tie.Need-returns-2
 unfolding argumentCode if_then_else_
-returns-2 c = rw (← c .before .before .before .named-good .ensures, not-false (c .before .before .before .named-good .result) (c .before .before .if1 .left), lt-ltb _ _ (c .if2 .taken))
+returns-2 c =
+    let by-if1 = c .before .before in
+    let if1 = by-if1 .if1 in
+    let named-good = by-if1 .before .named-good in
+    rw (← named-good .ensures, not-false (named-good .result) (if1 .left), lt-ltb _ _ (c .if2 .taken))
 
 returns-3 : tie.Need-returns-3
 unfolding argumentCode if_then_else_
-returns-3 c = rw (← c .before .before .before .named-good .ensures, not-false (c .before .before .before .named-good .result) (c .before .before .if1 .left), le-ltb _ _ (c .if2 .left))
+returns-3 c =
+    let by-if1 = c .before .before in
+    let if1 = by-if1 .if1 in
+    let named-good = by-if1 .before .named-good in
+    rw (← named-good .ensures, not-false (named-good .result) (if1 .left), le-ltb _ _ (c .if2 .left))
 
 pub argument-code-spec : {M : Type 1} → statement M
 argument-code-spec =

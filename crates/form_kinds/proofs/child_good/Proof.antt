@@ -23,7 +23,11 @@ unused-requires-2 c κs = search needs
 
 returns-3 : tie.Need-returns-3
 unfolding childGood if_then_else_
-returns-3 c = rw (le-ltb _ _ (c .before .before .before .if1 .left), le-leb _ _ (c .before .if2 .left)) (of-q-lo-hi _ _ 0 _ _ (c .unused2 .ensures))
+returns-3 c =
+    let by-if2 = c .before in
+    let if2 = by-if2 .if2 in
+    let if1 = by-if2 .before .before .if1 in
+    rw (le-ltb _ _ (if1 .left), le-leb _ _ (if2 .left)) (of-q-lo-hi _ _ 0 _ _ (c .unused2 .ensures))
 
 pub child-good-spec : {M : Type 1} → statement M
 child-good-spec =

@@ -16,15 +16,31 @@ returns c = rw (← of-q-r _ _ _ 0 0 (c .before .unused .ensures), not-true (c .
 
 returns-2 : tie.Need-returns-2
 unfolding guardCode guardBy if_then_else_
-returns-2 c = rw (← of-q-r _ _ _ 0 0 (c .before .before .before .unused .ensures), not-false (c .before .before .before .unused .result) (c .before .before .if1 .left), lt-ltb _ _ (c .if2 .taken))
+returns-2 c =
+    let by-if1 = c .before .before in
+    let if1 = by-if1 .if1 in
+    let unused = by-if1 .before .unused in
+    rw (← of-q-r _ _ _ 0 0 (unused .ensures), not-false (unused .result) (if1 .left), lt-ltb _ _ (c .if2 .taken))
 
 returns-3 : tie.Need-returns-3
 unfolding guardCode guardBy if_then_else_
-returns-3 c = rw (← of-q-r _ _ _ 0 0 (c .before .before .before .before .unused .ensures), not-false (c .before .before .before .before .unused .result) (c .before .before .before .if1 .left), le-ltb _ _ (c .before .if2 .left), eq-eqb _ _ (c .if3 .taken))
+returns-3 c =
+    let by-if2 = c .before in
+    let if2 = by-if2 .if2 in
+    let by-if1 = by-if2 .before .before in
+    let if1 = by-if1 .if1 in
+    let unused = by-if1 .before .unused in
+    rw (← of-q-r _ _ _ 0 0 (unused .ensures), not-false (unused .result) (if1 .left), le-ltb _ _ (if2 .left), eq-eqb _ _ (c .if3 .taken))
 
 returns-4 : tie.Need-returns-4
 unfolding guardCode guardBy if_then_else_
-returns-4 c = rw (← of-q-r _ _ _ 0 0 (c .before .before .before .before .unused .ensures), not-false (c .before .before .before .before .unused .result) (c .before .before .before .if1 .left), le-ltb _ _ (c .before .if2 .left), ne-eqb _ _ (c .if3 .left))
+returns-4 c =
+    let by-if2 = c .before in
+    let if2 = by-if2 .if2 in
+    let by-if1 = by-if2 .before .before in
+    let if1 = by-if1 .if1 in
+    let unused = by-if1 .before .unused in
+    rw (← of-q-r _ _ _ 0 0 (unused .ensures), not-false (unused .result) (if1 .left), le-ltb _ _ (if2 .left), ne-eqb _ _ (c .if3 .left))
 
 pub guard-code-spec : {M : Type 1} → statement M
 guard-code-spec = tie.close (tie.spec unused-requires returns returns-2 returns-3 returns-4)

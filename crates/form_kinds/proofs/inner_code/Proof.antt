@@ -18,25 +18,49 @@ choice-code-requires c κs = search needs
 
 returns-2 : tie.Need-returns-2
 unfolding innerCode if_then_else_
-returns-2 c = rw (lt-leb _ _ (c .before .before .before .if1 .left), eq-eqb _ _ (c .before .if2 .taken)) (c .choice-code .ensures)
+returns-2 c =
+    let by-if2 = c .before in
+    let if2 = by-if2 .if2 in
+    let if1 = by-if2 .before .before .if1 in
+    rw (lt-leb _ _ (if1 .left), eq-eqb _ _ (if2 .taken)) (c .choice-code .ensures)
 
 fallback-code-requires : tie.Need-fallback-code-requires
 fallback-code-requires c κs = search needs
 
 returns-3 : tie.Need-returns-3
 unfolding innerCode if_then_else_
-returns-3 c = rw (lt-leb _ _ (c .before .before .before .before .before .if1 .left), ne-eqb _ _ (c .before .before .before .if2 .left), eq-eqb _ _ (c .before .if3 .taken)) (c .fallback-code .ensures)
+returns-3 c =
+    let by-if3 = c .before in
+    let if3 = by-if3 .if3 in
+    let by-if2 = by-if3 .before .before in
+    let if2 = by-if2 .if2 in
+    let if1 = by-if2 .before .before .if1 in
+    rw (lt-leb _ _ (if1 .left), ne-eqb _ _ (if2 .left), eq-eqb _ _ (if3 .taken)) (c .fallback-code .ensures)
 
 guard-code-requires : tie.Need-guard-code-requires
 guard-code-requires c κs = search needs
 
 returns-4 : tie.Need-returns-4
 unfolding innerCode if_then_else_
-returns-4 c = rw (lt-leb _ _ (c .before .before .before .before .before .before .before .if1 .left), ne-eqb _ _ (c .before .before .before .before .before .if2 .left), ne-eqb _ _ (c .before .before .before .if3 .left), eq-eqb _ _ (c .before .if4 .taken)) (c .guard-code .ensures)
+returns-4 c =
+    let by-if4 = c .before in
+    let if4 = by-if4 .if4 in
+    let by-if3 = by-if4 .before .before in
+    let if3 = by-if3 .if3 in
+    let by-if2 = by-if3 .before .before in
+    let if2 = by-if2 .if2 in
+    let if1 = by-if2 .before .before .if1 in
+    rw (lt-leb _ _ (if1 .left), ne-eqb _ _ (if2 .left), ne-eqb _ _ (if3 .left), eq-eqb _ _ (if4 .taken)) (c .guard-code .ensures)
 
 returns-5 : tie.Need-returns-5
 unfolding innerCode if_then_else_
-returns-5 c = rw (lt-leb _ _ (c .before .before .before .before .before .before .if1 .left), ne-eqb _ _ (c .before .before .before .before .if2 .left), ne-eqb _ _ (c .before .before .if3 .left), ne-eqb _ _ (c .if4 .left))
+returns-5 c =
+    let by-if3 = c .before .before in
+    let if3 = by-if3 .if3 in
+    let by-if2 = by-if3 .before .before in
+    let if2 = by-if2 .if2 in
+    let if1 = by-if2 .before .before .if1 in
+    rw (lt-leb _ _ (if1 .left), ne-eqb _ _ (if2 .left), ne-eqb _ _ (if3 .left), ne-eqb _ _ (c .if4 .left))
 
 pub inner-code-spec : {M : Type 1} → statement M
 inner-code-spec =

@@ -18,18 +18,32 @@ argument-code-requires c κs = search needs
 
 returns-2 : tie.Need-returns-2
 unfolding leafCode if_then_else_
-returns-2 c = rw (ne-eqb _ _ (c .before .before .before .if1 .left), eq-eqb _ _ (c .before .if2 .taken)) (c .argument-code .ensures)
+returns-2 c =
+    let by-if2 = c .before in
+    let if2 = by-if2 .if2 in
+    let if1 = by-if2 .before .before .if1 in
+    rw (ne-eqb _ _ (if1 .left), eq-eqb _ _ (if2 .taken)) (c .argument-code .ensures)
 
 positional-code-requires : tie.Need-positional-code-requires
 positional-code-requires c κs = search needs
 
 returns-3 : tie.Need-returns-3
 unfolding leafCode if_then_else_
-returns-3 c = rw (ne-eqb _ _ (c .before .before .before .before .before .if1 .left), ne-eqb _ _ (c .before .before .before .if2 .left), eq-eqb _ _ (c .before .if3 .taken)) (c .positional-code .ensures)
+returns-3 c =
+    let by-if3 = c .before in
+    let if3 = by-if3 .if3 in
+    let by-if2 = by-if3 .before .before in
+    let if2 = by-if2 .if2 in
+    let if1 = by-if2 .before .before .if1 in
+    rw (ne-eqb _ _ (if1 .left), ne-eqb _ _ (if2 .left), eq-eqb _ _ (if3 .taken)) (c .positional-code .ensures)
 
 returns-4 : tie.Need-returns-4
 unfolding leafCode if_then_else_
-returns-4 c = rw (ne-eqb _ _ (c .before .before .before .before .if1 .left), ne-eqb _ _ (c .before .before .if2 .left), ne-eqb _ _ (c .if3 .left))
+returns-4 c =
+    let by-if2 = c .before .before in
+    let if2 = by-if2 .if2 in
+    let if1 = by-if2 .before .before .if1 in
+    rw (ne-eqb _ _ (if1 .left), ne-eqb _ _ (if2 .left), ne-eqb _ _ (c .if3 .left))
 
 pub leaf-code-spec : {M : Type 1} → statement M
 leaf-code-spec =

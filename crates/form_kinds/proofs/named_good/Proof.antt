@@ -15,14 +15,24 @@ unused-requires c κs = search needs
 
 returns-2 : tie.Need-returns-2
 unfolding namedGood
-returns-2 c = rw (le-leb _ _ (c .before .before .if1 .left), ← of-lo-hi _ 0 0 _ _ (c .before .unused .ensures), not-true (c .before .unused .result) (c .if2 .taken))
+returns-2 c =
+    let by-unused = c .before in
+    let unused = by-unused .unused in
+    let if1 = by-unused .before .if1 in
+    rw (le-leb _ _ (if1 .left), ← of-lo-hi _ 0 0 _ _ (unused .ensures), not-true (unused .result) (c .if2 .taken))
 
 names-good-requires : tie.Need-names-good-requires
 names-good-requires c κs = search needs
 
 returns-3 : tie.Need-returns-3
 unfolding namedGood
-returns-3 c = rw (le-leb _ _ (c .before .before .before .if1 .left), ← of-lo-hi _ 0 0 _ _ (c .before .before .unused .ensures), not-false (c .before .before .unused .result) (c .before .if2 .left)) (c .names-good .ensures)
+returns-3 c =
+    let by-if2 = c .before in
+    let if2 = by-if2 .if2 in
+    let by-unused = by-if2 .before in
+    let unused = by-unused .unused in
+    let if1 = by-unused .before .if1 in
+    rw (le-leb _ _ (if1 .left), ← of-lo-hi _ 0 0 _ _ (unused .ensures), not-false (unused .result) (if2 .left)) (c .names-good .ensures)
 
 pub named-good-spec : {M : Type 1} → statement M
 named-good-spec =

@@ -29,13 +29,31 @@ loop-holds : tie.Need-loop-holds Inv-loop μ-loop
 loop-holds c = search typed-first
 
 add-name-at : tie.Need-add-name-at Inv-loop μ-loop
-add-name-at c = omega (arith, c .before .loop .inv .inside, names-length (c .before .before .before .before .before .before .before .args .b .now), sized _ (c .before .before .before .before .before .before .before .pre))
+add-name-at c =
+    let by-loop = c .before in
+    let loop = by-loop .loop in
+    let by-args = by-loop .before .before .before .before .before .before in
+    let args = by-args .args in
+    let pre = by-args .pre in
+    omega (arith, loop .inv .inside, names-length (args .b .now), sized _ pre)
 
 name-at-requires : tie.Need-name-at-requires Inv-loop μ-loop
-name-at-requires c κs = (c .before .before .before .before .before .before .before .pre, omega (arith, c .before .loop .inv .inside, names-length (c .before .before .before .before .before .before .before .args .b .now)))
+name-at-requires c κs =
+    let by-loop = c .before in
+    let loop = by-loop .loop in
+    let by-args = by-loop .before .before .before .before .before .before in
+    let args = by-args .args in
+    let pre = by-args .pre in
+    (pre, omega (arith, loop .inv .inside, names-length (args .b .now)))
 
 returns-4 : tie.Need-returns-4 Inv-loop μ-loop
-returns-4 c = typed-bad _ _ _ _ (c .before .before .before .before .loop .inv) (c .before .before .before .loop-test .taken) _ (c .before .before .name-at .ensures) _ refl refl (c .if4 .taken)
+returns-4 c =
+    let by-name-at = c .before .before in
+    let name-at = by-name-at .name-at in
+    let by-loop-test = by-name-at .before in
+    let loop-test = by-loop-test .loop-test in
+    let loop = by-loop-test .before .loop in
+    typed-bad _ _ _ _ (loop .inv) (loop-test .taken) _ (name-at .ensures) _ refl refl (c .if4 .taken)
 
 add-i : tie.Need-add-i Inv-loop μ-loop
 add-i c = omega arith

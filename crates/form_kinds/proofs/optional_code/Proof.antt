@@ -26,11 +26,23 @@ add-result-2 c = search needs
 
 returns-4 : tie.Need-returns-4
 unfolding optionalCode if_then_else_
-returns-4 c = rw (ne-eqb _ _ (c .before .before .before .if1 .left), lt-leb _ _ (c .before .before .if2 .left), le-ltb _ _ (c .before .if3 .left), le-leb _ _ (c .if4 .taken))
+returns-4 c =
+    let by-if3 = c .before in
+    let if3 = by-if3 .if3 in
+    let by-if2 = by-if3 .before in
+    let if2 = by-if2 .if2 in
+    let if1 = by-if2 .before .if1 in
+    rw (ne-eqb _ _ (if1 .left), lt-leb _ _ (if2 .left), le-ltb _ _ (if3 .left), le-leb _ _ (c .if4 .taken))
 
 returns-5 : tie.Need-returns-5
 unfolding optionalCode if_then_else_
-returns-5 c = rw (ne-eqb _ _ (c .before .before .before .if1 .left), lt-leb _ _ (c .before .before .if2 .left), le-ltb _ _ (c .before .if3 .left), lt-leb _ _ (c .if4 .left))
+returns-5 c =
+    let by-if3 = c .before in
+    let if3 = by-if3 .if3 in
+    let by-if2 = by-if3 .before in
+    let if2 = by-if2 .if2 in
+    let if1 = by-if2 .before .if1 in
+    rw (ne-eqb _ _ (if1 .left), lt-leb _ _ (if2 .left), le-ltb _ _ (if3 .left), lt-leb _ _ (c .if4 .left))
 
 pub optional-code-spec : {M : Type 1} → statement M
 optional-code-spec =

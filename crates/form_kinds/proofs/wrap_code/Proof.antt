@@ -18,14 +18,26 @@ optional-code-requires c κs = search needs
 
 returns-2 : tie.Need-returns-2
 unfolding wrapCode if_then_else_
-returns-2 c = rw (← c .before .before .before .before .child-good .ensures, not-false (c .before .before .before .before .child-good .result) (c .before .before .before .if1 .left), eq-eqb _ _ (c .before .if2 .taken)) (c .optional-code .ensures)
+returns-2 c =
+    let by-if2 = c .before in
+    let if2 = by-if2 .if2 in
+    let by-if1 = by-if2 .before .before in
+    let if1 = by-if1 .if1 in
+    let child-good = by-if1 .before .child-good in
+    rw (← child-good .ensures, not-false (child-good .result) (if1 .left), eq-eqb _ _ (if2 .taken)) (c .optional-code .ensures)
 
 repeat-code-requires : tie.Need-repeat-code-requires
 repeat-code-requires c κs = search needs
 
 returns-3 : tie.Need-returns-3
 unfolding wrapCode if_then_else_
-returns-3 c = rw (← c .before .before .before .before .child-good .ensures, not-false (c .before .before .before .before .child-good .result) (c .before .before .before .if1 .left), ne-eqb _ _ (c .before .if2 .left)) (c .repeat-code .ensures)
+returns-3 c =
+    let by-if2 = c .before in
+    let if2 = by-if2 .if2 in
+    let by-if1 = by-if2 .before .before in
+    let if1 = by-if1 .if1 in
+    let child-good = by-if1 .before .child-good in
+    rw (← child-good .ensures, not-false (child-good .result) (if1 .left), ne-eqb _ _ (if2 .left)) (c .repeat-code .ensures)
 
 pub wrap-code-spec : {M : Type 1} → statement M
 wrap-code-spec =

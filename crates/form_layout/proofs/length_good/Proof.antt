@@ -20,7 +20,11 @@ area-length-requires : tie.Need-area-length-requires
 area-length-requires c κs = counted _ (sym (c .before .before .counts-good .ensures) ∙ not-false _ (c .before .if1 .left)) .long
 
 add-result : tie.Need-add-result
-add-result c = omega (arith, counted _ (sym (c .before .before .before .counts-good .ensures) ∙ not-false _ (c .before .before .if1 .left)))
+add-result c =
+    let by-if1 = c .before .before in
+    let if1 = by-if1 .if1 in
+    let counts-good = by-if1 .before .counts-good in
+    omega (arith, counted _ (sym (counts-good .ensures) ∙ not-false _ (if1 .left)))
 
 returns-2 : tie.Need-returns-2
 returns-2 c = search length-test

@@ -19,10 +19,20 @@ part-record-at-end : tie.Need-part-record-at-end
 part-record-at-end c = search needs
 
 record-at-requires : tie.Need-record-at-requires
-record-at-requires c κs = omega (arith, length-drop (c .before .names-at .result) (c .before .before .before .args .b .now), sized _ (c .before .before .before .pre .0))
+record-at-requires c κs =
+    let by-names-at = c .before in
+    let names-at = by-names-at .names-at in
+    let by-args = by-names-at .before .before in
+    let args = by-args .args in
+    let pre = by-args .pre in
+    omega (arith, length-drop (names-at .result) (args .b .now), sized _ (pre .0))
 
 returns : tie.Need-returns
-returns c = name-there _ _ _ _ (c .before .before .before .before .pre .1) (c .before .before .names-at .ensures) (c .record-at .ensures)
+returns c =
+    let by-names-at = c .before .before in
+    let names-at = by-names-at .names-at in
+    let pre = by-names-at .before .before .pre in
+    name-there _ _ _ _ (pre .1) (names-at .ensures) (c .record-at .ensures)
 
 pub name-at-spec : {M : Type 1} → statement M
 name-at-spec =

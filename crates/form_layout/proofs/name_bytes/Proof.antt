@@ -21,10 +21,22 @@ part-bytes-end : tie.Need-part-bytes-end
 part-bytes-end c = search needs
 
 bytes-requires : tie.Need-bytes-requires
-bytes-requires c κs = name-fits _ _ (c .before .before .before .before .pre) _ (c .before .before .name-at .ensures) _ (c .before .area-at .ensures)
+bytes-requires c κs =
+    let by-area-at = c .before in
+    let area-at = by-area-at .area-at in
+    let by-name-at = by-area-at .before in
+    let name-at = by-name-at .name-at in
+    let pre = by-name-at .before .before .pre in
+    name-fits _ _ pre _ (name-at .ensures) _ (area-at .ensures)
 
 returns : tie.Need-returns
-returns c = bytes-there _ _ (c .before .before .before .before .before .pre) _ (c .before .before .before .name-at .ensures) _ (c .before .before .area-at .ensures) _ (c .bytes .ensures)
+returns c =
+    let by-area-at = c .before .before in
+    let area-at = by-area-at .area-at in
+    let by-name-at = by-area-at .before in
+    let name-at = by-name-at .name-at in
+    let pre = by-name-at .before .before .pre in
+    bytes-there _ _ pre _ (name-at .ensures) _ (area-at .ensures) _ (c .bytes .ensures)
 
 pub name-bytes-spec : {M : Type 1} → statement M
 name-bytes-spec =

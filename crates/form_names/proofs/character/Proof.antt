@@ -32,7 +32,11 @@ returns-2 : tie.Need-returns-2
 returns-2 c = search character-bad
 
 add-result-2 : tie.Need-add-result-2
-add-result-2 c = omega (arith, character _ _ _ _ (sym (c .before .before .before .before .decode-at .ensures) ∙ c .before .before .d .given .1))
+add-result-2 c =
+    let by-d = c .before .before in
+    let d = by-d .d in
+    let decode-at = by-d .before .before .decode-at in
+    omega (arith, character _ _ _ _ (sym (decode-at .ensures) ∙ d .given .1))
 
 returns-3 : tie.Need-returns-3
 returns-3 c = search character-one

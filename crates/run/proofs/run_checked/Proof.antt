@@ -34,25 +34,75 @@ same-length : tie.Need-same-length
 same-length c = search needs
 
 same-length-2 : tie.Need-same-length-2
-same-length-2 c = fill-long _ (c .before .before .before .before .before .before .before .before .before .before .before .before .before .before .before .before .before .before .before .before .before .before .args .answers .now) 0 (length (c .before .before .before .before .before .before .before .before .before .before .before .before .before .before .before .before .before .before .before .before .before .before .args .answers .now)) (c .before .before .before .before .before .before .before .before .before .before .before .before .before .before .before .before .fill .ensures)
+same-length-2 c =
+    let by-fill = c .before .before .before .before .before .before .before .before .before .before .before .before .before .before .before .before in
+    let fill = by-fill .fill in
+    let args = by-fill .before .before .before .before .before .before .args in
+    fill-long _ (args .answers .now) 0 (length (args .answers .now)) (fill .ensures)
 
 returns : tie.Need-returns
-returns c = splitting-refused _ _ _ _ (c .before .before .before .before .before .before .before .before .before .before .before .before .before .before .before .before .before .before .before .before .before .before .pre .0) _ (c .before .before .before .before .before .before .before .before .before .before .before .before .before .before .before .before .fill .ensures) _ _ (c .before .before .before .before .before .before .before .split-accepted .ensures) _ _ (c .before .before .before .begin .ensures) (c .before .if1 .taken) _ (c .refused .ensures)
+returns c =
+    let by-if1 = c .before in
+    let if1 = by-if1 .if1 in
+    let by-begin = by-if1 .before .before in
+    let begin = by-begin .begin in
+    let by-split-accepted = by-begin .before .before .before .before in
+    let split-accepted = by-split-accepted .split-accepted in
+    let by-fill = by-split-accepted .before .before .before .before .before .before .before .before .before in
+    let fill = by-fill .fill in
+    let pre = by-fill .before .before .before .before .before .before .pre in
+    splitting-refused _ _ _ _ (pre .0) _ (fill .ensures) _ _ (split-accepted .ensures) _ _ (begin .ensures) (if1 .taken) _ (c .refused .ensures)
 
 slice-aggregate-run-items : tie.Need-slice-aggregate-run-items
 slice-aggregate-run-items c = search needs
 
 run-items-requires : tie.Need-run-items-requires
-run-items-requires c κs = fields-start _ _ _ _ (c .before .before .before .before .before .before .before .before .before .before .before .before .before .before .before .before .before .before .before .before .before .before .before .before .before .pre .0) _ (c .before .before .before .before .before .before .before .before .before .before .before .before .before .before .before .before .before .before .before .fill .ensures) _ _ (c .before .before .before .before .before .before .before .before .before .before .split-accepted .ensures) _ _ (c .before .before .before .before .before .before .begin .ensures) (c .before .before .before .before .if1 .left) _ (c .before .before .before .before .before .before .before .before .before .before .before .before .before .before .codes2 .ensures .coded)
+run-items-requires c κs =
+    let by-if1 = c .before .before .before .before in
+    let if1 = by-if1 .if1 in
+    let by-begin = by-if1 .before .before in
+    let begin = by-begin .begin in
+    let by-split-accepted = by-begin .before .before .before .before in
+    let split-accepted = by-split-accepted .split-accepted in
+    let by-codes2 = by-split-accepted .before .before .before .before in
+    let codes2 = by-codes2 .codes2 in
+    let by-fill = by-codes2 .before .before .before .before .before in
+    let fill = by-fill .fill in
+    let pre = by-fill .before .before .before .before .before .before .pre in
+    fields-start _ _ _ _ (pre .0) _ (fill .ensures) _ _ (split-accepted .ensures) _ _ (begin .ensures) (if1 .left) _ (codes2 .ensures .coded)
 
 same-length-3 : tie.Need-same-length-3
 same-length-3 c = search needs
 
 same-length-4 : tie.Need-same-length-4
-same-length-4 c = fields-long _ _ _ _ (c .before .before .before .before .before .before .before .before .before .before .before .before .before .before .before .before .before .before .before .before .before .before .before .before .before .before .before .before .pre .0) _ (c .before .before .before .before .before .before .before .before .before .before .before .before .before .before .before .before .before .before .before .before .before .before .fill .ensures) _ _ (c .before .before .before .before .before .before .before .before .before .before .before .before .before .split-accepted .ensures) _ _ (c .before .before .before .before .before .before .before .before .before .begin .ensures) (c .before .before .before .before .before .before .before .if1 .left) _ _ _ (c .before .before .run-items .ensures)
+same-length-4 c =
+    let by-run-items = c .before .before in
+    let run-items = by-run-items .run-items in
+    let by-if1 = by-run-items .before .before .before .before .before in
+    let if1 = by-if1 .if1 in
+    let by-begin = by-if1 .before .before in
+    let begin = by-begin .begin in
+    let by-split-accepted = by-begin .before .before .before .before in
+    let split-accepted = by-split-accepted .split-accepted in
+    let by-fill = by-split-accepted .before .before .before .before .before .before .before .before .before in
+    let fill = by-fill .fill in
+    let pre = by-fill .before .before .before .before .before .before .pre in
+    fields-long _ _ _ _ (pre .0) _ (fill .ensures) _ _ (split-accepted .ensures) _ _ (begin .ensures) (if1 .left) _ _ _ (run-items .ensures)
 
 returns-2 : tie.Need-returns-2
-returns-2 c = fields-end _ _ _ _ (c .before .before .before .before .before .before .before .before .before .before .before .before .before .before .before .before .before .before .before .before .before .before .before .before .before .before .before .before .pre .0) _ (c .before .before .before .before .before .before .before .before .before .before .before .before .before .before .before .before .before .before .before .before .before .before .fill .ensures) _ _ (c .before .before .before .before .before .before .before .before .before .before .before .before .before .split-accepted .ensures) _ _ (c .before .before .before .before .before .before .before .before .before .begin .ensures) (c .before .before .before .before .before .before .before .if1 .left) _ _ _ (c .before .before .run-items .ensures)
+returns-2 c =
+    let by-run-items = c .before .before in
+    let run-items = by-run-items .run-items in
+    let by-if1 = by-run-items .before .before .before .before .before in
+    let if1 = by-if1 .if1 in
+    let by-begin = by-if1 .before .before in
+    let begin = by-begin .begin in
+    let by-split-accepted = by-begin .before .before .before .before in
+    let split-accepted = by-split-accepted .split-accepted in
+    let by-fill = by-split-accepted .before .before .before .before .before .before .before .before .before in
+    let fill = by-fill .fill in
+    let pre = by-fill .before .before .before .before .before .before .pre in
+    fields-end _ _ _ _ (pre .0) _ (fill .ensures) _ _ (split-accepted .ensures) _ _ (begin .ensures) (if1 .left) _ _ _ (run-items .ensures)
 
 pub run-checked-spec : {M : Type 1} → statement M
 run-checked-spec =

@@ -17,7 +17,15 @@ same-length-2 : tie.Need-same-length-2
 same-length-2 c = search needs
 
 returns : tie.Need-returns
-returns c = form-refused _ _ _ _ _ (c .before .before .before .before .before .before .before .before .before .check .ensures) (c .before .before .before .before .before .before .before .if1 .taken) _ (unmarked-answer _ _ _ _ _ (c .before .before .before .before .before .before .before .before .before .before .before .before .before .before .pre) (c .before .before .before .before .refused-input .ensures))
+returns c =
+    let by-refused-input = c .before .before .before .before in
+    let refused-input = by-refused-input .refused-input in
+    let by-if1 = by-refused-input .before .before .before in
+    let if1 = by-if1 .if1 in
+    let by-check = by-if1 .before .before in
+    let check = by-check .check in
+    let pre = by-check .before .before .before .before .before .pre in
+    form-refused _ _ _ _ _ (check .ensures) (if1 .taken) _ (unmarked-answer _ _ _ _ _ pre (refused-input .ensures))
 
 check-requires-2 : tie.Need-check-requires-2
 check-requires-2 c κs = search needs
@@ -32,7 +40,19 @@ same-length-4 : tie.Need-same-length-4
 same-length-4 c = search needs
 
 returns-2 : tie.Need-returns-2
-returns-2 c = sheet-refused _ _ _ _ _ (c .before .before .before .before .before .before .before .before .before .before .before .check .ensures) (c .before .before .before .before .before .before .before .before .before .if1 .left) _ (c .before .before .before .before .before .before .before .before .check2 .ensures) (c .before .before .before .before .before .before .before .if2 .taken) _ (unmarked-answer _ _ _ _ _ (c .before .before .before .before .before .before .before .before .before .before .before .before .before .before .before .before .pre) (c .before .before .before .before .refused-input2 .ensures))
+returns-2 c =
+    let by-refused-input2 = c .before .before .before .before in
+    let refused-input2 = by-refused-input2 .refused-input2 in
+    let by-if2 = by-refused-input2 .before .before .before in
+    let if2 = by-if2 .if2 in
+    let by-check2 = by-if2 .before in
+    let check2 = by-check2 .check2 in
+    let by-if1 = by-check2 .before in
+    let if1 = by-if1 .if1 in
+    let by-check = by-if1 .before .before in
+    let check = by-check .check in
+    let pre = by-check .before .before .before .before .before .pre in
+    sheet-refused _ _ _ _ _ (check .ensures) (if1 .left) _ (check2 .ensures) (if2 .taken) _ (unmarked-answer _ _ _ _ _ pre (refused-input2 .ensures))
 
 is-short-requires : tie.Need-is-short-requires
 is-short-requires c κs = search needs
@@ -47,10 +67,41 @@ same-length-6 : tie.Need-same-length-6
 same-length-6 c = search needs
 
 returns-3 : tie.Need-returns-3
-returns-3 c = slices-refused _ _ _ _ _ (c .before .before .before .before .before .before .before .before .before .before .before .before .before .check .ensures) (c .before .before .before .before .before .before .before .before .before .before .before .if1 .left) _ (c .before .before .before .before .before .before .before .before .before .before .check2 .ensures) (c .before .before .before .before .before .before .before .before .before .if2 .left) _ (c .before .before .before .before .before .before .before .before .is-short .ensures) (c .before .before .before .before .before .before .before .if3 .taken) _ (unmarked-answer _ _ _ _ _ (c .before .before .before .before .before .before .before .before .before .before .before .before .before .before .before .before .before .before .pre) (c .before .before .before .before .refused-input3 .ensures))
+returns-3 c =
+    let by-refused-input3 = c .before .before .before .before in
+    let refused-input3 = by-refused-input3 .refused-input3 in
+    let by-if3 = by-refused-input3 .before .before .before in
+    let if3 = by-if3 .if3 in
+    let by-is-short = by-if3 .before in
+    let is-short = by-is-short .is-short in
+    let by-if2 = by-is-short .before in
+    let if2 = by-if2 .if2 in
+    let by-check2 = by-if2 .before in
+    let check2 = by-check2 .check2 in
+    let by-if1 = by-check2 .before in
+    let if1 = by-if1 .if1 in
+    let by-check = by-if1 .before .before in
+    let check = by-check .check in
+    let pre = by-check .before .before .before .before .before .pre in
+    slices-refused _ _ _ _ _ (check .ensures) (if1 .left) _ (check2 .ensures) (if2 .left) _ (is-short .ensures) (if3 .taken) _
+    (unmarked-answer _ _ _ _ _ pre (refused-input3 .ensures))
 
 run-checked-requires : tie.Need-run-checked-requires
-run-checked-requires c κs = (all-checked _ _ _ _ _ (c .before .before .before .before .before .before .before .before .before .check .ensures) (c .before .before .before .before .before .before .before .if1 .left) _ (c .before .before .before .before .before .before .check2 .ensures) (c .before .before .before .before .before .if2 .left) _ (c .before .before .before .before .is-short .ensures) (c .before .before .before .if3 .left) _ _ refl refl, c .before .before .before .before .before .before .before .before .before .before .before .before .before .before .pre)
+run-checked-requires c κs =
+    let by-if3 = c .before .before .before in
+    let if3 = by-if3 .if3 in
+    let by-is-short = by-if3 .before in
+    let is-short = by-is-short .is-short in
+    let by-if2 = by-is-short .before in
+    let if2 = by-if2 .if2 in
+    let by-check2 = by-if2 .before in
+    let check2 = by-check2 .check2 in
+    let by-if1 = by-check2 .before in
+    let if1 = by-if1 .if1 in
+    let by-check = by-if1 .before .before in
+    let check = by-check .check in
+    let pre = by-check .before .before .before .before .before .pre in
+    (all-checked _ _ _ _ _ (check .ensures) (if1 .left) _ (check2 .ensures) (if2 .left) _ (is-short .ensures) (if3 .left) _ _ refl refl, pre)
 
 same-length-7 : tie.Need-same-length-7
 same-length-7 c = search needs

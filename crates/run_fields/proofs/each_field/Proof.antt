@@ -5,7 +5,8 @@ use borrow.Author.Needs.{needs}
 use Rattle.rules.specs.Accept.{Accepted, accepted, checkForm}
 use Rattle.rules.specs.Sheet.{sheetArea}
 use Rattle.run_fields.proofs.Fields.{few-fields}
-use Rattle.run_fields.proofs.Going.{Going, starts-long, starts-good, going-first, going-field, going-tries, going-at, going-most, going-long, long-refused, going-refused, going-next, going-end}
+use Rattle.run_fields.proofs.Going.{Going, starts-long, starts-good, going-first, going-field, going-tries, going-at, going-most, going-long, long-refused, going-refused, going-next}
+use Rattle.run_fields.proofs.Going.{going-end}
 use Rattle.run_fields.proofs.each_field.Statement.{statement}
 use Rattle.run_fields.proofs.each_field.Tie as tie
 
@@ -17,19 +18,53 @@ abbrev μ-loop : tie.MeasureT-loop
 μ-loop form known sheet items marks₀ out₀ mark n s₀ tries₀ at₀ k₀ marks out s tries at k = n - k
 
 field-count-requires : tie.Need-field-count-requires Inv-loop μ-loop
-field-count-requires c κs = starts-long _ _ _ _ _ _ _ _ (c .before .before .before .before .before .pre)
+field-count-requires c κs =
+    let pre = c .before .before .before .before .before .pre in
+    starts-long _ _ _ _ _ _ _ _ pre
 
 loop-holds : tie.Need-loop-holds Inv-loop μ-loop
-loop-holds c = λ a e. going-first _ _ _ _ _ _ _ _ (c .before .before .before .before .before .before .pre) a e
+loop-holds c =
+    let pre = c .before .before .before .before .before .before .pre in
+    λ a e. going-first _ _ _ _ _ _ _ _ pre a e
 
 field-at-requires : tie.Need-field-at-requires Inv-loop μ-loop
-field-at-requires c κs = (starts-good _ _ _ _ _ _ _ _ (c .before .before .before .before .before .before .before .before .pre), omega (arith, c .before .before .field-count .ensures, c .loop-test .taken))
+field-at-requires c κs =
+    let by-field-count = c .before .before in
+    let field-count = by-field-count .field-count in
+    let pre = by-field-count .before .before .before .before .before .before .pre in
+    (starts-good _ _ _ _ _ _ _ _ pre, omega (arith, field-count .ensures, c .loop-test .taken))
 
 run-field-requires : tie.Need-run-field-requires Inv-loop μ-loop
-run-field-requires c κs = going-field _ _ _ _ _ _ _ _ (c .before .before .before .before .before .before .before .before .before .before .before .pre) (c .before .before .before .before .before .before .before .before .before .before .before .pre .result) (c .before .before .before .before .before .before .before .before .before .before .before .pre .accepts) _ _ _ _ _ _ (c .before .before .before .before .loop .inv (c .before .before .before .before .before .before .before .before .before .before .before .pre .result) (c .before .before .before .before .before .before .before .before .before .before .before .pre .accepts)) _ (c .before .before .before .before .before .field-count .ensures) (c .before .before .before .loop-test .taken) _ (c .before .before .field-at .ensures)
+run-field-requires c κs =
+    let by-field-at = c .before .before in
+    let field-at = by-field-at .field-at in
+    let by-loop-test = by-field-at .before in
+    let loop-test = by-loop-test .loop-test in
+    let by-loop = by-loop-test .before in
+    let loop = by-loop .loop in
+    let by-field-count = by-loop .before in
+    let field-count = by-field-count .field-count in
+    let pre = by-field-count .before .before .before .before .before .before .pre in
+    going-field _ _ _ _ _ _ _ _ pre (pre .result) (pre .accepts) _ _ _ _ _ _ (loop .inv (pre .result) (pre .accepts)) _ (field-count .ensures)
+    (loop-test .taken) _ (field-at .ensures)
 
 add-tries : tie.Need-add-tries Inv-loop μ-loop
-add-tries c = record { fits = going-tries _ _ _ _ _ _ _ _ (c .before .before .before .before .before .before .before .before .before .before .before .before .before .before .before .before .pre) (c .before .before .before .before .before .before .before .before .before .before .before .before .before .before .before .before .pre .result) (c .before .before .before .before .before .before .before .before .before .before .before .before .before .before .before .before .pre .accepts) _ _ _ _ _ _ (c .before .before .before .before .before .before .before .before .before .loop .inv (c .before .before .before .before .before .before .before .before .before .before .before .before .before .before .before .before .pre .result) (c .before .before .before .before .before .before .before .before .before .before .before .before .before .before .before .before .pre .accepts)) _ (c .before .before .before .before .before .before .before .before .before .before .field-count .ensures) (c .before .before .before .before .before .before .before .before .loop-test .taken) _ (c .before .before .before .before .before .before .before .field-at .ensures) _ _ _ (c .before .before .before .before .run-field .ensures) _ refl }
+add-tries c =
+    let by-run-field = c .before .before .before .before in
+    let run-field = by-run-field .run-field in
+    let by-field-at = by-run-field .before .before .before in
+    let field-at = by-field-at .field-at in
+    let by-loop-test = by-field-at .before in
+    let loop-test = by-loop-test .loop-test in
+    let by-loop = by-loop-test .before in
+    let loop = by-loop .loop in
+    let by-field-count = by-loop .before in
+    let field-count = by-field-count .field-count in
+    let pre = by-field-count .before .before .before .before .before .before .pre in
+    record {
+      fits = going-tries _ _ _ _ _ _ _ _ pre (pre .result) (pre .accepts) _ _ _ _ _ _ (loop .inv (pre .result) (pre .accepts)) _
+          (field-count .ensures) (loop-test .taken) _ (field-at .ensures) _ _ _ (run-field .ensures) _ refl;
+    }
 
 fill-requires : tie.Need-fill-requires Inv-loop μ-loop
 fill-requires c κs = search needs
@@ -38,34 +73,118 @@ refused-requires : tie.Need-refused-requires Inv-loop μ-loop
 refused-requires c κs = search needs
 
 same-length : tie.Need-same-length Inv-loop μ-loop
-same-length c = long-refused _ _ _ _ _ _ _ _ (c .before .before .before .before .before .before .before .before .before .before .before .before .before .before .before .before .before .before .before .before .before .before .before .pre) (c .before .before .before .before .before .before .before .before .before .before .before .before .before .before .before .before .before .before .before .before .before .before .before .pre .result) (c .before .before .before .before .before .before .before .before .before .before .before .before .before .before .before .before .before .before .before .before .before .before .before .pre .accepts) _ _ _ _ _ _ (c .before .before .before .before .before .before .before .before .before .before .before .before .before .before .before .before .loop .inv (c .before .before .before .before .before .before .before .before .before .before .before .before .before .before .before .before .before .before .before .before .before .before .before .pre .result) (c .before .before .before .before .before .before .before .before .before .before .before .before .before .before .before .before .before .before .before .before .before .before .before .pre .accepts)) _ (c .before .before .before .before .before .before .before .before .before .before .before .before .before .before .before .before .before .field-count .ensures) (c .before .before .before .before .before .before .before .before .before .before .before .before .before .before .before .loop-test .taken) _ (c .before .before .before .before .before .before .before .before .before .before .before .before .before .before .field-at .ensures) _ _ _ (c .before .before .before .before .before .before .before .before .before .before .before .run-field .ensures) _ (c .before .before .before .fill .ensures)
+same-length c =
+    let by-fill = c .before .before .before in
+    let fill = by-fill .fill in
+    let by-run-field = by-fill .before .before .before .before .before .before .before .before in
+    let run-field = by-run-field .run-field in
+    let by-field-at = by-run-field .before .before .before in
+    let field-at = by-field-at .field-at in
+    let by-loop-test = by-field-at .before in
+    let loop-test = by-loop-test .loop-test in
+    let by-loop = by-loop-test .before in
+    let loop = by-loop .loop in
+    let by-field-count = by-loop .before in
+    let field-count = by-field-count .field-count in
+    let pre = by-field-count .before .before .before .before .before .before .pre in
+    long-refused _ _ _ _ _ _ _ _ pre (pre .result) (pre .accepts) _ _ _ _ _ _ (loop .inv (pre .result) (pre .accepts)) _ (field-count .ensures)
+    (loop-test .taken) _ (field-at .ensures) _ _ _ (run-field .ensures) _ (fill .ensures)
 
 returns : tie.Need-returns Inv-loop μ-loop
-returns c = λ a e. going-refused _ _ _ _ _ _ _ _ (c .before .before .before .before .before .before .before .before .before .before .before .before .before .before .before .before .before .before .before .before .before .before .before .pre) a e _ _ _ _ _ _ (c .before .before .before .before .before .before .before .before .before .before .before .before .before .before .before .before .loop .inv a e) _ (c .before .before .before .before .before .before .before .before .before .before .before .before .before .before .before .before .before .field-count .ensures) (c .before .before .before .before .before .before .before .before .before .before .before .before .before .before .before .loop-test .taken) _ (c .before .before .before .before .before .before .before .before .before .before .before .before .before .before .field-at .ensures) _ _ _ (c .before .before .before .before .before .before .before .before .before .before .before .run-field .ensures) (c .before .before .before .before .before .if1 .taken) _ (c .before .before .before .fill .ensures) _ (c .refused .ensures)
+returns c =
+    let by-fill = c .before .before .before in
+    let fill = by-fill .fill in
+    let by-if1 = by-fill .before .before in
+    let if1 = by-if1 .if1 in
+    let by-run-field = by-if1 .before .before .before .before .before .before in
+    let run-field = by-run-field .run-field in
+    let by-field-at = by-run-field .before .before .before in
+    let field-at = by-field-at .field-at in
+    let by-loop-test = by-field-at .before in
+    let loop-test = by-loop-test .loop-test in
+    let by-loop = by-loop-test .before in
+    let loop = by-loop .loop in
+    let by-field-count = by-loop .before in
+    let field-count = by-field-count .field-count in
+    let pre = by-field-count .before .before .before .before .before .before .pre in
+    λ a e. going-refused _ _ _ _ _ _ _ _ pre a e _ _ _ _ _ _ (loop .inv a e) _ (field-count .ensures) (loop-test .taken) _ (field-at .ensures) _ _ _
+    (run-field .ensures) (if1 .taken) _ (fill .ensures) _ (c .refused .ensures)
 
 wide-requires : tie.Need-wide-requires Inv-loop μ-loop
 wide-requires c κs = search needs
 
 add-at : tie.Need-add-at Inv-loop μ-loop
-add-at c = record { fits = going-at _ _ _ _ _ _ _ _ (c .before .before .before .before .before .before .before .before .before .before .before .before .before .before .before .before .before .before .before .pre) (c .before .before .before .before .before .before .before .before .before .before .before .before .before .before .before .before .before .before .before .pre .result) (c .before .before .before .before .before .before .before .before .before .before .before .before .before .before .before .before .before .before .before .pre .accepts) _ _ _ _ _ _ (c .before .before .before .before .before .before .before .before .before .before .before .before .loop .inv (c .before .before .before .before .before .before .before .before .before .before .before .before .before .before .before .before .before .before .before .pre .result) (c .before .before .before .before .before .before .before .before .before .before .before .before .before .before .before .before .before .before .before .pre .accepts)) _ (c .before .before .before .before .before .before .before .before .before .before .before .before .before .field-count .ensures) (c .before .before .before .before .before .before .before .before .before .before .before .loop-test .taken) _ (c .before .before .before .before .before .before .before .before .before .before .field-at .ensures) _ _ _ (c .before .before .before .before .before .before .before .run-field .ensures) _ (c .wide .ensures) }
+add-at c =
+    let by-run-field = c .before .before .before .before .before .before .before in
+    let run-field = by-run-field .run-field in
+    let by-field-at = by-run-field .before .before .before in
+    let field-at = by-field-at .field-at in
+    let by-loop-test = by-field-at .before in
+    let loop-test = by-loop-test .loop-test in
+    let by-loop = by-loop-test .before in
+    let loop = by-loop .loop in
+    let by-field-count = by-loop .before in
+    let field-count = by-field-count .field-count in
+    let pre = by-field-count .before .before .before .before .before .before .pre in
+    record {
+      fits = going-at _ _ _ _ _ _ _ _ pre (pre .result) (pre .accepts) _ _ _ _ _ _ (loop .inv (pre .result) (pre .accepts)) _
+          (field-count .ensures) (loop-test .taken) _ (field-at .ensures) _ _ _ (run-field .ensures) _ (c .wide .ensures);
+    }
 
 add-k : tie.Need-add-k Inv-loop μ-loop
-add-k c = omega (arith, c .before .before .before .before .before .before .before .before .before .before .before .before .before .field-count .ensures, c .before .before .before .before .before .before .before .before .before .before .before .loop-test .taken, few-fields _ (c .before .before .before .before .before .before .before .before .before .before .before .before .before .before .before .before .before .before .before .pre .result) (c .before .before .before .before .before .before .before .before .before .before .before .before .before .before .before .before .before .before .before .pre .accepts))
+add-k c =
+    let by-loop-test = c .before .before .before .before .before .before .before .before .before .before .before in
+    let loop-test = by-loop-test .loop-test in
+    let by-field-count = by-loop-test .before .before in
+    let field-count = by-field-count .field-count in
+    let pre = by-field-count .before .before .before .before .before .before .pre in
+    omega (arith, field-count .ensures, loop-test .taken, few-fields _ (pre .result) (pre .accepts))
 
 loop-less : tie.Need-loop-less Inv-loop μ-loop
 loop-less c = search needs
 
 loop-again : tie.Need-loop-again Inv-loop μ-loop
-loop-again c = λ a e. going-next _ _ _ _ _ _ _ _ (c .before .before .before .before .before .before .before .before .before .before .before .before .before .before .before .before .before .before .before .pre) a e _ _ _ _ _ _ (c .before .before .before .before .before .before .before .before .before .before .before .before .loop .inv a e) _ (c .before .before .before .before .before .before .before .before .before .before .before .before .before .field-count .ensures) (c .before .before .before .before .before .before .before .before .before .before .before .loop-test .taken) _ (c .before .before .before .before .before .before .before .before .before .before .field-at .ensures) _ _ _ (c .before .before .before .before .before .before .before .run-field .ensures) (c .before .if1 .left) _ (c .wide .ensures)
+loop-again c =
+    let by-if1 = c .before in
+    let if1 = by-if1 .if1 in
+    let by-run-field = by-if1 .before .before .before .before .before .before in
+    let run-field = by-run-field .run-field in
+    let by-field-at = by-run-field .before .before .before in
+    let field-at = by-field-at .field-at in
+    let by-loop-test = by-field-at .before in
+    let loop-test = by-loop-test .loop-test in
+    let by-loop = by-loop-test .before in
+    let loop = by-loop .loop in
+    let by-field-count = by-loop .before in
+    let field-count = by-field-count .field-count in
+    let pre = by-field-count .before .before .before .before .before .before .pre in
+    λ a e. going-next _ _ _ _ _ _ _ _ pre a e _ _ _ _ _ _ (loop .inv a e) _ (field-count .ensures) (loop-test .taken) _ (field-at .ensures) _ _ _
+    (run-field .ensures) (if1 .left) _ (c .wide .ensures)
 
 answered-requires : tie.Need-answered-requires Inv-loop μ-loop
-answered-requires c κs = going-most _ _ _ _ _ _ _ _ (c .before .before .before .before .before .before .before .before .pre) (c .before .before .before .before .before .before .before .before .pre .result) (c .before .before .before .before .before .before .before .before .pre .accepts) _ _ _ _ _ _ (c .before .loop .inv (c .before .before .before .before .before .before .before .before .pre .result) (c .before .before .before .before .before .before .before .before .pre .accepts))
+answered-requires c κs =
+    let by-loop = c .before in
+    let loop = by-loop .loop in
+    let pre = by-loop .before .before .before .before .before .before .before .pre in
+    going-most _ _ _ _ _ _ _ _ pre (pre .result) (pre .accepts) _ _ _ _ _ _ (loop .inv (pre .result) (pre .accepts))
 
 same-length-2 : tie.Need-same-length-2 Inv-loop μ-loop
-same-length-2 c = going-long _ _ _ _ _ _ _ _ (c .before .before .before .before .before .before .before .before .before .pre) (c .before .before .before .before .before .before .before .before .before .pre .result) (c .before .before .before .before .before .before .before .before .before .pre .accepts) _ _ _ _ _ _ (c .before .before .loop .inv (c .before .before .before .before .before .before .before .before .before .pre .result) (c .before .before .before .before .before .before .before .before .before .pre .accepts))
+same-length-2 c =
+    let by-loop = c .before .before in
+    let loop = by-loop .loop in
+    let pre = by-loop .before .before .before .before .before .before .before .pre in
+    going-long _ _ _ _ _ _ _ _ pre (pre .result) (pre .accepts) _ _ _ _ _ _ (loop .inv (pre .result) (pre .accepts))
 
 returns-2 : tie.Need-returns-2 Inv-loop μ-loop
-returns-2 c = λ a e. going-end _ _ _ _ _ _ _ _ (c .before .before .before .before .before .before .before .before .before .pre) a e _ _ _ _ _ _ (c .before .before .loop .inv a e) _ (c .before .before .before .field-count .ensures) (c .before .loop-test .left) _ (c .answered .ensures)
+returns-2 c =
+    let by-loop-test = c .before in
+    let loop-test = by-loop-test .loop-test in
+    let by-loop = by-loop-test .before in
+    let loop = by-loop .loop in
+    let by-field-count = by-loop .before in
+    let field-count = by-field-count .field-count in
+    let pre = by-field-count .before .before .before .before .before .before .pre in
+    λ a e. going-end _ _ _ _ _ _ _ _ pre a e _ _ _ _ _ _ (loop .inv a e) _ (field-count .ensures) (loop-test .left) _ (c .answered .ensures)
 
 pub each-field-spec : {M : Type 1} → statement M
 each-field-spec =

@@ -25,13 +25,33 @@ loop-again : tie.Need-loop-again Inv-loop μ-loop
 loop-again c = walked-next _ _ _ (c .before .before .loop .inv) _ (c .before .node-at .ensures) (c .match .keys1)
 
 returns : tie.Need-returns Inv-loop μ-loop
-returns c = λ t h. let w = c .before .before .before .before .loop .inv in list-here _ _ _ (w .here) _ (c .before .before .before .node-at .ensures) _ refl (c .before .if1 .left) (c .if2 .taken) (c .before .before .match .rest .1) ∙ sym (w .same t h)
+returns c =
+    let by-if1 = c .before in
+    let if1 = by-if1 .if1 in
+    let by-match = by-if1 .before in
+    let match = by-match .match in
+    let by-node-at = by-match .before in
+    let node-at = by-node-at .node-at in
+    let loop = by-node-at .before .loop in
+    λ t h. let w = loop .inv in list-here _ _ _ (w .here) _ (node-at .ensures) _ refl (if1 .left) (c .if2 .taken) (match .rest .1) ∙ sym (w .same t h)
 
 returns-2 : tie.Need-returns-2 Inv-loop μ-loop
-returns-2 c = λ t h. let w = c .before .before .before .loop .inv in single-here _ _ _ (w .here) _ (c .before .before .node-at .ensures) _ refl (inl (c .if1 .taken)) (c .before .match .rest .1) ∙ sym (w .same t h)
+returns-2 c =
+    let by-match = c .before in
+    let match = by-match .match in
+    let by-node-at = by-match .before in
+    let node-at = by-node-at .node-at in
+    let loop = by-node-at .before .loop in
+    λ t h. let w = loop .inv in single-here _ _ _ (w .here) _ (node-at .ensures) _ refl (inl (c .if1 .taken)) (match .rest .1) ∙ sym (w .same t h)
 
 returns-3 : tie.Need-returns-3 Inv-loop μ-loop
-returns-3 c = λ t h. let w = c .before .before .before .before .loop .inv in single-here _ _ _ (w .here) _ (c .before .before .before .node-at .ensures) _ refl (inr (c .if2 .left)) (c .before .before .match .rest .1) ∙ sym (w .same t h)
+returns-3 c =
+    let by-match = c .before .before in
+    let match = by-match .match in
+    let by-node-at = by-match .before in
+    let node-at = by-node-at .node-at in
+    let loop = by-node-at .before .loop in
+    λ t h. let w = loop .inv in single-here _ _ _ (w .here) _ (node-at .ensures) _ refl (inr (c .if2 .left)) (match .rest .1) ∙ sym (w .same t h)
 
 pub is-list-spec : {M : Type 1} → statement M
 is-list-spec =

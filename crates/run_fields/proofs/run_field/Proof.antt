@@ -8,31 +8,97 @@ use Rattle.run_fields.proofs.run_field.Statement.{statement}
 use Rattle.run_fields.proofs.run_field.Tie as tie
 
 node-at-requires : tie.Need-node-at-requires
-node-at-requires c κs = (field-good _ _ _ _ _ _ _ _ _ _ (c .before .before .before .before .before .pre), field-inside _ _ _ _ _ _ _ _ _ _ (c .before .before .before .before .before .pre))
+node-at-requires c κs =
+    let pre = c .before .before .before .before .before .pre in
+    (field-good _ _ _ _ _ _ _ _ _ _ pre, field-inside _ _ _ _ _ _ _ _ _ _ pre)
 
 eval-flag-requires : tie.Need-eval-flag-requires
-eval-flag-requires c κs = flag-ready _ _ _ _ _ _ _ _ (field-leaf _ _ _ _ _ _ _ _ _ _ (c .before .before .before .before .before .before .before .before .before .before .pre) _ (c .before .before .before .before .node-at .ensures) (inl (c .before .before .if1 .taken))) _ (c .before .before .before .before .node-at .ensures)
+eval-flag-requires c κs =
+    let by-if1 = c .before .before in
+    let if1 = by-if1 .if1 in
+    let by-node-at = by-if1 .before .before in
+    let node-at = by-node-at .node-at in
+    let pre = by-node-at .before .before .before .before .before .before .pre in
+    flag-ready _ _ _ _ _ _ _ _ (field-leaf _ _ _ _ _ _ _ _ _ _ pre _ (node-at .ensures) (inl (if1 .taken))) _ (node-at .ensures)
 
 put-value-requires : tie.Need-put-value-requires
-put-value-requires c κs = omega (arith, c .before .before .before .before .before .before .before .before .before .before .before .before .pre .space .room)
+put-value-requires c κs =
+    let pre = c .before .before .before .before .before .before .before .before .before .before .before .before .pre in
+    omega (arith, pre .space .room)
 
 same-length : tie.Need-same-length
 same-length c = search needs
 
 returns : tie.Need-returns
-returns c = λ t h. field-put _ _ _ t _ _ _ _ _ _ _ _ (flag-node _ _ _ _ _ _ _ _ (field-leaf _ _ _ _ _ _ _ _ _ _ (c .before .before .before .before .before .before .before .before .before .before .before .before .before .before .before .pre) _ (c .before .before .before .before .before .before .before .before .before .node-at .ensures) (inl (c .before .before .before .before .before .before .before .if1 .taken))) _ (c .before .before .before .before .before .before .before .before .before .node-at .ensures) _ _ (c .before .before .before .before .before .before .before .if1 .taken) (c .before .before .before .before .eval-flag .ensures) t h) (c .before .before .put-value .ensures)
+returns c =
+    let by-put-value = c .before .before in
+    let put-value = by-put-value .put-value in
+    let by-eval-flag = by-put-value .before .before in
+    let eval-flag = by-eval-flag .eval-flag in
+    let by-if1 = by-eval-flag .before .before .before in
+    let if1 = by-if1 .if1 in
+    let by-node-at = by-if1 .before .before in
+    let node-at = by-node-at .node-at in
+    let pre = by-node-at .before .before .before .before .before .before .pre in
+    λ
+    t
+    h.
+    field-put
+    _
+    _
+    _
+    t
+    _
+    _
+    _
+    _
+    _
+    _
+    _
+    _
+    (flag-node _ _ _ _ _ _ _ _ (field-leaf _ _ _ _ _ _ _ _ _ _ pre _ (node-at .ensures) (inl (if1 .taken))) _ (node-at .ensures) _ _ (if1 .taken)
+    (eval-flag .ensures) t h) (put-value .ensures)
 
 eval-positional-requires : tie.Need-eval-positional-requires
 eval-positional-requires c κs = search needs
 
 put-value-requires-2 : tie.Need-put-value-requires-2
-put-value-requires-2 c κs = omega (arith, c .before .before .before .before .before .before .before .before .before .before .before .before .before .before .pre .space .room)
+put-value-requires-2 c κs =
+    let pre = c .before .before .before .before .before .before .before .before .before .before .before .before .before .before .pre in
+    omega (arith, pre .space .room)
 
 same-length-2 : tie.Need-same-length-2
 same-length-2 c = search needs
 
 returns-2 : tie.Need-returns-2
-returns-2 c = λ t h. field-put _ _ _ t _ _ _ _ _ _ _ _ (positional-says _ _ _ _ _ _ _ _ (field-leaf _ _ _ _ _ _ _ _ _ _ (c .before .before .before .before .before .before .before .before .before .before .before .before .before .before .before .before .before .pre) _ (c .before .before .before .before .before .before .before .before .before .before .before .node-at .ensures) (inr (c .before .before .before .before .before .before .before .if2 .taken))) _ (c .before .before .before .before .before .before .before .before .before .before .before .node-at .ensures) _ _ (c .before .before .before .before .before .before .before .if2 .taken) (c .before .before .before .before .eval-positional .ensures) t h) (c .before .before .put-value2 .ensures)
+returns-2 c =
+    let by-put-value2 = c .before .before in
+    let put-value2 = by-put-value2 .put-value2 in
+    let by-eval-positional = by-put-value2 .before .before in
+    let eval-positional = by-eval-positional .eval-positional in
+    let by-if2 = by-eval-positional .before .before .before in
+    let if2 = by-if2 .if2 in
+    let by-node-at = by-if2 .before .before .before .before in
+    let node-at = by-node-at .node-at in
+    let pre = by-node-at .before .before .before .before .before .before .pre in
+    λ
+    t
+    h.
+    field-put
+    _
+    _
+    _
+    t
+    _
+    _
+    _
+    _
+    _
+    _
+    _
+    _
+    (positional-says _ _ _ _ _ _ _ _ (field-leaf _ _ _ _ _ _ _ _ _ _ pre _ (node-at .ensures) (inr (if2 .taken))) _ (node-at .ensures) _ _
+    (if2 .taken) (eval-positional .ensures) t h) (put-value2 .ensures)
 
 run-other-requires : tie.Need-run-other-requires
 run-other-requires c κs = search needs

@@ -11,7 +11,11 @@ same-length : tie.Need-same-length
 same-length c = search needs
 
 returns : tie.Need-returns
-returns c = λ a e. all-refused _ _ _ _ _ _ _ _ (c .before .before .before .before .before .before .before .before .before .before .before .before .pre) _ _ _ a e (c .before .before .before .before .each-field .ensures a e) (c .if1 .taken)
+returns c =
+    let by-each-field = c .before .before .before .before in
+    let each-field = by-each-field .each-field in
+    let pre = by-each-field .before .before .before .before .before .before .before .before .pre in
+    λ a e. all-refused _ _ _ _ _ _ _ _ pre _ _ _ a e (each-field .ensures a e) (c .if1 .taken)
 
 wide-requires : tie.Need-wide-requires
 wide-requires c κs = search needs
@@ -20,13 +24,31 @@ wide-requires-2 : tie.Need-wide-requires-2
 wide-requires-2 c κs = search needs
 
 first-present-requires : tie.Need-first-present-requires
-first-present-requires c κs = scope-order _ _ _ _ _ _ _ _ (c .before .before .before .before .before .before .before .before .before .before .before .before .before .before .before .before .before .pre) _ _ _ (c .before .before .before .before .before .before .before .before .before .before .before .before .before .before .before .before .before .pre .result) (c .before .before .before .before .before .before .before .before .before .before .before .before .before .before .before .before .before .pre .accepts) (c .before .before .before .before .before .before .before .before .before .each-field .ensures (c .before .before .before .before .before .before .before .before .before .before .before .before .before .before .before .before .before .pre .result) (c .before .before .before .before .before .before .before .before .before .before .before .before .before .before .before .before .before .pre .accepts)) _ _ (c .wide2 .ensures) (c .before .before .before .wide .ensures)
+first-present-requires c κs =
+    let by-wide = c .before .before .before in
+    let wide = by-wide .wide in
+    let by-each-field = by-wide .before .before .before .before .before .before in
+    let each-field = by-each-field .each-field in
+    let pre = by-each-field .before .before .before .before .before .before .before .before .pre in
+    scope-order _ _ _ _ _ _ _ _ pre _ _ _ (pre .result) (pre .accepts) (each-field .ensures (pre .result) (pre .accepts)) _ _ (c .wide2 .ensures)
+    (wide .ensures)
 
 same-length-2 : tie.Need-same-length-2
 same-length-2 c = search needs
 
 returns-2 : tie.Need-returns-2
-returns-2 c = λ a e. all-empty _ _ _ _ _ _ _ _ (c .before .before .before .before .before .before .before .before .before .before .before .before .before .before .before .before .before .before .before .pre) _ _ _ a e (c .before .before .before .before .before .before .before .before .before .before .before .each-field .ensures a e) _ _ _ (c .before .before .wide2 .ensures) (c .before .before .before .before .before .wide .ensures) (c .before .first-present .ensures) (c .if2 .taken)
+returns-2 c =
+    let by-first-present = c .before in
+    let first-present = by-first-present .first-present in
+    let by-wide2 = by-first-present .before in
+    let wide2 = by-wide2 .wide2 in
+    let by-wide = by-wide2 .before .before .before in
+    let wide = by-wide .wide in
+    let by-each-field = by-wide .before .before .before .before .before .before in
+    let each-field = by-each-field .each-field in
+    let pre = by-each-field .before .before .before .before .before .before .before .before .pre in
+    λ a e. all-empty _ _ _ _ _ _ _ _ pre _ _ _ a e (each-field .ensures a e) _ _ _ (wide2 .ensures) (wide .ensures) (first-present .ensures)
+    (c .if2 .taken)
 
 wide-requires-3 : tie.Need-wide-requires-3
 wide-requires-3 c κs = search needs
@@ -35,10 +57,32 @@ fill-requires : tie.Need-fill-requires
 fill-requires c κs = search needs
 
 cast-refused : tie.Need-cast-refused
-cast-refused c = let h = place-small _ _ _ _ _ _ _ _ (c .before .before .before .before .before .before .before .before .before .before .before .before .before .before .before .before .before .before .before .before .before .before .before .before .pre) _ _ _ (c .before .before .before .before .before .before .before .before .before .before .before .before .before .before .before .before .before .before .before .before .before .before .before .before .pre .result) (c .before .before .before .before .before .before .before .before .before .before .before .before .before .before .before .before .before .before .before .before .before .before .before .before .pre .accepts) (c .before .before .before .before .before .before .before .before .before .before .before .before .before .before .before .before .each-field .ensures (c .before .before .before .before .before .before .before .before .before .before .before .before .before .before .before .before .before .before .before .before .before .before .before .before .pre .result) (c .before .before .before .before .before .before .before .before .before .before .before .before .before .before .before .before .before .before .before .before .before .before .before .before .pre .accepts)) _ _ _ (c .before .before .before .before .before .before .before .wide2 .ensures) (c .before .before .before .before .before .before .before .before .before .before .wide .ensures) (c .before .before .before .before .before .before .first-present .ensures) in omega arith
+cast-refused c =
+    let by-first-present = c .before .before .before .before .before .before in
+    let first-present = by-first-present .first-present in
+    let by-wide2 = by-first-present .before in
+    let wide2 = by-wide2 .wide2 in
+    let by-wide = by-wide2 .before .before .before in
+    let wide = by-wide .wide in
+    let by-each-field = by-wide .before .before .before .before .before .before in
+    let each-field = by-each-field .each-field in
+    let pre = by-each-field .before .before .before .before .before .before .before .before .pre in
+    let h = place-small _ _ _ _ _ _ _ _ pre _ _ _ (pre .result) (pre .accepts) (each-field .ensures (pre .result) (pre .accepts)) _ _ _
+    (wide2 .ensures) (wide .ensures) (first-present .ensures) in omega arith
 
 add-refused : tie.Need-add-refused
-add-refused c = let h = place-small _ _ _ _ _ _ _ _ (c .before .before .before .before .before .before .before .before .before .before .before .before .before .before .before .before .before .before .before .before .before .before .before .before .pre) _ _ _ (c .before .before .before .before .before .before .before .before .before .before .before .before .before .before .before .before .before .before .before .before .before .before .before .before .pre .result) (c .before .before .before .before .before .before .before .before .before .before .before .before .before .before .before .before .before .before .before .before .before .before .before .before .pre .accepts) (c .before .before .before .before .before .before .before .before .before .before .before .before .before .before .before .before .each-field .ensures (c .before .before .before .before .before .before .before .before .before .before .before .before .before .before .before .before .before .before .before .before .before .before .before .before .pre .result) (c .before .before .before .before .before .before .before .before .before .before .before .before .before .before .before .before .before .before .before .before .before .before .before .before .pre .accepts)) _ _ _ (c .before .before .before .before .before .before .before .wide2 .ensures) (c .before .before .before .before .before .before .before .before .before .before .wide .ensures) (c .before .before .before .before .before .before .first-present .ensures) in omega arith
+add-refused c =
+    let by-first-present = c .before .before .before .before .before .before in
+    let first-present = by-first-present .first-present in
+    let by-wide2 = by-first-present .before in
+    let wide2 = by-wide2 .wide2 in
+    let by-wide = by-wide2 .before .before .before in
+    let wide = by-wide .wide in
+    let by-each-field = by-wide .before .before .before .before .before .before in
+    let each-field = by-each-field .each-field in
+    let pre = by-each-field .before .before .before .before .before .before .before .before .pre in
+    let h = place-small _ _ _ _ _ _ _ _ pre _ _ _ (pre .result) (pre .accepts) (each-field .ensures (pre .result) (pre .accepts)) _ _ _
+    (wide2 .ensures) (wide .ensures) (first-present .ensures) in omega arith
 
 refused-requires : tie.Need-refused-requires
 refused-requires c κs = search needs
@@ -47,7 +91,26 @@ same-length-3 : tie.Need-same-length-3
 same-length-3 c = search needs
 
 returns-3 : tie.Need-returns-3
-returns-3 c = λ a e. all-left _ _ _ _ _ _ _ _ (c .before .before .before .before .before .before .before .before .before .before .before .before .before .before .before .before .before .before .before .before .before .before .before .before .before .pre) _ _ _ a e (c .before .before .before .before .before .before .before .before .before .before .before .before .before .before .before .before .before .each-field .ensures a e) _ _ _ (c .before .before .before .before .before .before .before .before .wide2 .ensures) (c .before .before .before .before .before .before .before .before .before .before .before .wide .ensures) (c .before .before .before .before .before .before .before .first-present .ensures) (c .before .before .before .before .before .before .before .before .before .before .before .before .before .if1 .left) (c .before .before .before .before .before .before .if2 .left) _ (c .before .before .before .before .wide3 .ensures) _ (c .before .before .before .fill .ensures) _ (c .refused .ensures)
+returns-3 c =
+    let by-fill = c .before .before .before in
+    let fill = by-fill .fill in
+    let by-wide3 = by-fill .before in
+    let wide3 = by-wide3 .wide3 in
+    let by-if2 = by-wide3 .before .before in
+    let if2 = by-if2 .if2 in
+    let by-first-present = by-if2 .before in
+    let first-present = by-first-present .first-present in
+    let by-wide2 = by-first-present .before in
+    let wide2 = by-wide2 .wide2 in
+    let by-wide = by-wide2 .before .before .before in
+    let wide = by-wide .wide in
+    let by-if1 = by-wide .before .before in
+    let if1 = by-if1 .if1 in
+    let by-each-field = by-if1 .before .before .before .before in
+    let each-field = by-each-field .each-field in
+    let pre = by-each-field .before .before .before .before .before .before .before .before .pre in
+    λ a e. all-left _ _ _ _ _ _ _ _ pre _ _ _ a e (each-field .ensures a e) _ _ _ (wide2 .ensures) (wide .ensures) (first-present .ensures)
+    (if1 .left) (if2 .left) _ (wide3 .ensures) _ (fill .ensures) _ (c .refused .ensures)
 
 pub run-fields-spec : {M : Type 1} → statement M
 run-fields-spec =

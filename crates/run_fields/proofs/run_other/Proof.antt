@@ -25,7 +25,11 @@ same-length-2 : tie.Need-same-length-2
 same-length-2 c = search needs
 
 returns-2 : tie.Need-returns-2
-returns-2 c = λ t h. field-put _ _ _ t _ _ _ _ _ _ _ _ (c .before .before .before .before .run-node .ensures t h) (c .before .before .put-value .ensures)
+returns-2 c =
+    let by-put-value = c .before .before in
+    let put-value = by-put-value .put-value in
+    let run-node = by-put-value .before .before .run-node in
+    λ t h. field-put _ _ _ t _ _ _ _ _ _ _ _ (run-node .ensures t h) (put-value .ensures)
 
 pub run-other-spec : {M : Type 1} → statement M
 run-other-spec =

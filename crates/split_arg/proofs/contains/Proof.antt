@@ -25,7 +25,11 @@ shared-slice-read-if1 : tie.Need-shared-slice-read-if1 Inv-loop μ-loop
 shared-slice-read-if1 c = search needs
 
 returns : tie.Need-returns Inv-loop μ-loop
-returns c = rw (c .before .before .before .loop .inv .1, contains-step _ _ _ (c .before .before .loop-test .taken), eq-eqb _ _ (c .if1 .taken))
+returns c =
+    let by-loop-test = c .before .before in
+    let loop-test = by-loop-test .loop-test in
+    let loop = by-loop-test .before .loop in
+    rw (loop .inv .1, contains-step _ _ _ (loop-test .taken), eq-eqb _ _ (c .if1 .taken))
 
 add-i : tie.Need-add-i Inv-loop μ-loop
 add-i c = search needs
@@ -34,7 +38,11 @@ loop-less : tie.Need-loop-less Inv-loop μ-loop
 loop-less c = search needs
 
 loop-again : tie.Need-loop-again Inv-loop μ-loop
-loop-again c = (search needs, rw (c .before .before .before .loop .inv .1, contains-step _ _ _ (c .before .before .loop-test .taken), ne-eqb _ _ (c .if1 .left)))
+loop-again c =
+    let by-loop-test = c .before .before in
+    let loop-test = by-loop-test .loop-test in
+    let loop = by-loop-test .before .loop in
+    (search needs, rw (loop .inv .1, contains-step _ _ _ (loop-test .taken), ne-eqb _ _ (c .if1 .left)))
 
 returns-2 : tie.Need-returns-2 Inv-loop μ-loop
 returns-2 c = rw (c .before .loop .inv .1, contains-end _ _ _ (c .loop-test .left))

@@ -15,16 +15,34 @@ enum-told : tie.Need-enum-told
 enum-told c = search needs
 
 returns : tie.Need-returns
-returns c = no-letter _ _ _ (c .before .before .before .before .before .before .pre) (sym (c .before .before .decode-at .ensures) ∙ c .enum-told .given .1)
+returns c =
+    let by-decode-at = c .before .before in
+    let decode-at = by-decode-at .decode-at in
+    let pre = by-decode-at .before .before .before .before .pre in
+    no-letter _ _ _ pre (sym (decode-at .ensures) ∙ c .enum-told .given .1)
 
 returns-2 : tie.Need-returns-2
-returns-2 c = alone _ _ _ (c .before .before .before .before .before .before .before .before .pre) _ _ (sym (c .before .before .before .before .decode-at .ensures) ∙ c .before .before .letter .given .1) (c .if1 .taken)
+returns-2 c =
+    let by-letter = c .before .before in
+    let letter = by-letter .letter in
+    let by-decode-at = by-letter .before .before in
+    let decode-at = by-decode-at .decode-at in
+    let pre = by-decode-at .before .before .before .before .pre in
+    alone _ _ _ pre _ _ (sym (decode-at .ensures) ∙ letter .given .1) (c .if1 .taken)
 
 look-up-requires : tie.Need-look-up-requires
 look-up-requires c κs = search needs
 
 returns-3 : tie.Need-returns-3
-returns-3 c = no-single _ _ _ (c .before .before .before .before .before .before .before .before .before .pre) _ _ _ (sym (c .before .before .before .before .before .decode-at .ensures) ∙ c .before .before .before .letter .given .1) (c .before .if1 .left) (c .look-up .ensures)
+returns-3 c =
+    let by-if1 = c .before in
+    let if1 = by-if1 .if1 in
+    let by-letter = by-if1 .before .before in
+    let letter = by-letter .letter in
+    let by-decode-at = by-letter .before .before in
+    let decode-at = by-decode-at .decode-at in
+    let pre = by-decode-at .before .before .before .before .pre in
+    no-single _ _ _ pre _ _ _ (sym (decode-at .ensures) ∙ letter .given .1) (if1 .left) (c .look-up .ensures)
 
 pub disambiguate-short-spec : {M : Type 1} → statement M
 disambiguate-short-spec =

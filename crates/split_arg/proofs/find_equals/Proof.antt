@@ -21,7 +21,11 @@ shared-slice-read-if1 : tie.Need-shared-slice-read-if1 Inv-loop μ-loop
 shared-slice-read-if1 c = search needs
 
 returns : tie.Need-returns Inv-loop μ-loop
-returns c = sym (c .before .before .before .loop .inv .1 ∙ equals-here _ _ (c .before .before .loop-test .taken) (c .if1 .taken))
+returns c =
+    let by-loop-test = c .before .before in
+    let loop-test = by-loop-test .loop-test in
+    let loop = by-loop-test .before .loop in
+    sym (loop .inv .1 ∙ equals-here _ _ (loop-test .taken) (c .if1 .taken))
 
 add-i : tie.Need-add-i Inv-loop μ-loop
 add-i c = search needs
@@ -30,7 +34,11 @@ loop-less : tie.Need-loop-less Inv-loop μ-loop
 loop-less c = search needs
 
 loop-again : tie.Need-loop-again Inv-loop μ-loop
-loop-again c = (search needs, c .before .before .before .loop .inv .1 ∙ equals-later _ _ (c .before .before .loop-test .taken) (c .if1 .left))
+loop-again c =
+    let by-loop-test = c .before .before in
+    let loop-test = by-loop-test .loop-test in
+    let loop = by-loop-test .before .loop in
+    (search needs, loop .inv .1 ∙ equals-later _ _ (loop-test .taken) (c .if1 .left))
 
 returns-2 : tie.Need-returns-2 Inv-loop μ-loop
 returns-2 c = sym (c .before .loop .inv .1 ∙ equals-end _ _ (c .loop-test .left))

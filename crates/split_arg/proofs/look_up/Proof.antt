@@ -35,31 +35,111 @@ contains-requires-2 : tie.Need-contains-requires-2 Inv-loop μ-loop
 contains-requires-2 c κs = search needs
 
 add-t16 : tie.Need-add-t16 Inv-loop μ-loop
-add-t16 c = omega (arith, character _ _ _ _ (sym (c .before .before .before .before .before .before .before .letter-at .ensures) ∙ c .before .before .before .before .before .letter .given .1), c .before .before .before .before .before .before .before .before .loop .inv .few)
+add-t16 c =
+    let by-letter = c .before .before .before .before .before in
+    let letter = by-letter .letter in
+    let by-letter-at = by-letter .before .before in
+    let letter-at = by-letter-at .letter-at in
+    let loop = by-letter-at .before .loop in
+    omega (arith, character _ _ _ _ (sym (letter-at .ensures) ∙ letter .given .1), loop .inv .few)
 
 add-at : tie.Need-add-at Inv-loop μ-loop
-add-at c = omega (arith, character _ _ _ _ (sym (c .before .before .before .before .before .before .before .letter-at .ensures) ∙ c .before .before .before .before .before .letter .given .1), c .before .before .before .before .before .before .before .before .loop .inv .few)
+add-at c =
+    let by-letter = c .before .before .before .before .before in
+    let letter = by-letter .letter in
+    let by-letter-at = by-letter .before .before in
+    let letter-at = by-letter-at .letter-at in
+    let loop = by-letter-at .before .loop in
+    omega (arith, character _ _ _ _ (sym (letter-at .ensures) ∙ letter .given .1), loop .inv .few)
 
 add-before : tie.Need-add-before Inv-loop μ-loop
-add-before c = omega (arith, character _ _ _ _ (sym (c .before .before .before .before .before .before .before .letter-at .ensures) ∙ c .before .before .before .before .before .letter .given .1), c .before .before .before .before .before .before .before .before .loop .inv .few)
+add-before c =
+    let by-letter = c .before .before .before .before .before in
+    let letter = by-letter .letter in
+    let by-letter-at = by-letter .before .before in
+    let letter-at = by-letter-at .letter-at in
+    let loop = by-letter-at .before .loop in
+    omega (arith, character _ _ _ _ (sym (letter-at .ensures) ∙ letter .given .1), loop .inv .few)
 
 loop-less : tie.Need-loop-less Inv-loop μ-loop
-loop-less c = omega (arith, character _ _ _ _ (sym (c .before .before .before .before .before .before .before .letter-at .ensures) ∙ c .before .before .before .before .before .letter .given .1), c .before .before .before .before .before .before .before .before .loop .inv .few)
+loop-less c =
+    let by-letter = c .before .before .before .before .before in
+    let letter = by-letter .letter in
+    let by-letter-at = by-letter .before .before in
+    let letter-at = by-letter-at .letter-at in
+    let loop = by-letter-at .before .loop in
+    omega (arith, character _ _ _ _ (sym (letter-at .ensures) ∙ letter .given .1), loop .inv .few)
 
 loop-again : tie.Need-loop-again Inv-loop μ-loop
-loop-again c = a-flag _ _ _ _ _ (c .before .before .before .before .before .before .before .before .loop .inv) _ _ (sym (c .before .before .before .before .before .before .before .letter-at .ensures) ∙ c .before .before .before .before .before .letter .given .1) _ _ (c .before .before .before .contains .ensures) (c .before .before .contains2 .ensures) (c .before .if1 .taken) (c .if2 .left)
+loop-again c =
+    let by-if1 = c .before in
+    let if1 = by-if1 .if1 in
+    let by-contains2 = by-if1 .before in
+    let contains2 = by-contains2 .contains2 in
+    let by-contains = by-contains2 .before in
+    let contains = by-contains .contains in
+    let by-letter = by-contains .before .before in
+    let letter = by-letter .letter in
+    let by-letter-at = by-letter .before .before in
+    let letter-at = by-letter-at .letter-at in
+    let loop = by-letter-at .before .loop in
+    a-flag _ _ _ _ _ (loop .inv) _ _ (sym (letter-at .ensures) ∙ letter .given .1) _ _ (contains .ensures) (contains2 .ensures) (if1 .taken)
+    (c .if2 .left)
 
 returns : tie.Need-returns Inv-loop μ-loop
-returns c = all-flags _ _ _ _ _ (c .before .before .before .loop .inv) (sym (c .before .before .letter-at .ensures) ∙ c .enum-told .given .1)
+returns c =
+    let by-letter-at = c .before .before in
+    let letter-at = by-letter-at .letter-at in
+    let loop = by-letter-at .before .loop in
+    all-flags _ _ _ _ _ (loop .inv) (sym (letter-at .ensures) ∙ c .enum-told .given .1)
 
 returns-2 : tie.Need-returns-2 Inv-loop μ-loop
-returns-2 c = both _ _ _ _ _ (c .before .before .before .before .before .before .before .before .loop .inv) _ _ (sym (c .before .before .before .before .before .before .before .letter-at .ensures) ∙ c .before .before .before .before .before .letter .given .1) _ _ (c .before .before .before .contains .ensures) (c .before .before .contains2 .ensures) (c .before .if1 .taken) (c .if2 .taken)
+returns-2 c =
+    let by-if1 = c .before in
+    let if1 = by-if1 .if1 in
+    let by-contains2 = by-if1 .before in
+    let contains2 = by-contains2 .contains2 in
+    let by-contains = by-contains2 .before in
+    let contains = by-contains .contains in
+    let by-letter = by-contains .before .before in
+    let letter = by-letter .letter in
+    let by-letter-at = by-letter .before .before in
+    let letter-at = by-letter-at .letter-at in
+    let loop = by-letter-at .before .loop in
+    both _ _ _ _ _ (loop .inv) _ _ (sym (letter-at .ensures) ∙ letter .given .1) _ _ (contains .ensures) (contains2 .ensures) (if1 .taken)
+    (c .if2 .taken)
 
 returns-3 : tie.Need-returns-3 Inv-loop μ-loop
-returns-3 c = an-argument _ _ _ _ _ (c .before .before .before .before .before .before .before .before .loop .inv) _ _ (sym (c .before .before .before .before .before .before .before .letter-at .ensures) ∙ c .before .before .before .before .before .letter .given .1) _ _ (c .before .before .before .contains .ensures) (c .before .before .contains2 .ensures) (c .before .if1 .left) (c .if3 .taken)
+returns-3 c =
+    let by-if1 = c .before in
+    let if1 = by-if1 .if1 in
+    let by-contains2 = by-if1 .before in
+    let contains2 = by-contains2 .contains2 in
+    let by-contains = by-contains2 .before in
+    let contains = by-contains .contains in
+    let by-letter = by-contains .before .before in
+    let letter = by-letter .letter in
+    let by-letter-at = by-letter .before .before in
+    let letter-at = by-letter-at .letter-at in
+    let loop = by-letter-at .before .loop in
+    an-argument _ _ _ _ _ (loop .inv) _ _ (sym (letter-at .ensures) ∙ letter .given .1) _ _ (contains .ensures) (contains2 .ensures) (if1 .left)
+    (c .if3 .taken)
 
 returns-4 : tie.Need-returns-4 Inv-loop μ-loop
-returns-4 c = neither _ _ _ _ _ (c .before .before .before .before .before .before .before .before .loop .inv) _ _ (sym (c .before .before .before .before .before .before .before .letter-at .ensures) ∙ c .before .before .before .before .before .letter .given .1) _ _ (c .before .before .before .contains .ensures) (c .before .before .contains2 .ensures) (c .before .if1 .left) (c .if3 .left)
+returns-4 c =
+    let by-if1 = c .before in
+    let if1 = by-if1 .if1 in
+    let by-contains2 = by-if1 .before in
+    let contains2 = by-contains2 .contains2 in
+    let by-contains = by-contains2 .before in
+    let contains = by-contains .contains in
+    let by-letter = by-contains .before .before in
+    let letter = by-letter .letter in
+    let by-letter-at = by-letter .before .before in
+    let letter-at = by-letter-at .letter-at in
+    let loop = by-letter-at .before .loop in
+    neither _ _ _ _ _ (loop .inv) _ _ (sym (letter-at .ensures) ∙ letter .given .1) _ _ (contains .ensures) (contains2 .ensures) (if1 .left)
+    (c .if3 .left)
 
 pub look-up-spec : {M : Type 1} → statement M
 look-up-spec =

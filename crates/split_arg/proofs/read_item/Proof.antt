@@ -26,19 +26,78 @@ word-requires-7 : tie.Need-word-requires-7
 word-requires-7 c κs = search needs
 
 returns : tie.Need-returns
-returns c = read-short (c .before .before .before .before .before .before .before .args .items .now) (c .before .before .before .before .before .before .before .args .at) _ _ _ _ (c .before .before .before .before .before .word .ensures) (c .before .before .before .before .word2 .ensures) (c .before .before .before .word3 .ensures) (c .before .before .word4 .ensures) _ (c .word5 .ensures) (c .before .match .keys1)
+returns c =
+    let by-match = c .before in
+    let match = by-match .match in
+    let by-word4 = by-match .before in
+    let word4 = by-word4 .word4 in
+    let by-word3 = by-word4 .before in
+    let word3 = by-word3 .word3 in
+    let by-word2 = by-word3 .before in
+    let word2 = by-word2 .word2 in
+    let by-word = by-word2 .before in
+    let word = by-word .word in
+    let args = by-word .before .before .args in
+    read-short (args .items .now) (args .at) _ _ _ _ (word .ensures) (word2 .ensures) (word3 .ensures) (word4 .ensures) _ (c .word5 .ensures)
+    (match .keys1)
 
 returns-2 : tie.Need-returns-2
-returns-2 c = read-long (c .before .before .before .before .before .before .before .before .args .items .now) (c .before .before .before .before .before .before .before .before .args .at) _ _ _ _ (c .before .before .before .before .before .before .word .ensures) (c .before .before .before .before .before .word2 .ensures) (c .before .before .before .before .word3 .ensures) (c .before .before .before .word4 .ensures) _ _ (c .before .word6 .ensures) (c .word7 .ensures) (c .before .before .match .keys2)
+returns-2 c =
+    let by-word6 = c .before in
+    let word6 = by-word6 .word6 in
+    let by-match = by-word6 .before in
+    let match = by-match .match in
+    let by-word4 = by-match .before in
+    let word4 = by-word4 .word4 in
+    let by-word3 = by-word4 .before in
+    let word3 = by-word3 .word3 in
+    let by-word2 = by-word3 .before in
+    let word2 = by-word2 .word2 in
+    let by-word = by-word2 .before in
+    let word = by-word .word in
+    let args = by-word .before .before .args in
+    read-long (args .items .now) (args .at) _ _ _ _ (word .ensures) (word2 .ensures) (word3 .ensures) (word4 .ensures) _ _ (word6 .ensures)
+    (c .word7 .ensures) (match .keys2)
 
 returns-3 : tie.Need-returns-3
-returns-3 c = read-arg-word (c .before .before .before .before .before .before .args .items .now) (c .before .before .before .before .before .before .args .at) _ _ _ _ (c .before .before .before .before .word .ensures) (c .before .before .before .word2 .ensures) (c .before .before .word3 .ensures) (c .before .word4 .ensures) (c .match .keys3)
+returns-3 c =
+    let by-word4 = c .before in
+    let word4 = by-word4 .word4 in
+    let by-word3 = by-word4 .before in
+    let word3 = by-word3 .word3 in
+    let by-word2 = by-word3 .before in
+    let word2 = by-word2 .word2 in
+    let by-word = by-word2 .before in
+    let word = by-word .word in
+    let args = by-word .before .before .args in
+    read-arg-word (args .items .now) (args .at) _ _ _ _ (word .ensures) (word2 .ensures) (word3 .ensures) (word4 .ensures) (c .match .keys3)
 
 returns-4 : tie.Need-returns-4
-returns-4 c = read-word (c .before .before .before .before .before .before .args .items .now) (c .before .before .before .before .before .before .args .at) _ _ _ _ (c .before .before .before .before .word .ensures) (c .before .before .before .word2 .ensures) (c .before .before .word3 .ensures) (c .before .word4 .ensures) (c .match .keys4)
+returns-4 c =
+    let by-word4 = c .before in
+    let word4 = by-word4 .word4 in
+    let by-word3 = by-word4 .before in
+    let word3 = by-word3 .word3 in
+    let by-word2 = by-word3 .before in
+    let word2 = by-word2 .word2 in
+    let by-word = by-word2 .before in
+    let word = by-word .word in
+    let args = by-word .before .before .args in
+    read-word (args .items .now) (args .at) _ _ _ _ (word .ensures) (word2 .ensures) (word3 .ensures) (word4 .ensures) (c .match .keys4)
 
 returns-5 : tie.Need-returns-5
-returns-5 c = read-pos-word (c .before .before .before .before .before .before .args .items .now) (c .before .before .before .before .before .before .args .at) _ _ _ _ (c .before .before .before .before .word .ensures) (c .before .before .before .word2 .ensures) (c .before .before .word3 .ensures) (c .before .word4 .ensures) (c .match .rest .0 .0 .0 .1) (c .match .rest .0 .0 .1) (c .match .rest .0 .1) (c .match .rest .1)
+returns-5 c =
+    let by-word4 = c .before in
+    let word4 = by-word4 .word4 in
+    let by-word3 = by-word4 .before in
+    let word3 = by-word3 .word3 in
+    let by-word2 = by-word3 .before in
+    let word2 = by-word2 .word2 in
+    let by-word = by-word2 .before in
+    let word = by-word .word in
+    let args = by-word .before .before .args in
+    read-pos-word (args .items .now) (args .at) _ _ _ _ (word .ensures) (word2 .ensures) (word3 .ensures) (word4 .ensures)
+    (c .match .rest .0 .0 .0 .1) (c .match .rest .0 .0 .1) (c .match .rest .0 .1) (c .match .rest .1)
 
 pub read-item-spec : {M : Type 1} → statement M
 read-item-spec =

@@ -20,13 +20,25 @@ split-long-requires : tie.Need-split-long-requires
 split-long-requires c κs = search needs
 
 returns-3 : tie.Need-returns-3
-returns-3 c = two-dashes _ _ (c .before .before .before .before .before .if1 .left) (c .before .before .before .if2 .left) (c .before .if3 .taken) (c .split-long .ensures)
+returns-3 c =
+    let by-if3 = c .before in
+    let if3 = by-if3 .if3 in
+    let by-if2 = by-if3 .before .before in
+    let if2 = by-if2 .if2 in
+    let if1 = by-if2 .before .before .if1 in
+    two-dashes _ _ (if1 .left) (if2 .left) (if3 .taken) (c .split-long .ensures)
 
 split-short-requires : tie.Need-split-short-requires
 split-short-requires c κs = search needs
 
 returns-4 : tie.Need-returns-4
-returns-4 c = one-dash _ _ (c .before .before .before .before .before .if1 .left) (c .before .before .before .if2 .left) (c .before .if3 .left) (c .split-short .ensures)
+returns-4 c =
+    let by-if3 = c .before in
+    let if3 = by-if3 .if3 in
+    let by-if2 = by-if3 .before .before in
+    let if2 = by-if2 .if2 in
+    let if1 = by-if2 .before .before .if1 in
+    one-dash _ _ (if1 .left) (if2 .left) (if3 .left) (c .split-short .ensures)
 
 pub split-os-argument-spec : {M : Type 1} → statement M
 split-os-argument-spec =

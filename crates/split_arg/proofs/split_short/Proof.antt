@@ -25,10 +25,26 @@ sub-t10 : tie.Need-sub-t10
 sub-t10 c = search needs
 
 returns : tie.Need-returns
-returns c = short-whole _ (c .before .before .before .before .before .before .pre) _ (c .before .before .before .before .find-equals .ensures) (c .before .before .before .if1 .taken) (sym (c .before .valid .ensures) ∙ c .if2 .taken)
+returns c =
+    let by-valid = c .before in
+    let valid = by-valid .valid in
+    let by-if1 = by-valid .before .before in
+    let if1 = by-if1 .if1 in
+    let by-find-equals = by-if1 .before in
+    let find-equals = by-find-equals .find-equals in
+    let pre = by-find-equals .before .before .pre in
+    short-whole _ pre _ (find-equals .ensures) (if1 .taken) (sym (valid .ensures) ∙ c .if2 .taken)
 
 returns-2 : tie.Need-returns-2
-returns-2 c = short-bad _ (c .before .before .before .before .before .before .pre) _ (c .before .before .before .before .find-equals .ensures) (c .before .before .before .if1 .taken) (sym (c .before .valid .ensures) ∙ c .if2 .left)
+returns-2 c =
+    let by-valid = c .before in
+    let valid = by-valid .valid in
+    let by-if1 = by-valid .before .before in
+    let if1 = by-if1 .if1 in
+    let by-find-equals = by-if1 .before in
+    let find-equals = by-find-equals .find-equals in
+    let pre = by-find-equals .before .before .pre in
+    short-bad _ pre _ (find-equals .ensures) (if1 .taken) (sym (valid .ensures) ∙ c .if2 .left)
 
 sub-valid-2 : tie.Need-sub-valid-2
 sub-valid-2 c = search needs
@@ -43,13 +59,41 @@ valid-requires-2 : tie.Need-valid-requires-2
 valid-requires-2 c κs = search needs
 
 returns-3 : tie.Need-returns-3
-returns-3 c = letter-bad _ (c .before .before .before .before .before .before .pre) _ (c .before .before .before .before .find-equals .ensures) (c .before .before .before .if1 .left) (sym (c .before .valid2 .ensures) ∙ not-true _ (c .if3 .taken))
+returns-3 c =
+    let by-valid2 = c .before in
+    let valid2 = by-valid2 .valid2 in
+    let by-if1 = by-valid2 .before .before in
+    let if1 = by-if1 .if1 in
+    let by-find-equals = by-if1 .before in
+    let find-equals = by-find-equals .find-equals in
+    let pre = by-find-equals .before .before .pre in
+    letter-bad _ pre _ (find-equals .ensures) (if1 .left) (sym (valid2 .ensures) ∙ not-true _ (c .if3 .taken))
 
 returns-4 : tie.Need-returns-4
-returns-4 c = short-value _ (c .before .before .before .before .before .before .before .pre) _ (c .before .before .before .before .before .find-equals .ensures) (c .before .before .before .before .if1 .left) (sym (c .before .before .valid2 .ensures) ∙ not-false _ (c .before .if3 .left)) (c .if4 .taken)
+returns-4 c =
+    let by-if3 = c .before in
+    let if3 = by-if3 .if3 in
+    let by-valid2 = by-if3 .before in
+    let valid2 = by-valid2 .valid2 in
+    let by-if1 = by-valid2 .before .before in
+    let if1 = by-if1 .if1 in
+    let by-find-equals = by-if1 .before in
+    let find-equals = by-find-equals .find-equals in
+    let pre = by-find-equals .before .before .pre in
+    short-value _ pre _ (find-equals .ensures) (if1 .left) (sym (valid2 .ensures) ∙ not-false _ (if3 .left)) (c .if4 .taken)
 
 returns-5 : tie.Need-returns-5
-returns-5 c = short-rest _ (c .before .before .before .before .before .before .before .pre) _ (c .before .before .before .before .before .find-equals .ensures) (c .before .before .before .before .if1 .left) (sym (c .before .before .valid2 .ensures) ∙ not-false _ (c .before .if3 .left)) (c .if4 .left)
+returns-5 c =
+    let by-if3 = c .before in
+    let if3 = by-if3 .if3 in
+    let by-valid2 = by-if3 .before in
+    let valid2 = by-valid2 .valid2 in
+    let by-if1 = by-valid2 .before .before in
+    let if1 = by-if1 .if1 in
+    let by-find-equals = by-if1 .before in
+    let find-equals = by-find-equals .find-equals in
+    let pre = by-find-equals .before .before .pre in
+    short-rest _ pre _ (find-equals .ensures) (if1 .left) (sym (valid2 .ensures) ∙ not-false _ (if3 .left)) (c .if4 .left)
 
 pub split-short-spec : {M : Type 1} → statement M
 split-short-spec =

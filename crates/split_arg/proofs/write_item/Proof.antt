@@ -19,7 +19,11 @@ same-length : tie.Need-same-length
 same-length c = search needs
 
 returns : tie.Need-returns
-returns c = rw (← c .before .before .before .before .before .words-of .ensures) (c .before .before .copy .ensures)
+returns c =
+    let by-copy = c .before .before in
+    let copy = by-copy .copy in
+    let words-of = by-copy .before .before .before .words-of in
+    rw (← words-of .ensures) (copy .ensures)
 
 pub write-item-spec : {M : Type 1} → statement M
 write-item-spec =

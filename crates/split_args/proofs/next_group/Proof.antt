@@ -13,7 +13,14 @@ same-length : tie.Need-same-length
 same-length c = search needs
 
 returns : tie.Need-returns
-returns c = makes-same (c .before .before .before .before .before .before .before .before .before .args .os .now) (c .before .before .before .before .before .before .before .before .before .args .begin) (c .before .before .before .before .before .before .before .before .before .args .at) (c .before .before .before .before .before .before .before .before .before .args .items .now) _ _ _ _ (c .before .before .split-argument .ensures) (group-first (letters (c .before .before .before .before .before .before .before .before .before .args .flags .now) (c .before .before .before .before .before .before .before .before .before .args .arguments .now)) (c .before .before .before .before .before .before .before .before .before .args .marker) (c .before .before .before .before .before .before .before .before .before .args .os .now) (c .before .before .before .before .if1 .taken))
+returns c =
+    let by-split-argument = c .before .before in
+    let split-argument = by-split-argument .split-argument in
+    let by-if1 = by-split-argument .before .before in
+    let if1 = by-if1 .if1 in
+    let args = by-if1 .before .before .before .before .before .args in
+    makes-same (args .os .now) (args .begin) (args .at) (args .items .now) _ _ _ _ (split-argument .ensures)
+    (group-first (letters (args .flags .now) (args .arguments .now)) (args .marker) (args .os .now) (if1 .taken))
 
 split-positional-requires : tie.Need-split-positional-requires
 split-positional-requires c κs = search needs
@@ -22,7 +29,14 @@ same-length-2 : tie.Need-same-length-2
 same-length-2 c = search needs
 
 returns-2 : tie.Need-returns-2
-returns-2 c = makes-same (c .before .before .before .before .before .before .before .before .before .args .os .now) (c .before .before .before .before .before .before .before .before .before .args .begin) (c .before .before .before .before .before .before .before .before .before .args .at) (c .before .before .before .before .before .before .before .before .before .args .items .now) _ _ _ _ (c .before .before .split-positional .ensures) (group-later (letters (c .before .before .before .before .before .before .before .before .before .args .flags .now) (c .before .before .before .before .before .before .before .before .before .args .arguments .now)) (c .before .before .before .before .before .before .before .before .before .args .marker) (c .before .before .before .before .before .before .before .before .before .args .os .now) (c .before .before .before .before .if1 .left))
+returns-2 c =
+    let by-split-positional = c .before .before in
+    let split-positional = by-split-positional .split-positional in
+    let by-if1 = by-split-positional .before .before in
+    let if1 = by-if1 .if1 in
+    let args = by-if1 .before .before .before .before .before .args in
+    makes-same (args .os .now) (args .begin) (args .at) (args .items .now) _ _ _ _ (split-positional .ensures)
+    (group-later (letters (args .flags .now) (args .arguments .now)) (args .marker) (args .os .now) (if1 .left))
 
 pub next-group-spec : {M : Type 1} → statement M
 next-group-spec =

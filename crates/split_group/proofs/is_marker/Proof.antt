@@ -17,7 +17,11 @@ shared-slice-read-result : tie.Need-shared-slice-read-result
 shared-slice-read-result c = search needs
 
 returns-3 : tie.Need-returns-3
-returns-3 c = second-dash _ (c .before .before .before .if1 .left) (c .before .if2 .left)
+returns-3 c =
+    let by-if2 = c .before in
+    let if2 = by-if2 .if2 in
+    let if1 = by-if2 .before .before .if1 in
+    second-dash _ (if1 .left) (if2 .left)
 
 pub is-marker-spec : {M : Type 1} → statement M
 is-marker-spec =

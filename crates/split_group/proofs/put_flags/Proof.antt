@@ -19,7 +19,11 @@ same-length : tie.Need-same-length
 same-length c = search needs
 
 returns-2 : tie.Need-returns-2
-returns-2 c = puts-all _ _ _ _ _ 0 _ refl (c .before .before .write-flags .ensures) (omega (arith, c .before .before .before .before .before .before .before .pre .places))
+returns-2 c =
+    let by-write-flags = c .before .before in
+    let write-flags = by-write-flags .write-flags in
+    let pre = by-write-flags .before .before .before .before .before .pre in
+    puts-all _ _ _ _ _ 0 _ refl (write-flags .ensures) (omega (arith, pre .places))
 
 pub put-flags-spec : {M : Type 1} → statement M
 put-flags-spec = tie.close (tie.spec sub-if1 returns write-flags-requires same-length returns-2)

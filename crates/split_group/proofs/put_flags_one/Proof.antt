@@ -31,7 +31,26 @@ same-length : tie.Need-same-length
 same-length c = search needs
 
 returns-2 : tie.Need-returns-2
-returns-2 c = puts-all _ _ _ _ _ _ _ refl (sets-behind (c .before .before .before .before .before .before .before .before .before .before .before .args .items .now) _ _ (flagWords (c .before .before .before .before .before .before .before .before .before .before .before .args .whole) (firstLetters (c .before .before .before .before .before .before .before .before .before .before .before .args .name .now) (c .before .before .before .before .before .before .before .before .before .before .before .args .before))) (recordOf (c .before .before .before .before .before .before .before .before .before .before .before .args .last)) (c .before .before .before .before .before .before .before .before .before .before .before .args .at) (c .before .before .before .before .before .before .before .before .before .before .before .args .before) (c .before .before .before .before .before .before .write-flags .ensures) (flags-size (c .before .before .before .before .before .before .before .before .before .before .before .args .whole) (c .before .before .before .before .before .before .before .before .before .before .before .args .name .now) (c .before .before .before .before .before .before .before .before .before .before .before .args .before) (c .before .before .before .before .before .before .before .before .before .before .before .args .at) (c .before .before .before .before .before .before .before .before .before .before .before .pre)) (c .before .before .write-item .ensures)) (omega (arith, c .before .before .before .before .before .before .before .before .before .before .before .pre .places))
+returns-2 c =
+    let by-write-item = c .before .before in
+    let write-item = by-write-item .write-item in
+    let by-write-flags = by-write-item .before .before .before .before in
+    let write-flags = by-write-flags .write-flags in
+    let by-args = by-write-flags .before .before .before .before .before in
+    let args = by-args .args in
+    let pre = by-args .pre in
+    puts-all
+    _
+    _
+    _
+    _
+    _
+    _
+    _
+    refl
+    (sets-behind (args .items .now) _ _ (flagWords (args .whole) (firstLetters (args .name .now) (args .before))) (recordOf (args .last))
+    (args .at) (args .before) (write-flags .ensures) (flags-size (args .whole) (args .name .now) (args .before) (args .at) pre)
+    (write-item .ensures)) (omega (arith, pre .places))
 
 pub put-flags-one-spec : {M : Type 1} → statement M
 put-flags-one-spec =

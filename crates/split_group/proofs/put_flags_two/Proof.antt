@@ -42,7 +42,28 @@ same-length : tie.Need-same-length
 same-length c = search needs
 
 returns-2 : tie.Need-returns-2
-returns-2 c = puts-all _ _ _ _ _ 0 _ refl (sets-two-behind (c .before .before .before .before .before .before .before .before .before .before .before .before .before .before .before .args .items .now) _ _ _ (flagWords (c .before .before .before .before .before .before .before .before .before .before .before .before .before .before .before .args .whole) (firstLetters (c .before .before .before .before .before .before .before .before .before .before .before .before .before .before .before .args .name .now) (c .before .before .before .before .before .before .before .before .before .before .before .before .before .before .before .args .before))) (c .before .before .before .before .before .before .before .before .before .before .before .before .before .before .before .args .letter) (c .before .before .before .before .before .before .before .before .before .before .before .before .before .before .before .args .rest) (c .before .before .before .before .before .before .before .before .before .before .before .before .before .before .before .args .at) (c .before .before .before .before .before .before .before .before .before .before .before .before .before .before .before .args .before) (c .before .before .before .before .before .before .before .before .before .before .write-flags .ensures) (flags-size (c .before .before .before .before .before .before .before .before .before .before .before .before .before .before .before .args .whole) (c .before .before .before .before .before .before .before .before .before .before .before .before .before .before .before .args .name .now) (c .before .before .before .before .before .before .before .before .before .before .before .before .before .before .before .args .before) (c .before .before .before .before .before .before .before .before .before .before .before .before .before .before .before .args .at) (c .before .before .before .before .before .before .before .before .before .before .before .before .before .before .before .pre)) (c .before .before .before .before .before .before .write-item .ensures) (c .before .before .write-item2 .ensures)) (omega (arith, c .before .before .before .before .before .before .before .before .before .before .before .before .before .before .before .pre .places))
+returns-2 c =
+    let by-write-item2 = c .before .before in
+    let write-item2 = by-write-item2 .write-item2 in
+    let by-write-item = by-write-item2 .before .before .before .before in
+    let write-item = by-write-item .write-item in
+    let by-write-flags = by-write-item .before .before .before .before in
+    let write-flags = by-write-flags .write-flags in
+    let by-args = by-write-flags .before .before .before .before .before in
+    let args = by-args .args in
+    let pre = by-args .pre in
+    puts-all
+    _
+    _
+    _
+    _
+    _
+    0
+    _
+    refl
+    (sets-two-behind (args .items .now) _ _ _ (flagWords (args .whole) (firstLetters (args .name .now) (args .before))) (args .letter)
+    (args .rest) (args .at) (args .before) (write-flags .ensures) (flags-size (args .whole) (args .name .now) (args .before) (args .at) pre)
+    (write-item .ensures) (write-item2 .ensures)) (omega (arith, pre .places))
 
 pub put-flags-two-spec : {M : Type 1} → statement M
 put-flags-two-spec =

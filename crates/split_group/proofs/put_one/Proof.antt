@@ -16,7 +16,11 @@ same-length : tie.Need-same-length
 same-length c = search needs
 
 returns-2 : tie.Need-returns-2
-returns-2 c = puts-all _ _ _ _ 1 0 _ refl (c .before .before .write-item .ensures) (omega (arith, c .before .before .before .before .if1 .left))
+returns-2 c =
+    let by-write-item = c .before .before in
+    let write-item = by-write-item .write-item in
+    let if1 = by-write-item .before .before .if1 in
+    puts-all _ _ _ _ 1 0 _ refl (write-item .ensures) (omega (arith, if1 .left))
 
 pub put-one-spec : {M : Type 1} → statement M
 put-one-spec = tie.close (tie.spec returns write-item-requires same-length returns-2)

@@ -23,7 +23,23 @@ same-length : tie.Need-same-length
 same-length c = search needs
 
 returns-2 : tie.Need-returns-2
-returns-2 c = puts-all _ _ _ _ 2 0 _ refl (sets-behind (c .before .before .before .before .before .before .before .before .before .before .args .items .now) _ _ (recordOf (c .before .before .before .before .before .before .before .before .before .before .args .first)) (recordOf (c .before .before .before .before .before .before .before .before .before .before .args .second)) (c .before .before .before .before .before .before .before .before .before .before .args .at) 1 (c .before .before .before .before .before .before .write-item .ensures) (record-size (c .before .before .before .before .before .before .before .before .before .before .args .first)) (c .before .before .write-item2 .ensures)) (omega arith)
+returns-2 c =
+    let by-write-item2 = c .before .before in
+    let write-item2 = by-write-item2 .write-item2 in
+    let by-write-item = by-write-item2 .before .before .before .before in
+    let write-item = by-write-item .write-item in
+    let args = by-write-item .before .before .before .before .args in
+    puts-all
+    _
+    _
+    _
+    _
+    2
+    0
+    _
+    refl
+    (sets-behind (args .items .now) _ _ (recordOf (args .first)) (recordOf (args .second)) (args .at) 1 (write-item .ensures)
+    (record-size (args .first)) (write-item2 .ensures)) (omega arith)
 
 pub put-two-spec : {M : Type 1} → statement M
 put-two-spec =

@@ -14,7 +14,13 @@ same-length : tie.Need-same-length
 same-length c = search needs
 
 returns : tie.Need-returns
-returns c = a-positional (c .before .before .before .before .before .before .before .args .os .now) (c .before .before .before .before .before .before .before .args .begin) (c .before .before .before .before .before .before .before .args .at) (c .before .before .before .before .before .before .before .args .items .now) _ _ _ (c .before .before .before .before .text .ensures) (c .before .before .put-one .ensures)
+returns c =
+    let by-put-one = c .before .before in
+    let put-one = by-put-one .put-one in
+    let by-text = by-put-one .before .before in
+    let text = by-text .text in
+    let args = by-text .before .before .before .args in
+    a-positional (args .os .now) (args .begin) (args .at) (args .items .now) _ _ _ (text .ensures) (put-one .ensures)
 
 pub split-positional-spec : {M : Type 1} → statement M
 split-positional-spec = tie.close (tie.spec text-requires put-one-requires same-length returns)

@@ -36,7 +36,13 @@ same-length : tie.Need-same-length
 same-length c = search needs
 
 returns : tie.Need-returns
-returns c = λ l. letter-known _ _ _ _ (c .before .before .before .before .before .before .before .before .before .before .before .before .pre) (sym (c .before .before .before .before .before .before .decode-at .ensures) ∙ c .before .before .before .before .enum-told .given .1)
+returns c =
+    let by-enum-told = c .before .before .before .before in
+    let enum-told = by-enum-told .enum-told in
+    let by-decode-at = by-enum-told .before .before in
+    let decode-at = by-decode-at .decode-at in
+    let pre = by-decode-at .before .before .before .before .before .before .pre in
+    λ l. letter-known _ _ _ _ pre (sym (decode-at .ensures) ∙ enum-told .given .1)
 
 put-two-requires : tie.Need-put-two-requires
 put-two-requires c κs = search needs
@@ -45,7 +51,22 @@ same-length-2 : tie.Need-same-length-2
 same-length-2 c = search needs
 
 returns-2 : tie.Need-returns-2
-returns-2 c = a-value (c .before .before .before .before .before .before .before .before .before .before .before .before .before .args .os .now) (c .before .before .before .before .before .before .before .before .before .before .before .before .before .args .begin) (c .before .before .before .before .before .before .before .before .before .before .before .before .before .args .at) (c .before .before .before .before .before .before .before .before .before .before .before .before .before .args .items .now) _ _ _ (c .before .before .before .before .before .before .before .before .before .before .text .ensures) (c .before .before .before .before .before .before .before .before .before .before .before .before .before .args .body) _ _ _ (c .before .before .before .before .before .before .before .before .before .text2 .ensures) (c .before .before .before .before .before .before .before .before .before .before .before .before .before .pre .within) (sym (c .before .before .before .before .before .before .before .decode-at .ensures) ∙ c .before .before .before .before .before .letter .given .1) (c .before .before .put-two .ensures)
+returns-2 c =
+    let by-put-two = c .before .before in
+    let put-two = by-put-two .put-two in
+    let by-letter = by-put-two .before .before .before in
+    let letter = by-letter .letter in
+    let by-decode-at = by-letter .before .before in
+    let decode-at = by-decode-at .decode-at in
+    let by-text2 = by-decode-at .before .before in
+    let text2 = by-text2 .text2 in
+    let by-text = by-text2 .before in
+    let text = by-text .text in
+    let by-args = by-text .before .before .before in
+    let args = by-args .args in
+    let pre = by-args .pre in
+    a-value (args .os .now) (args .begin) (args .at) (args .items .now) _ _ _ (text .ensures) (args .body) _ _ _ (text2 .ensures) (pre .within)
+    (sym (decode-at .ensures) ∙ letter .given .1) (put-two .ensures)
 
 pub split-value-spec : {M : Type 1} → statement M
 split-value-spec =

@@ -18,7 +18,18 @@ same-length : tie.Need-same-length
 same-length c = search needs
 
 returns : tie.Need-returns
-returns c = a-marker (c .before .before .before .before .before .before .before .before .before .args .os .now) (c .before .before .before .before .before .before .before .before .before .args .begin) (c .before .before .before .before .before .before .before .before .before .args .at) (c .before .before .before .before .before .before .before .before .before .args .items .now) _ _ _ (c .before .before .before .before .before .before .text .ensures) (sym (c .before .before .before .before .before .is-marker .ensures) ∙ c .before .before .before .before .if1 .taken) (c .before .before .put-one .ensures)
+returns c =
+    let by-put-one = c .before .before in
+    let put-one = by-put-one .put-one in
+    let by-if1 = by-put-one .before .before in
+    let if1 = by-if1 .if1 in
+    let by-is-marker = by-if1 .before in
+    let is-marker = by-is-marker .is-marker in
+    let by-text = by-is-marker .before in
+    let text = by-text .text in
+    let args = by-text .before .before .before .args in
+    a-marker (args .os .now) (args .begin) (args .at) (args .items .now) _ _ _ (text .ensures) (sym (is-marker .ensures) ∙ if1 .taken)
+    (put-one .ensures)
 
 put-one-requires-2 : tie.Need-put-one-requires-2
 put-one-requires-2 c κs = search needs
@@ -27,7 +38,18 @@ same-length-2 : tie.Need-same-length-2
 same-length-2 c = search needs
 
 returns-2 : tie.Need-returns-2
-returns-2 c = a-word (c .before .before .before .before .before .before .before .before .before .args .os .now) (c .before .before .before .before .before .before .before .before .before .args .begin) (c .before .before .before .before .before .before .before .before .before .args .at) (c .before .before .before .before .before .before .before .before .before .args .items .now) _ _ _ (c .before .before .before .before .before .before .text .ensures) (sym (c .before .before .before .before .before .is-marker .ensures) ∙ c .before .before .before .before .if1 .left) (c .before .before .put-one2 .ensures)
+returns-2 c =
+    let by-put-one2 = c .before .before in
+    let put-one2 = by-put-one2 .put-one2 in
+    let by-if1 = by-put-one2 .before .before in
+    let if1 = by-if1 .if1 in
+    let by-is-marker = by-if1 .before in
+    let is-marker = by-is-marker .is-marker in
+    let by-text = by-is-marker .before in
+    let text = by-text .text in
+    let args = by-text .before .before .before .args in
+    a-word (args .os .now) (args .begin) (args .at) (args .items .now) _ _ _ (text .ensures) (sym (is-marker .ensures) ∙ if1 .left)
+    (put-one2 .ensures)
 
 pub split-word-spec : {M : Type 1} → statement M
 split-word-spec =

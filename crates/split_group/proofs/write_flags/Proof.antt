@@ -30,16 +30,32 @@ same-length : tie.Need-same-length Inv-loop μ-loop
 same-length c = search needs
 
 returns : tie.Need-returns Inv-loop μ-loop
-returns c = letter-there _ _ _ _ _ _ _ _ _ (c .before .before .before .before .loop .inv) (c .before .before .before .before .before .before .before .pre .0 .few) (c .before .before .before .loop-test .taken) (sym (c .before .before .letter-at .ensures) ∙ c .enum-told .given .1)
+returns c =
+    let by-letter-at = c .before .before in
+    let letter-at = by-letter-at .letter-at in
+    let by-loop-test = by-letter-at .before in
+    let loop-test = by-loop-test .loop-test in
+    let by-loop = by-loop-test .before in
+    let loop = by-loop .loop in
+    let pre = by-loop .before .before .before .pre in
+    letter-there _ _ _ _ _ _ _ _ _ (loop .inv) (pre .0 .few) (loop-test .taken) (sym (letter-at .ensures) ∙ c .enum-told .given .1)
 
 add-write-item : tie.Need-add-write-item Inv-loop μ-loop
-add-write-item c = omega (arith, c .before .before .before .before .before .before .before .before .before .pre .1)
+add-write-item c =
+    let pre = c .before .before .before .before .before .before .before .before .before .pre in
+    omega (arith, pre .1)
 
 write-item-requires : tie.Need-write-item-requires Inv-loop μ-loop
-write-item-requires c κs = omega (arith, c .before .before .before .before .before .before .before .before .before .pre .1)
+write-item-requires c κs =
+    let pre = c .before .before .before .before .before .before .before .before .before .pre in
+    omega (arith, pre .1)
 
 add-place : tie.Need-add-place Inv-loop μ-loop
-add-place c = omega (arith, character _ _ _ _ (sym (c .before .before .before .before .before .before .before .letter-at .ensures) ∙ c .before .before .before .before .before .letter .given .1))
+add-place c =
+    let by-letter = c .before .before .before .before .before in
+    let letter = by-letter .letter in
+    let letter-at = by-letter .before .before .letter-at in
+    omega (arith, character _ _ _ _ (sym (letter-at .ensures) ∙ letter .given .1))
 
 add-k : tie.Need-add-k Inv-loop μ-loop
 add-k c = omega arith
@@ -48,7 +64,17 @@ loop-less : tie.Need-loop-less Inv-loop μ-loop
 loop-less c = omega arith
 
 loop-again : tie.Need-loop-again Inv-loop μ-loop
-loop-again c = wrote-more _ _ _ _ _ _ _ _ _ (c .before .before .before .before .before .before .before .before .before .loop .inv) _ _ _ (sym (c .before .before .before .before .before .before .before .letter-at .ensures) ∙ c .before .before .before .before .before .letter .given .1) (c .before .before .before .before .before .before .before .before .loop-test .taken) (c .before .before .write-item .ensures)
+loop-again c =
+    let by-write-item = c .before .before in
+    let write-item = by-write-item .write-item in
+    let by-letter = by-write-item .before .before .before in
+    let letter = by-letter .letter in
+    let by-letter-at = by-letter .before .before in
+    let letter-at = by-letter-at .letter-at in
+    let by-loop-test = by-letter-at .before in
+    let loop-test = by-loop-test .loop-test in
+    let loop = by-loop-test .before .loop in
+    wrote-more _ _ _ _ _ _ _ _ _ (loop .inv) _ _ _ (sym (letter-at .ensures) ∙ letter .given .1) (loop-test .taken) (write-item .ensures)
 
 same-length-2 : tie.Need-same-length-2 Inv-loop μ-loop
 same-length-2 c = search needs

@@ -46,7 +46,8 @@ returns-2 c =
 
 marks-good-requires : tie.Need-marks-good-requires
 marks-good-requires c κs =
-    let c7 = c .before .before .before .before .before .before .before in
+    let before = c .before .before .before .before .before .before .before in
+    let c7 = before in
     let c12 = c7 .before .before .before .before .before in
     let long : length (c12 .args .t1 .marks) ≡ 256 = search needs in
     omega (arith, ltb-false 256 (c12 .args .n) (c7 .if2 .left))
@@ -64,7 +65,8 @@ returns-3 c =
 
 count-present-requires : tie.Need-count-present-requires
 count-present-requires c κs =
-    let c15 = c .before .before .before .before .before .before .before .before .before .before .before .before .before .before .before in
+    let before = c .before .before .before .before .before .before .before .before .before .before .before .before .before .before .before in
+    let c15 = before in
     let c16 = c15 .before in
     let c17 = c16 .before in
     let c20 = c17 .before .before .before in
@@ -76,9 +78,15 @@ count-present-requires c κs =
 
 returns-4 : tie.Need-returns-4
 returns-4 c =
-    let c23 = c .before .before .before .before .before .before .before .before .before .before .before .before .before .before .before .before .before .before .before .before .before .before .before in
+    let by-before = c .before .before .before in
+    let before = by-before .before in
+    let
+    before-2
+    =
+    by-before .before .before .before .before .before .before .before .before .before .before .before .before .before .before .before .before .before .before .before .before in
+    let c23 = before-2 in
     let long : length (c23 .args .t1 .marks) ≡ 256 = search (needs, c23 .good) in
-    let c4 = c .before .before .before .before in
+    let c4 = before in
     let c5 = c4 .before in
     let c9 = c5 .before .before .before .before in
     let c10 = c9 .before in

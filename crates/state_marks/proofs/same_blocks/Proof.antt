@@ -31,7 +31,13 @@ loop-less : tie.Need-loop-less Inv-loop μ-loop
 loop-less c = search needs
 
 loop-again : tie.Need-loop-again Inv-loop μ-loop
-loop-again c = blocks-next _ _ _ _ (c .before .before .before .loop .inv) (c .before .before .loop-test .taken) (c .before .same-block .ensures (not-false _ (c .if1 .left)))
+loop-again c =
+    let by-same-block = c .before in
+    let same-block = by-same-block .same-block in
+    let by-loop-test = by-same-block .before in
+    let loop-test = by-loop-test .loop-test in
+    let loop = by-loop-test .before .loop in
+    blocks-next _ _ _ _ (loop .inv) (loop-test .taken) (same-block .ensures (not-false _ (c .if1 .left)))
 
 returns-2 : tie.Need-returns-2 Inv-loop μ-loop
 returns-2 c = search needs

@@ -13,7 +13,8 @@ wide-requires-2 c κs = search needs
 
 until-present-requires : tie.Need-until-present-requires
 until-present-requires c κs =
-    let c7 = c .before .before .before .before .before .before .before in
+    let before = c .before .before .before .before .before .before .before in
+    let c7 = before in
     let c8 = c7 .before in
     until-ready _ (c8 .pre .0) _ (c8 .pre .1) _ _ (c7 .wide .ensures) (c .wide2 .ensures)
 

@@ -8,7 +8,9 @@ wide-requires : tie.Need-wide-requires
 wide-requires c κs = search needs
 
 span-end-requires : tie.Need-span-end-requires
-span-end-requires c κs = span-ready _ (c .before .before .before .before .pre .0) _ _ (c .wide .ensures) (c .before .before .before .before .pre .1)
+span-end-requires c κs =
+    let pre = c .before .before .before .before .pre in
+    span-ready _ (pre .0) _ _ (c .wide .ensures) (pre .1)
 
 cast-t8 : tie.Need-cast-t8
 cast-t8 c = search needs

@@ -29,7 +29,11 @@ sub-s : tie.Need-sub-s
 sub-s c = omega (arith, ap (λ (u : Raw). u .remaining) (c .before .unused .ensures))
 
 returns-2 : tie.Need-returns-2
-returns-2 c = marked-over _ (c .before .before .pre .0) _ _ (c .before .unused .ensures) (c .if1 .left) (c .before .before .pre .1)
+returns-2 c =
+    let by-unused = c .before in
+    let unused = by-unused .unused in
+    let pre = by-unused .before .pre in
+    marked-over _ (pre .0) _ _ (unused .ensures) (c .if1 .left) (pre .1)
 
 pub fresh-spec : {M : Type 1} → statement M
 fresh-spec =

@@ -10,7 +10,8 @@ wide-requires c κs = search needs
 
 pick-winner-requires : tie.Need-pick-winner-requires
 pick-winner-requires c κs =
-    let c7 = c .before .before .before .before .before .before .before in
+    let before = c .before .before .before .before .before .before .before in
+    let c7 = before in
     both-ready _ (c7 .pre .0) _ (c7 .pre .1) _ (c .wide .ensures)
 
 returns : tie.Need-returns

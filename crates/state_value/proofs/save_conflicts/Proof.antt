@@ -12,7 +12,8 @@ wide-requires c κs = search needs
 
 save-conflicts-requires : tie.Need-save-conflicts-requires
 save-conflicts-requires c κs =
-    let c6 = c .before .before .before .before .before .before in
+    let before = c .before .before .before .before .before .before in
+    let c6 = before in
     let r = both-ready _ (c6 .pre .0) _ (c6 .pre .1) _ (c .wide .ensures) in
     (r .0, r .1, r .2, winner-small _ (c6 .pre .0) _ (c6 .pre .1) _ (c6 .pre .2))
 
@@ -24,10 +25,17 @@ joined-requires c κs = search needs
 
 returns : tie.Need-returns
 returns c =
-    let c9 = c .before .before .before .before .before .before .before .before .before in
+    let by-numbers = c .before in
+    let numbers = by-numbers .numbers in
+    let by-save-conflicts = by-numbers .before in
+    let save-conflicts = by-save-conflicts .save-conflicts in
+    let by-wide = by-save-conflicts .before in
+    let wide = by-wide .wide in
+    let before = by-wide .before .before .before .before .before .before in
+    let c9 = before in
     let long : length (c9 .args .s .marks) ≡ 256 = search (needs, c9 .good) in
-    saved-over _ (c9 .pre .0) _ (c9 .pre .1) _ _ _ _ _ long (c9 .pre .2) (c .before .before .before .wide .ensures)
-    (c .before .before .save-conflicts .ensures) (c .before .numbers .ensures) (c .joined .ensures)
+    saved-over _ (c9 .pre .0) _ (c9 .pre .1) _ _ _ _ _ long (c9 .pre .2) (wide .ensures)
+    (save-conflicts .ensures) (numbers .ensures) (c .joined .ensures)
 
 pub save-conflicts-spec : {M : Type 1} → statement M
 save-conflicts-spec =

@@ -11,7 +11,11 @@ slice-aggregate-count-present : tie.Need-slice-aggregate-count-present
 slice-aggregate-count-present c = search needs
 
 count-present-requires : tie.Need-count-present-requires
-count-present-requires c κs = let r = count-ready _ (c .before .before .pre .0) (c .before .before .args .from) _ (c .before .before .pre .2) in (c .before .before .pre .1, r .0, r .1)
+count-present-requires c κs =
+    let by-args = c .before .before in
+    let args = by-args .args in
+    let pre = by-args .pre in
+    let r = count-ready _ (pre .0) (args .from) _ (pre .2) in (pre .1, r .0, r .1)
 
 cast-t9 : tie.Need-cast-t9
 cast-t9 c = search needs

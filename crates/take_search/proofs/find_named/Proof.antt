@@ -25,10 +25,24 @@ shared-slice-read-if1 : tie.Need-shared-slice-read-if1 Inv-loop μ-loop
 shared-slice-read-if1 c = search needs
 
 matches-requires : tie.Need-matches-requires Inv-loop μ-loop
-matches-requires c κs = (c .before .before .before .before .before .before .before .before .before .pre .0, item-there _ _ _ _ _ _ (c .before .before .before .before .before .before .before .before .before .pre .1) (c .before .before .loop-test .taken))
+matches-requires c κs =
+    let by-loop-test = c .before .before in
+    let loop-test = by-loop-test .loop-test in
+    let pre = by-loop-test .before .before .before .before .before .before .before .pre in
+    (pre .0, item-there _ _ _ _ _ _ (pre .1) (loop-test .taken))
 
 returns : tie.Need-returns Inv-loop μ-loop
-returns c = seeking-hit _ _ _ _ _ _ _ (c .before .before .before .before .before .loop .inv) (c .before .before .before .before .loop-test .taken) (c .before .before .before .before .before .before .before .before .before .before .before .pre .1 .marked) (c .before .before .if1 .taken) _ (c .before .matches .ensures) (c .if2 .taken)
+returns c =
+    let by-matches = c .before in
+    let matches = by-matches .matches in
+    let by-if1 = by-matches .before in
+    let if1 = by-if1 .if1 in
+    let by-loop-test = by-if1 .before .before in
+    let loop-test = by-loop-test .loop-test in
+    let by-loop = by-loop-test .before in
+    let loop = by-loop .loop in
+    let pre = by-loop .before .before .before .before .before .before .pre in
+    seeking-hit _ _ _ _ _ _ _ (loop .inv) (loop-test .taken) (pre .1 .marked) (if1 .taken) _ (matches .ensures) (c .if2 .taken)
 
 add-i : tie.Need-add-i Inv-loop μ-loop
 add-i c = search needs
@@ -37,7 +51,14 @@ loop-less : tie.Need-loop-less Inv-loop μ-loop
 loop-less c = search needs
 
 loop-again : tie.Need-loop-again Inv-loop μ-loop
-loop-again c = ⊎-elim (λ w. seeking-other _ _ _ _ _ _ _ (c .before .before .before .loop .inv) (c .before .before .loop-test .taken) (c .before .before .before .before .before .before .before .before .before .pre .1 .marked) (w .0 .taken) _ (w .1 .ensures) (w .2 .left)) (λ w. seeking-used _ _ _ _ _ _ _ (c .before .before .before .loop .inv) (c .before .before .loop-test .taken) (c .before .before .before .before .before .before .before .before .before .pre .1 .marked) (w .left)) (c .if1 .came)
+loop-again c =
+    let by-loop-test = c .before .before in
+    let loop-test = by-loop-test .loop-test in
+    let by-loop = by-loop-test .before in
+    let loop = by-loop .loop in
+    let pre = by-loop .before .before .before .before .before .before .pre in
+    ⊎-elim (λ w. seeking-other _ _ _ _ _ _ _ (loop .inv) (loop-test .taken) (pre .1 .marked) (w .0 .taken) _ (w .1 .ensures) (w .2 .left))
+    (λ w. seeking-used _ _ _ _ _ _ _ (loop .inv) (loop-test .taken) (pre .1 .marked) (w .left)) (c .if1 .came)
 
 returns-2 : tie.Need-returns-2 Inv-loop μ-loop
 returns-2 c = seeking-last _ _ _ _ _ _ _ (c .before .loop .inv) (c .loop-test .left)

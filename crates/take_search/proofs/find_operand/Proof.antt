@@ -28,7 +28,20 @@ is-operand-requires : tie.Need-is-operand-requires Inv-loop μ-loop
 is-operand-requires c κs = search needs
 
 returns : tie.Need-returns Inv-loop μ-loop
-returns c = λ area. seeking-hit area _ _ _ _ _ _ (c .before .before .before .before .before .loop .inv area) (c .before .before .before .before .loop-test .taken) (c .before .before .before .before .before .before .before .before .pre .1) (c .before .before .if1 .taken) _ (operand-said area (c .before .before .before .before .before .before .before .before .args .items .now) (c .before .before .before .before .before .loop .place) _ (c .before .is-operand .ensures)) (c .if2 .taken)
+returns c =
+    let by-is-operand = c .before in
+    let is-operand = by-is-operand .is-operand in
+    let by-if1 = by-is-operand .before in
+    let if1 = by-if1 .if1 in
+    let by-loop-test = by-if1 .before .before in
+    let loop-test = by-loop-test .loop-test in
+    let by-loop = by-loop-test .before in
+    let loop = by-loop .loop in
+    let by-args = by-loop .before .before .before in
+    let args = by-args .args in
+    let pre = by-args .pre in
+    λ area. seeking-hit area _ _ _ _ _ _ (loop .inv area) (loop-test .taken) (pre .1) (if1 .taken) _
+    (operand-said area (args .items .now) (loop .place) _ (is-operand .ensures)) (c .if2 .taken)
 
 add-place : tie.Need-add-place Inv-loop μ-loop
 add-place c = search needs
@@ -37,7 +50,20 @@ loop-less : tie.Need-loop-less Inv-loop μ-loop
 loop-less c = search needs
 
 loop-again : tie.Need-loop-again Inv-loop μ-loop
-loop-again c = λ area. ⊎-elim (λ w. seeking-other area _ _ _ _ _ _ (c .before .before .before .loop .inv area) (c .before .before .loop-test .taken) (c .before .before .before .before .before .before .pre .1) (w .0 .taken) _ (operand-said area (c .before .before .before .before .before .before .args .items .now) (c .before .before .before .loop .place) _ (w .1 .ensures)) (w .2 .left)) (λ w. seeking-used area _ _ _ _ _ _ (c .before .before .before .loop .inv area) (c .before .before .loop-test .taken) (c .before .before .before .before .before .before .pre .1) (w .left)) (c .if1 .came)
+loop-again c =
+    let by-loop-test = c .before .before in
+    let loop-test = by-loop-test .loop-test in
+    let by-loop = by-loop-test .before in
+    let loop = by-loop .loop in
+    let by-args = by-loop .before .before .before in
+    let args = by-args .args in
+    let pre = by-args .pre in
+    λ
+    area.
+    ⊎-elim
+    (λ w. seeking-other area _ _ _ _ _ _ (loop .inv area) (loop-test .taken) (pre .1) (w .0 .taken) _
+    (operand-said area (args .items .now) (loop .place) _ (w .1 .ensures)) (w .2 .left))
+    (λ w. seeking-used area _ _ _ _ _ _ (loop .inv area) (loop-test .taken) (pre .1) (w .left)) (c .if1 .came)
 
 returns-2 : tie.Need-returns-2 Inv-loop μ-loop
 returns-2 c = λ area. seeking-last area _ _ _ _ _ _ (c .before .loop .inv area) (c .loop-test .left)

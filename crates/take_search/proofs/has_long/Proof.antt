@@ -14,7 +14,9 @@ abbrev μ-loop : tie.MeasureT-loop
 μ-loop form name first count end k₀ k = end - k
 
 add-end : tie.Need-add-end Inv-loop μ-loop
-add-end c = record { fits = omega (arith, c .before .before .pre, names-few _ (c .before .before .pre .0)) }
+add-end c =
+    let pre = c .before .before .pre in
+    record { fits = omega (arith, pre, names-few _ (pre .0)) }
 
 loop-holds : tie.Need-loop-holds Inv-loop μ-loop
 loop-holds c = search scanning-first
@@ -26,7 +28,11 @@ returns : tie.Need-returns Inv-loop μ-loop
 returns c = search scanning-hit
 
 add-k : tie.Need-add-k Inv-loop μ-loop
-add-k c = record { fits = omega (arith, c .before .before .loop-test .taken, c .before .before .before .before .before .before .pre, names-few _ (c .before .before .before .before .before .before .pre .0)) }
+add-k c =
+    let by-loop-test = c .before .before in
+    let loop-test = by-loop-test .loop-test in
+    let pre = by-loop-test .before .before .before .before .pre in
+    record { fits = omega (arith, loop-test .taken, pre, names-few _ (pre .0)) }
 
 loop-less : tie.Need-loop-less Inv-loop μ-loop
 loop-less c = search needs

@@ -43,7 +43,17 @@ loop-less : tie.Need-loop-less Inv-loop μ-loop
 loop-less c = search needs
 
 loop-again : tie.Need-loop-again Inv-loop μ-loop
-loop-again c = sifting-next _ _ _ _ _ _ _ _ (c .before .before .before .before .before .wide .ensures) refl (c .before .before .before .before .before .before .before .pre) refl (c .before .before .before .before .loop .inv) (c .before .before .before .loop-test .taken) _ (c .before .wide2 .ensures) (c .if1 .left)
+loop-again c =
+    let by-wide2 = c .before in
+    let wide2 = by-wide2 .wide2 in
+    let by-loop-test = by-wide2 .before .before in
+    let loop-test = by-loop-test .loop-test in
+    let by-loop = by-loop-test .before in
+    let loop = by-loop .loop in
+    let by-wide = by-loop .before in
+    let wide = by-wide .wide in
+    let pre = by-wide .before .before .pre in
+    sifting-next _ _ _ _ _ _ _ _ (wide .ensures) refl pre refl (loop .inv) (loop-test .taken) _ (wide2 .ensures) (c .if1 .left)
 
 returns-2 : tie.Need-returns-2 Inv-loop μ-loop
 returns-2 c = search sifting-last

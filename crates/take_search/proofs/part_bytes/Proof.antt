@@ -17,13 +17,25 @@ cast-from : tie.Need-cast-from
 cast-from c = search needs
 
 add-from : tie.Need-add-from
-add-from c = record { fits = omega (arith, part-fits _ _ (c .before .before .before .before .pre) _ (c .before .before .count .ensures) _ (c .before .area-start .ensures)) }
+add-from c =
+    let by-area-start = c .before in
+    let area-start = by-area-start .area-start in
+    let by-count = by-area-start .before in
+    let count = by-count .count in
+    let pre = by-count .before .before .pre in
+    record { fits = omega (arith, part-fits _ _ pre _ (count .ensures) _ (area-start .ensures)) }
 
 cast-to : tie.Need-cast-to
 cast-to c = search needs
 
 add-to : tie.Need-add-to
-add-to c = record { fits = omega (arith, part-fits _ _ (c .before .before .before .before .before .pre) _ (c .before .before .before .count .ensures) _ (c .before .before .area-start .ensures)) }
+add-to c =
+    let by-area-start = c .before .before in
+    let area-start = by-area-start .area-start in
+    let by-count = by-area-start .before in
+    let count = by-count .count in
+    let pre = by-count .before .before .pre in
+    record { fits = omega (arith, part-fits _ _ pre _ (count .ensures) _ (area-start .ensures)) }
 
 sub-result : tie.Need-sub-result
 sub-result c = search needs
@@ -32,10 +44,22 @@ part-result-start : tie.Need-part-result-start
 part-result-start c = search needs
 
 part-result-end : tie.Need-part-result-end
-part-result-end c = part-fits _ _ (c .before .before .before .before .before .pre) _ (c .before .before .before .count .ensures) _ (c .before .before .area-start .ensures)
+part-result-end c =
+    let by-area-start = c .before .before in
+    let area-start = by-area-start .area-start in
+    let by-count = by-area-start .before in
+    let count = by-count .count in
+    let pre = by-count .before .before .pre in
+    part-fits _ _ pre _ (count .ensures) _ (area-start .ensures)
 
 returns : tie.Need-returns
-returns c = part-bytes-are _ _ (c .before .before .before .before .before .before .pre) _ (c .before .before .before .before .count .ensures) _ (c .before .before .before .area-start .ensures)
+returns c =
+    let by-area-start = c .before .before .before in
+    let area-start = by-area-start .area-start in
+    let by-count = by-area-start .before in
+    let count = by-count .count in
+    let pre = by-count .before .before .pre in
+    part-bytes-are _ _ pre _ (count .ensures) _ (area-start .ensures)
 
 pub part-bytes-spec : {M : Type 1} → statement M
 part-bytes-spec =

@@ -18,8 +18,13 @@ union-requires c κs = search needs
 
 returns-2 : tie.Need-returns-2
 returns-2 c =
-    let said = c .before .before .before .is-adjacent .ensures in
-    goes-in _ _ _ _ said (c .before .before .if1 .left) _ (c .before .only .ensures) _ (c .union .ensures)
+    let by-only = c .before in
+    let only = by-only .only in
+    let by-if1 = by-only .before in
+    let if1 = by-if1 .if1 in
+    let is-adjacent = by-if1 .before .is-adjacent in
+    let said = is-adjacent .ensures in
+    goes-in _ _ _ _ said (if1 .left) _ (only .ensures) _ (c .union .ensures)
 
 pub add-loose-spec : {M : Type 1} → statement M
 add-loose-spec =

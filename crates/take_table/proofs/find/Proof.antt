@@ -23,7 +23,11 @@ is-absent-requires : tie.Need-is-absent-requires Inv-loop μ-loop
 is-absent-requires c κs = search needs
 
 returns : tie.Need-returns Inv-loop μ-loop
-returns c = absent-sought _ _ _ (c .before .is-absent .ensures) (c .if1 .taken) _ _ _ (c .before .before .before .before .pre .1)
+returns c =
+    let by-is-absent = c .before in
+    let is-absent = by-is-absent .is-absent in
+    let pre = by-is-absent .before .before .before .pre in
+    absent-sought _ _ _ (is-absent .ensures) (c .if1 .taken) _ _ _ (pre .1)
 
 loop-holds : tie.Need-loop-holds Inv-loop μ-loop
 loop-holds c = λ area words test s. search seeking-first
@@ -45,13 +49,20 @@ has-requires c κs = search needs
 
 returns-2 : tie.Need-returns-2 Inv-loop μ-loop
 returns-2 c =
+    let by-has = c .before in
+    let has = by-has .has in
+    let by-if2 = by-has .before .before in
+    let if2 = by-if2 .if2 in
+    let by-before = by-if2 .before .before in
+    let before = by-before .before in
+    let loop-test = by-before .loop-test in
     λ area words test s.
-    let c6 = c .before .before .before .before .before .before in
-    let below = c .before .before .before .before .before .loop-test .taken in
+    let c6 = before in
+    let below = loop-test .taken in
     let long = c6 .before .before .before .before .before .pre .4 in
-    let present = c .before .before .before .if2 .taken in
+    let present = if2 .taken in
     seeking-hit area words test _ _ _ _ (c6 .loop .inv area words test s) below long present _
-    (λ x h. c .before .has .ensures ∙ s .at _ x below h) (c .if3 .taken)
+    (λ x h. has .ensures ∙ s .at _ x below h) (c .if3 .taken)
 
 add-i : tie.Need-add-i Inv-loop μ-loop
 add-i c = search needs
@@ -61,9 +72,12 @@ loop-less c = search needs
 
 loop-again : tie.Need-loop-again Inv-loop μ-loop
 loop-again c =
+    let by-before = c .before .before in
+    let before = by-before .before in
+    let loop-test = by-before .loop-test in
     λ area words test s.
-    let c3 = c .before .before .before in
-    let below = c .before .before .loop-test .taken in
+    let c3 = before in
+    let below = loop-test .taken in
     let long = c3 .before .before .before .before .before .pre .4 in
     let z = c3 .loop .inv area words test s in
     ⊎-elim

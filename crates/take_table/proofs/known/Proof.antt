@@ -45,7 +45,12 @@ loop-less c = search needs
 
 loop-again : tie.Need-loop-again Inv-loop μ-loop
 loop-again c =
-    listing-next _ _ _ _ _ _ _ (c .before .before .before .before .loop .inv) (c .before .before .before .loop-test .taken) _ (c .before .matching .ensures) _ (c .union .ensures)
+    let by-matching = c .before in
+    let matching = by-matching .matching in
+    let by-loop-test = by-matching .before .before in
+    let loop-test = by-loop-test .loop-test in
+    let loop = by-loop-test .before .loop in
+    listing-next _ _ _ _ _ _ _ (loop .inv) (loop-test .taken) _ (matching .ensures) _ (c .union .ensures)
 
 element-write-table-2 : tie.Need-element-write-table-2 Inv-loop μ-loop
 element-write-table-2 c = search needs

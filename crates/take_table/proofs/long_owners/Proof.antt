@@ -35,10 +35,17 @@ loop-less c = search needs
 
 loop-again : tie.Need-loop-again Inv-loop μ-loop
 loop-again c =
-    let given = c .before .before .before .before .before .before .pre in
-    let z = c .before .before .before .loop .inv in
-    let below = c .before .before .loop-test .taken in
-    let said = c .before .is-long .ensures in
+    let by-is-long = c .before in
+    let is-long = by-is-long .is-long in
+    let by-loop-test = by-is-long .before in
+    let loop-test = by-loop-test .loop-test in
+    let by-loop = by-loop-test .before in
+    let loop = by-loop .loop in
+    let pre = by-loop .before .before .before .pre in
+    let given = pre in
+    let z = loop .inv in
+    let below = loop-test .taken in
+    let said = is-long .ensures in
     ⊎-elim
     (λ w. rw (w .3) (long-hit _ _ _ (given .1) _ _ z below _ (given .2) _ said (w .0 .taken) _ (w .2 .ensures)))
     (λ w. rw (w .1) (long-miss _ _ _ (given .1) _ _ z below _ (given .2) _ said (w .0 .left)))

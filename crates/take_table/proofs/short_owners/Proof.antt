@@ -51,11 +51,18 @@ loop-less c = search needs
 
 loop-again : tie.Need-loop-again Inv-loop μ-loop
 loop-again c =
+    let by-wide2 = c .before in
+    let wide2 = by-wide2 .wide2 in
+    let by-loop-test = by-wide2 .before .before in
+    let loop-test = by-loop-test .loop-test in
+    let by-loop = by-loop-test .before in
+    let loop = by-loop .loop in
+    let at-wide = by-loop .before .wide in
     λ form loose q.
-    let z = c .before .before .before .before .loop .inv form loose q in
-    let below = c .before .before .before .loop-test .taken in
-    let wide = c .before .before .before .before .before .wide .ensures in
-    let read = c .before .wide2 .ensures in
+    let z = loop .inv form loose q in
+    let below = loop-test .taken in
+    let wide = at-wide .ensures in
+    let read = wide2 .ensures in
     ⊎-elim
     (λ w. rw (w .3) (short-hit form _ _ _ loose q _ _ _ z below _ _ _ wide refl read (w .0 .taken) _ (w .2 .ensures)))
     (λ w. rw (w .1) (short-miss form _ _ _ loose q _ _ _ z below _ _ _ wide refl read (w .0 .left)))

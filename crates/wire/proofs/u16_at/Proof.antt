@@ -22,10 +22,18 @@ wide-requires-2 : tie.Need-wide-requires-2
 wide-requires-2 c κs = search needs
 
 mul-result : tie.Need-mul-result
-mul-result c = omega (arith, c .before .before .before .before .shared-slice-known .given (c .before .before .before .before .before .args .i + 1))
+mul-result c =
+    let by-shared-slice-known = c .before .before .before .before in
+    let shared-slice-known = by-shared-slice-known .shared-slice-known in
+    let args = by-shared-slice-known .before .args in
+    omega (arith, shared-slice-known .given (args .i + 1))
 
 add-result : tie.Need-add-result
-add-result c = omega (arith, c .before .before .before .before .shared-slice-known .given (c .before .before .before .before .before .args .i), c .before .before .before .before .shared-slice-known .given (c .before .before .before .before .before .args .i + 1))
+add-result c =
+    let by-shared-slice-known = c .before .before .before .before in
+    let shared-slice-known = by-shared-slice-known .shared-slice-known in
+    let args = by-shared-slice-known .before .args in
+    omega (arith, shared-slice-known .given (args .i), shared-slice-known .given (args .i + 1))
 
 returns : tie.Need-returns
 returns c = search number-two

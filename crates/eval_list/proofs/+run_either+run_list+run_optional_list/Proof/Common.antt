@@ -62,10 +62,36 @@ run-optional-list-below t =
     run-optional-list.Pre
 
 abbrev pub run-either-calls : ℕ → run-either-lts.Claims
-run-either-calls t = (run-list-below t, run-list.Post, wide-reads.Asked, wide-reads.Learnt, set-aside-reads.Asked, set-aside-reads.Learnt, choose-reads.Asked, choose-reads.Learnt, settle-reads.Asked, settle-reads.Learnt)
+run-either-calls
+    t
+    = (
+      run-list-below t,
+      run-list.Post,
+      wide-reads.Asked,
+      wide-reads.Learnt,
+      set-aside-reads.Asked,
+      set-aside-reads.Learnt,
+      choose-reads.Asked,
+      choose-reads.Learnt,
+      settle-reads.Asked,
+      settle-reads.Learnt,
+    )
 
 abbrev pub run-list-calls : ℕ → run-list-lts.Claims
-run-list-calls t = (node-at-reads.Asked, node-at-reads.Learnt, run-optional-list-below t, run-optional-list.Post, run-many-reads.Asked, run-many-reads.Learnt, run-some-reads.Asked, run-some-reads.Learnt, run-either-below t, run-either.Post)
+run-list-calls
+    t
+    = (
+      node-at-reads.Asked,
+      node-at-reads.Learnt,
+      run-optional-list-below t,
+      run-optional-list.Post,
+      run-many-reads.Asked,
+      run-many-reads.Learnt,
+      run-some-reads.Asked,
+      run-some-reads.Learnt,
+      run-either-below t,
+      run-either.Post,
+    )
 
 abbrev pub run-optional-list-calls : ℕ → run-optional-list-lts.Claims
 run-optional-list-calls t = (run-list-below t, run-list.Post, optional-reads.Asked, optional-reads.Learnt, wide-reads.Asked, wide-reads.Learnt, shift-reads.Asked, shift-reads.Learnt)

@@ -212,31 +212,148 @@ abbrev pub fallback-by-copy-calls : ℕ → fallback-by-copy-lts.Claims
 fallback-by-copy-calls t = (run-node-below t, run-node.Post, fallback-word-reads.Asked, fallback-word-reads.Learnt, fallback-reads.Asked, fallback-reads.Learnt)
 
 abbrev pub run-choice-calls : ℕ → run-choice-lts.Claims
-run-choice-calls t = (alone-reads.Asked, alone-reads.Learnt, run-node-below t, run-node.Post, first-alone-reads.Asked, first-alone-reads.Learnt, second-alone-reads.Asked, second-alone-reads.Learnt, choice-by-copy-below t, choice-by-copy.Post)
+run-choice-calls
+    t
+    = (
+      alone-reads.Asked,
+      alone-reads.Learnt,
+      run-node-below t,
+      run-node.Post,
+      first-alone-reads.Asked,
+      first-alone-reads.Learnt,
+      second-alone-reads.Asked,
+      second-alone-reads.Learnt,
+      choice-by-copy-below t,
+      choice-by-copy.Post,
+    )
 
 abbrev pub run-count-calls : ℕ → run-count-lts.Claims
 run-count-calls t = (run-repeat-below t, run-repeat.Post, refused-list-reads.Asked, refused-list-reads.Learnt, counted-reads.Asked, counted-reads.Learnt)
 
 abbrev pub run-fallback-calls : ℕ → run-fallback-lts.Claims
-run-fallback-calls t = (stays-reads.Asked, stays-reads.Learnt, run-node-below t, run-node.Post, fallback-word-reads.Asked, fallback-word-reads.Learnt, fallback-unchanged-reads.Asked, fallback-unchanged-reads.Learnt, fallback-by-copy-below t, fallback-by-copy.Post)
+run-fallback-calls
+    t
+    = (
+      stays-reads.Asked,
+      stays-reads.Learnt,
+      run-node-below t,
+      run-node.Post,
+      fallback-word-reads.Asked,
+      fallback-word-reads.Learnt,
+      fallback-unchanged-reads.Asked,
+      fallback-unchanged-reads.Learnt,
+      fallback-by-copy-below t,
+      fallback-by-copy.Post,
+    )
 
 abbrev pub run-guard-calls : ℕ → run-guard-lts.Claims
 run-guard-calls t = (run-node-below t, run-node.Post, guard-reads.Asked, guard-reads.Learnt)
 
 abbrev pub run-last-calls : ℕ → run-last-lts.Claims
-run-last-calls t = (run-repeat-below t, run-repeat.Post, refused-list-reads.Asked, refused-list-reads.Learnt, last-value-reads.Asked, last-value-reads.Learnt, run-node-below t, run-node.Post, more-tries-reads.Asked, more-tries-reads.Learnt)
+run-last-calls
+    t
+    = (
+      run-repeat-below t,
+      run-repeat.Post,
+      refused-list-reads.Asked,
+      refused-list-reads.Learnt,
+      last-value-reads.Asked,
+      last-value-reads.Learnt,
+      run-node-below t,
+      run-node.Post,
+      more-tries-reads.Asked,
+      more-tries-reads.Learnt,
+    )
 
 abbrev pub run-leaf-calls : ℕ → run-leaf-lts.Claims
-run-leaf-calls t = (node-at-reads.Asked, node-at-reads.Learnt, eval-flag-from-reads.Asked, eval-flag-from-reads.Learnt, eval-argument-from-reads.Asked, eval-argument-from-reads.Learnt, eval-positional-from-reads.Asked, eval-positional-from-reads.Learnt, run-node-below t, run-node.Post)
+run-leaf-calls
+    t
+    = (
+      node-at-reads.Asked,
+      node-at-reads.Learnt,
+      eval-flag-from-reads.Asked,
+      eval-flag-from-reads.Learnt,
+      eval-argument-from-reads.Asked,
+      eval-argument-from-reads.Learnt,
+      eval-positional-from-reads.Asked,
+      eval-positional-from-reads.Learnt,
+      run-node-below t,
+      run-node.Post,
+    )
 
 abbrev pub run-node-calls : ℕ → run-node-lts.Claims
-run-node-calls t = (node-at-reads.Asked, node-at-reads.Learnt, eval-flag-reads.Asked, eval-flag-reads.Learnt, eval-argument-reads.Asked, eval-argument-reads.Learnt, eval-positional-reads.Asked, eval-positional-reads.Learnt, run-optional-below t, run-optional.Post, run-count-below t, run-count.Post, run-last-below t, run-last.Post, run-choice-below t, run-choice.Post, run-fallback-below t, run-fallback.Post, run-guard-below t, run-guard.Post)
+run-node-calls
+    t
+    = (
+      node-at-reads.Asked,
+      node-at-reads.Learnt,
+      eval-flag-reads.Asked,
+      eval-flag-reads.Learnt,
+      eval-argument-reads.Asked,
+      eval-argument-reads.Learnt,
+      eval-positional-reads.Asked,
+      eval-positional-reads.Learnt,
+      run-optional-below t,
+      run-optional.Post,
+      run-count-below t,
+      run-count.Post,
+      run-last-below t,
+      run-last.Post,
+      run-choice-below t,
+      run-choice.Post,
+      run-fallback-below t,
+      run-fallback.Post,
+      run-guard-below t,
+      run-guard.Post,
+    )
 
 abbrev pub run-optional-calls : ℕ → run-optional-lts.Claims
-run-optional-calls t = (keeps-marks-reads.Asked, keeps-marks-reads.Learnt, run-node-below t, run-node.Post, optional-reads.Asked, optional-reads.Learnt, optional-unchanged-reads.Asked, optional-unchanged-reads.Learnt)
+run-optional-calls
+    t
+    = (
+      keeps-marks-reads.Asked,
+      keeps-marks-reads.Learnt,
+      run-node-below t,
+      run-node.Post,
+      optional-reads.Asked,
+      optional-reads.Learnt,
+      optional-unchanged-reads.Asked,
+      optional-unchanged-reads.Learnt,
+    )
 
 abbrev pub run-repeat-calls : ℕ → run-repeat-lts.Claims
-run-repeat-calls t = (leaf-below-reads.Asked, leaf-below-reads.Learnt, keeps-marks-reads.Asked, keeps-marks-reads.Learnt, wide-reads.Asked, wide-reads.Learnt, nothing-reads.Asked, nothing-reads.Learnt, run-turn-below t, run-turn.Post, parse-option-reads.Asked, parse-option-reads.Learnt, write-value-reads.Asked, write-value-reads.Learnt, one-more-reads.Asked, one-more-reads.Learnt, idle-reads.Asked, idle-reads.Learnt, copy-if-reads.Asked, copy-if-reads.Learnt, next-from-reads.Asked, next-from-reads.Learnt, ended-reads.Asked, ended-reads.Learnt, unwrite-reads.Asked, unwrite-reads.Learnt, passed-on-reads.Asked, passed-on-reads.Learnt)
+run-repeat-calls
+    t
+    = (
+      leaf-below-reads.Asked,
+      leaf-below-reads.Learnt,
+      keeps-marks-reads.Asked,
+      keeps-marks-reads.Learnt,
+      wide-reads.Asked,
+      wide-reads.Learnt,
+      nothing-reads.Asked,
+      nothing-reads.Learnt,
+      run-turn-below t,
+      run-turn.Post,
+      parse-option-reads.Asked,
+      parse-option-reads.Learnt,
+      write-value-reads.Asked,
+      write-value-reads.Learnt,
+      one-more-reads.Asked,
+      one-more-reads.Learnt,
+      idle-reads.Asked,
+      idle-reads.Learnt,
+      copy-if-reads.Asked,
+      copy-if-reads.Learnt,
+      next-from-reads.Asked,
+      next-from-reads.Learnt,
+      ended-reads.Asked,
+      ended-reads.Learnt,
+      unwrite-reads.Asked,
+      unwrite-reads.Learnt,
+      passed-on-reads.Asked,
+      passed-on-reads.Learnt,
+    )
 
 abbrev pub run-turn-calls : ℕ → run-turn-lts.Claims
 run-turn-calls t = (run-leaf-below t, run-leaf.Post, wrap-reads.Asked, wrap-reads.Learnt)

@@ -18,7 +18,11 @@ sheet-check-requires c κs = search needs
 
 returns-2 : tie.Need-returns-2
 unfolding firstRefusal if_then_else_
-returns-2 c = rw (← c .before .before .before .form-check .ensures, eq-eqb _ _ (c .before .if1 .left)) (c .sheet-check .ensures)
+returns-2 c =
+    let by-if1 = c .before in
+    let if1 = by-if1 .if1 in
+    let form-check = by-if1 .before .before .form-check in
+    rw (← form-check .ensures, eq-eqb _ _ (if1 .left)) (c .sheet-check .ensures)
 
 pub first-refusal-spec : {M : Type 1} → statement M
 first-refusal-spec =

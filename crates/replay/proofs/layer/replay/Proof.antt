@@ -14,7 +14,8 @@ use Rattle.replay.proofs.layer.replay.Statement.{statement}
 use Rattle.replay.proofs.layer.replay.Tie as tie
 
 abbrev Inv-loop : tie.InvT-loop
-Inv-loop layer text cases₀ differ₀ at₀ cases differ at = (differ ≤ cases) × (cases ≤ at) × (cases ≤ length text) × (differ ≡ 0 → (n : ℕ) → Lines (LineMatches layer) text at n → Lines (LineMatches layer) text at₀ (cases + n))
+Inv-loop layer text cases₀ differ₀ at₀ cases differ at = (differ ≤ cases) × (cases ≤ at) × (cases ≤ length text) ×
+    (differ ≡ 0 → (n : ℕ) → Lines (LineMatches layer) text at n → Lines (LineMatches layer) text at₀ (cases + n))
 
 abbrev μ-loop : tie.MeasureT-loop
 μ-loop layer text cases₀ differ₀ at₀ cases differ at = length text - at
@@ -56,10 +57,34 @@ loop-less : tie.Need-loop-less Inv-loop μ-loop
 loop-less c = search needs
 
 loop-again : tie.Need-loop-again Inv-loop μ-loop
-loop-again c = ⊎-elim (λ w. (omega arith, omega arith, omega arith, λ z. absurd (omega arith))) (λ w. (omega arith, omega arith, omega arith, λ z. lines-next _ _ _ _ _ (c .before .before .before .before .before .loop .inv .3 (sym (w .1) ∙ z)) _ (c .before .before .before .line-end2 .ensures) (c .before .line-matches .ensures (not-false _ (w .0 .left))))) (c .if1 .came)
+loop-again c =
+    let by-line-matches = c .before in
+    let line-matches = by-line-matches .line-matches in
+    let by-line-end2 = by-line-matches .before .before in
+    let line-end2 = by-line-end2 .line-end2 in
+    let loop = by-line-end2 .before .before .loop in
+    ⊎-elim (λ w. (omega arith, omega arith, omega arith, λ z. absurd (omega arith)))
+    (λ
+    w. (
+      omega arith,
+      omega arith,
+      omega arith,
+      λ z. lines-next _ _ _ _ _ (loop .inv .3 (sym (w .1) ∙ z)) _ (line-end2 .ensures)
+          (line-matches .ensures (not-false _ (w .0 .left))),
+    )) (c .if1 .came)
 
 returns : tie.Need-returns Inv-loop μ-loop
-returns c = record { fewer = search needs; within = search needs; heading = _; first = c .before .before .line-end .ensures; all = λ z. lines-end _ _ _ _ _ (c .before .loop .inv .3 z) (c .loop-test .left) }
+returns
+    c
+    =
+    record {
+      fewer = search needs;
+      within = search needs;
+      heading = _;
+      first = c .before .before .line-end .ensures;
+      all = λ z. lines-end _ _ _ _ _
+          (c .before .loop .inv .3 z) (c .loop-test .left);
+    }
 
 pub replay-spec : {M : Type 1} → statement M
 replay-spec =

@@ -18,7 +18,15 @@ character-matches-requires c κs = search needs
 
 returns : tie.Need-returns
 unfolding answersMatch
-returns c = rw (← c .before .before .before .before .validity .ensures, ← c .before .before .before .is-number .ensures, c .before .before .if1 .taken, ← c .before .decode-at .ensures) (c .character-matches .ensures)
+returns c =
+    let by-decode-at = c .before in
+    let decode-at = by-decode-at .decode-at in
+    let by-if1 = by-decode-at .before in
+    let if1 = by-if1 .if1 in
+    let by-is-number = by-if1 .before in
+    let is-number = by-is-number .is-number in
+    let validity = by-is-number .before .validity in
+    rw (← validity .ensures, ← is-number .ensures, if1 .taken, ← decode-at .ensures) (c .character-matches .ensures)
 
 returns-2 : tie.Need-returns-2
 unfolding answersMatch

@@ -26,16 +26,28 @@ returns : tie.Need-returns
 returns c = λ t. absurd (false≢true t)
 
 array-share-prefix-buffer : tie.Need-array-share-prefix-buffer
-array-share-prefix-buffer c = (filled _ _ _ _ (c .before .bytes .given .1) (c .before .before .before .before .read-hex .ensures)) .within
+array-share-prefix-buffer c =
+    let by-bytes = c .before in
+    let bytes = by-bytes .bytes in
+    let read-hex = by-bytes .before .before .before .read-hex in
+    (filled _ _ _ _ (bytes .given .1) (read-hex .ensures)) .within
 
 slice-aggregate-answers-match : tie.Need-slice-aggregate-answers-match
-slice-aggregate-answers-match c = sym (length-take-le _ _ ((filled _ _ _ _ (c .before .before .bytes .given .1) (c .before .before .before .before .before .read-hex .ensures)) .within))
+slice-aggregate-answers-match c =
+    let by-bytes = c .before .before in
+    let bytes = by-bytes .bytes in
+    let read-hex = by-bytes .before .before .before .read-hex in
+    sym (length-take-le _ _ ((filled _ _ _ _ (bytes .given .1) (read-hex .ensures)) .within))
 
 answers-match-requires : tie.Need-answers-match-requires
 answers-match-requires c κs = search needs
 
 returns-2 : tie.Need-returns-2
-returns-2 c = λ t. rw (← (filled _ _ _ _ (c .before .before .before .bytes .given .1) (c .before .before .before .before .before .before .read-hex .ensures)) .bytes) (sym (c .answers-match .ensures) ∙ t)
+returns-2 c =
+    let by-bytes = c .before .before .before in
+    let bytes = by-bytes .bytes in
+    let read-hex = by-bytes .before .before .before .read-hex in
+    λ t. rw (← (filled _ _ _ _ (bytes .given .1) (read-hex .ensures)) .bytes) (sym (c .answers-match .ensures) ∙ t)
 
 pub hex-matches-spec : {M : Type 1} → statement M
 hex-matches-spec =

@@ -84,7 +84,24 @@ hex-matches-requires : tie.Need-hex-matches-requires
 hex-matches-requires c κs = search needs
 
 returns-2 : tie.Need-returns-2
-returns-2 c = λ t. line-same _ _ _ _ _ _ _ _ (c .before .before .before .before .before .before .before .before .before .before .before .before .token-end .ensures) (c .before .before .before .before .before .before .before .before .before .before .before .token-end2 .ensures) (c .before .before .before .before .before .before .before .before .before .before .token-end3 .ensures) (c .before .before .before .before .before .before .before .before .before .token-end4 .ensures) (c .before .before .before .before .before .before .before .before .if1 .left) (c .before .before .before .before .before .before .read-decimal .ensures) (c .before .before .before .before .read-decimal2 .ensures) (c .before .before .read-decimal3 .ensures) (c .hex-matches .ensures t)
+returns-2 c =
+    let by-read-decimal3 = c .before .before in
+    let read-decimal3 = by-read-decimal3 .read-decimal3 in
+    let by-read-decimal2 = by-read-decimal3 .before .before in
+    let read-decimal2 = by-read-decimal2 .read-decimal2 in
+    let by-read-decimal = by-read-decimal2 .before .before in
+    let read-decimal = by-read-decimal .read-decimal in
+    let by-if1 = by-read-decimal .before .before in
+    let if1 = by-if1 .if1 in
+    let by-token-end4 = by-if1 .before in
+    let token-end4 = by-token-end4 .token-end4 in
+    let by-token-end3 = by-token-end4 .before in
+    let token-end3 = by-token-end3 .token-end3 in
+    let by-token-end2 = by-token-end3 .before in
+    let token-end2 = by-token-end2 .token-end2 in
+    let token-end = by-token-end2 .before .token-end in
+    λ t. line-same _ _ _ _ _ _ _ _ (token-end .ensures) (token-end2 .ensures) (token-end3 .ensures) (token-end4 .ensures) (if1 .left)
+    (read-decimal .ensures) (read-decimal2 .ensures) (read-decimal3 .ensures) (c .hex-matches .ensures t)
 
 pub line-matches-spec : {M : Type 1} → statement M
 line-matches-spec =

@@ -24,7 +24,11 @@ after-refusal-requires c κs = search needs
 
 returns-2 : tie.Need-returns-2
 unfolding answerText
-returns-2 c = if-other _ _ _ _ _ _ _ (c .before .before .before .if1 .left) (joined _ _ _ _ (c .before .after-text .ensures) _ _ (c .after-refusal .ensures))
+returns-2 c =
+    let by-after-text = c .before in
+    let after-text = by-after-text .after-text in
+    let if1 = by-after-text .before .before .if1 in
+    if-other _ _ _ _ _ _ _ (if1 .left) (joined _ _ _ _ (after-text .ensures) _ _ (c .after-refusal .ensures))
 
 pub after-answer-spec : {M : Type 1} → statement M
 after-answer-spec =

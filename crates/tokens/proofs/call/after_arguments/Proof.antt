@@ -22,7 +22,13 @@ after-word-requires-2 c κs = search needs
 
 returns-3 : tie.Need-returns-3
 unfolding argumentsText
-returns-3 c = if-other _ _ _ _ _ _ _ (c .before .before .before .if1 .left) (if-other _ _ _ _ _ _ _ (c .before .if2 .left) (joined _ _ _ _ (c .before .before .after-word .ensures) _ _ (c .after-word2 .ensures)))
+returns-3 c =
+    let by-if2 = c .before in
+    let if2 = by-if2 .if2 in
+    let by-after-word = by-if2 .before in
+    let after-word = by-after-word .after-word in
+    let if1 = by-after-word .before .if1 in
+    if-other _ _ _ _ _ _ _ (if1 .left) (if-other _ _ _ _ _ _ _ (if2 .left) (joined _ _ _ _ (after-word .ensures) _ _ (c .after-word2 .ensures)))
 
 pub after-arguments-spec : {M : Type 1} → statement M
 after-arguments-spec =

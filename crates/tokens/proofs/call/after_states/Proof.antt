@@ -23,7 +23,13 @@ after-second-requires : tie.Need-after-second-requires
 after-second-requires c κs = search needs
 
 returns : tie.Need-returns
-returns c = states-follow _ _ _ _ _ _ _ _ _ (c .before .before .before .before .after-text .ensures) (c .before .before .before .after-state .ensures) (c .before .after-text2 .ensures) (c .after-second .ensures)
+returns c =
+    let by-after-text2 = c .before in
+    let after-text2 = by-after-text2 .after-text2 in
+    let by-after-state = by-after-text2 .before .before in
+    let after-state = by-after-state .after-state in
+    let after-text = by-after-state .before .after-text in
+    states-follow _ _ _ _ _ _ _ _ _ (after-text .ensures) (after-state .ensures) (after-text2 .ensures) (c .after-second .ensures)
 
 pub after-states-spec : {M : Type 1} → statement M
 after-states-spec =

@@ -14,7 +14,9 @@ abbrev μ-loop : tie.MeasureT-loop
 μ-loop line at words end₀ i₀ end i = length words - i
 
 loop-holds : tie.Need-loop-holds Inv-loop μ-loop
-loop-holds c = words-none (c .before .before .args .line .now) (c .before .before .args .at) (c .before .before .args .words .now)
+loop-holds c =
+    let args = c .before .before .args in
+    words-none (args .line .now) (args .at) (args .words .now)
 
 mul-after-word : tie.Need-mul-after-word Inv-loop μ-loop
 mul-after-word c = search needs

@@ -15,7 +15,9 @@ abbrev μ-loop : tie.MeasureT-loop
 μ-loop line at bytes end₀ i₀ end i = length bytes - i
 
 loop-holds : tie.Need-loop-holds Inv-loop μ-loop
-loop-holds c = hex-start (c .before .before .args .line .now) (c .before .before .args .at) (c .before .before .args .bytes .now)
+loop-holds c =
+    let args = c .before .before .args in
+    hex-start (args .line .now) (args .at) (args .bytes .now)
 
 shared-slice-read-after-hex-byte : tie.Need-shared-slice-read-after-hex-byte Inv-loop μ-loop
 shared-slice-read-after-hex-byte c = search needs

@@ -42,7 +42,11 @@ after-all-requires : tie.Need-after-all-requires
 after-all-requires c κs = search needs
 
 returns-3 : tie.Need-returns-3
-returns-3 c = words-follow _ _ _ _ _ _ (c .before .before .before .all-zero .ensures) (not-false _ (c .before .before .if2 .left)) (c .after-all .ensures)
+returns-3 c =
+    let by-if2 = c .before .before in
+    let if2 = by-if2 .if2 in
+    let all-zero = by-if2 .before .all-zero in
+    words-follow _ _ _ _ _ _ (all-zero .ensures) (not-false _ (if2 .left)) (c .after-all .ensures)
 
 pub after-words-spec : {M : Type 1} → statement M
 after-words-spec =

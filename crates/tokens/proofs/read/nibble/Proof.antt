@@ -24,11 +24,23 @@ digit-requires c κs = search needs
 
 returns-3 : tie.Need-returns-3
 unfolding nibbleOf
-returns-3 c = rw (le-ltb _ _ (c .before .before .before .if1 .left), lt-leb _ _ (c .before .before .if2 .left), ← c .before .digit .ensures, lt-ltb _ _ (c .if3 .taken))
+returns-3 c =
+    let by-digit = c .before in
+    let digit = by-digit .digit in
+    let by-if2 = by-digit .before in
+    let if2 = by-if2 .if2 in
+    let if1 = by-if2 .before .if1 in
+    rw (le-ltb _ _ (if1 .left), lt-leb _ _ (if2 .left), ← digit .ensures, lt-ltb _ _ (c .if3 .taken))
 
 returns-4 : tie.Need-returns-4
 unfolding nibbleOf
-returns-4 c = rw (le-ltb _ _ (c .before .before .before .if1 .left), lt-leb _ _ (c .before .before .if2 .left), ← c .before .digit .ensures, le-ltb _ _ (c .if3 .left))
+returns-4 c =
+    let by-digit = c .before in
+    let digit = by-digit .digit in
+    let by-if2 = by-digit .before in
+    let if2 = by-if2 .if2 in
+    let if1 = by-if2 .before .if1 in
+    rw (le-ltb _ _ (if1 .left), lt-leb _ _ (if2 .left), ← digit .ensures, le-ltb _ _ (c .if3 .left))
 
 pub nibble-spec : {M : Type 1} → statement M
 nibble-spec =

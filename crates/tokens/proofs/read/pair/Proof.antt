@@ -17,7 +17,13 @@ nibble-requires-2 c κs = search needs
 
 returns-2 : tie.Need-returns-2
 unfolding pairOf
-returns-2 c = rw (← c .before .before .before .nibble .ensures, lt-ltb _ _ (c .before .before .if1 .left), ← c .before .nibble2 .ensures, le-ltb _ _ (c .if2 .taken))
+returns-2 c =
+    let by-nibble2 = c .before in
+    let nibble2 = by-nibble2 .nibble2 in
+    let by-if1 = by-nibble2 .before in
+    let if1 = by-if1 .if1 in
+    let nibble = by-if1 .before .nibble in
+    rw (← nibble .ensures, lt-ltb _ _ (if1 .left), ← nibble2 .ensures, le-ltb _ _ (c .if2 .taken))
 
 mul-result : tie.Need-mul-result
 mul-result c = search needs
@@ -27,7 +33,13 @@ add-result c = search needs
 
 returns-3 : tie.Need-returns-3
 unfolding pairOf
-returns-3 c = rw (← c .before .before .before .nibble .ensures, lt-ltb _ _ (c .before .before .if1 .left), ← c .before .nibble2 .ensures, lt-ltb _ _ (c .if2 .left))
+returns-3 c =
+    let by-nibble2 = c .before in
+    let nibble2 = by-nibble2 .nibble2 in
+    let by-if1 = by-nibble2 .before in
+    let if1 = by-if1 .if1 in
+    let nibble = by-if1 .before .nibble in
+    rw (← nibble .ensures, lt-ltb _ _ (if1 .left), ← nibble2 .ensures, lt-ltb _ _ (c .if2 .left))
 
 pub pair-spec : {M : Type 1} → statement M
 pair-spec =

@@ -73,7 +73,15 @@ loop-less : tie.Need-loop-less Inv-loop μ-loop
 loop-less c = search needs
 
 loop-again : tie.Need-loop-again Inv-loop μ-loop
-loop-again c = (search needs, search needs, search needs, hex-next _ _ _ _ (c .before .before .before .before .before .before .before .if3 .left) (c .before .before .before .before .before .loop .inv .3) _ (c .before .before .before .before .loop-test .taken) (omega arith) (c .before .pair .ensures))
+loop-again c =
+    let by-pair = c .before in
+    let pair = by-pair .pair in
+    let by-loop-test = by-pair .before .before .before in
+    let loop-test = by-loop-test .loop-test in
+    let by-loop = by-loop-test .before in
+    let loop = by-loop .loop in
+    let if3 = by-loop .before .before .if3 in
+    (search needs, search needs, search needs, hex-next _ _ _ _ (if3 .left) (loop .inv .3) _ (loop-test .taken) (omega arith) (pair .ensures))
 
 same-length-2 : tie.Need-same-length-2 Inv-loop μ-loop
 same-length-2 c = search needs

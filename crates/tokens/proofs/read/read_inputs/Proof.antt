@@ -74,7 +74,22 @@ same-length-5 : tie.Need-same-length-5
 same-length-5 c = search needs
 
 returns-4 : tie.Need-returns-4
-returns-4 c = begins _ _ _ _ _ _ _ _ _ (c .before .before .before .before .before .before .before .before .before .before .before .before .before .before .before .before .before .before .token-end .ensures) (c .before .before .before .before .before .before .before .before .before .before .before .before .before .before .before .before .before .token-end2 .ensures) (c .before .before .before .before .before .before .before .before .before .before .before .before .before .before .before .before .if1 .left) (c .before .before .before .before .before .before .before .before .before .before .before .before .before .read-hex .ensures) (c .before .before .before .before .before .before .before .before .before .first .given .1) (c .before .before .before .before .before .read-hex2 .ensures) (c .before .second .given .1)
+returns-4 c =
+    let by-second = c .before in
+    let second = by-second .second in
+    let by-read-hex2 = by-second .before .before .before .before in
+    let read-hex2 = by-read-hex2 .read-hex2 in
+    let by-first = by-read-hex2 .before .before .before .before in
+    let first = by-first .first in
+    let by-read-hex = by-first .before .before .before .before in
+    let read-hex = by-read-hex .read-hex in
+    let by-if1 = by-read-hex .before .before .before in
+    let if1 = by-if1 .if1 in
+    let by-token-end2 = by-if1 .before in
+    let token-end2 = by-token-end2 .token-end2 in
+    let token-end = by-token-end2 .before .token-end in
+    begins _ _ _ _ _ _ _ _ _ (token-end .ensures) (token-end2 .ensures) (if1 .left) (read-hex .ensures) (first .given .1) (read-hex2 .ensures)
+    (second .given .1)
 
 pub read-inputs-spec : {M : Type 1} → statement M
 read-inputs-spec =
