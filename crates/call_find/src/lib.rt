@@ -11,6 +11,7 @@ ghost use Rattle.call_find.specs.Scan.{stoppedAt, Started, Reaches, Able
 use call_answers::Answer;
 use call_form::Key;
 use rules::State;
+use wire::wide;
 
 // An item as the seven words of its record.
 #[repr(C)]
@@ -38,12 +39,6 @@ struct Search {
 struct Seen {
     found: usize,
     count: usize,
-}
-
-fn wide(x: u32) -> usize
-    ensures { λ r. ⌜ r ≡ x ⌝ }
-{
-    x as usize
 }
 
 fn words_of(x: ItemRecord) -> [u32; 7]

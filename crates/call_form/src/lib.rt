@@ -24,6 +24,7 @@ use rules::Refused;
 use rules::State;
 use state_marks::Numbers;
 use take::Value;
+use wire::wide;
 
 // The names of a node: records of the form. Kind 1 is a flag, 2 an argument, 0 neither. An adjacent argument takes only an
 // item that has its value in its own word.
@@ -32,12 +33,6 @@ pub struct Key {
     pub first: usize,
     pub count: usize,
     pub adjacent: bool,
-}
-
-fn wide(x: u32) -> usize
-    ensures { λ r. ⌜ r ≡ x ⌝ }
-{
-    x as usize
 }
 
 // A place fits in a word.

@@ -22,6 +22,7 @@ use split_arg::Part;
 use state_marks::Numbers;
 use state_value::ConflictOption;
 use take::Operand;
+use wire::wide;
 
 // The record of the item that was found, or all 0.
 #[repr(C)]
@@ -29,12 +30,6 @@ pub struct Got {
     pub number: u32,
     pub place: u32,
     pub item: [u32; 7],
-}
-
-fn wide(x: u32) -> usize
-    ensures { λ r. ⌜ r ≡ x ⌝ }
-{
-    x as usize
 }
 
 fn bit(b: bool) -> u32

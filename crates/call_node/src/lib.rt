@@ -18,6 +18,7 @@ use eval_told::Ran;
 use rules::Refused;
 use rules::State;
 use state_marks::Numbers;
+use wire::wide;
 
 // How an evaluation ended, and the state that it left. A place is itself plus 1, or 0 for none; `words` is how many answer
 // words there are.
@@ -75,12 +76,6 @@ fn nothing_known() -> [u64; 257]
     ensures { λ r. ⌜ r ≡ replicate 257 0 ⌝ }
 {
     [0u64; 257]
-}
-
-fn wide(x: u32) -> usize
-    ensures { λ r. ⌜ r ≡ x ⌝ }
-{
-    x as usize
 }
 
 // Which nodes each of the items matches.

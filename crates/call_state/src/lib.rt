@@ -12,12 +12,7 @@ use call_answers::Answer;
 use call_answers::StateAnswer;
 use rules::State;
 use state_value::ScopeOption;
-
-fn wide(x: u32) -> usize
-    ensures { λ r. ⌜ r ≡ x ⌝ }
-{
-    x as usize
-}
+use wire::wide;
 
 fn yes_no(b: bool) -> u32
     ensures { λ r. ⌜ r ≡ yesNo b ⌝ }

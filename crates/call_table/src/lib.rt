@@ -12,6 +12,7 @@ ghost use Rattle.rules.specs.Calls.{itemFrom, itemsFrom, recordsIn};
 ghost use Rattle.split_arg.specs.Items.{recordAt};
 ghost use Rattle.call_table.specs.Given.{Trims, Checks, Gives, GivesState};
 use rules::State;
+use wire::wide;
 
 // Whether each record is well made, and then how many items there are.
 pub struct Checked {
@@ -23,12 +24,6 @@ pub struct Checked {
 pub struct Input {
     pub number: u32,
     pub count: usize,
-}
-
-fn wide(x: u32) -> usize
-    ensures { λ r. ⌜ r ≡ x ⌝ }
-{
-    x as usize
 }
 
 // Record i, as a part of the slice.

@@ -11,6 +11,7 @@ ghost use Rattle.split_arg.specs.Items.{recordAt};
 ghost use Rattle.form_layout.specs.Layout.{HasName};
 ghost use Rattle.take_search.specs.Search.{HasItem};
 ghost use Rattle.call_text.specs.Text.{refusedPart, itemPart, recordPart, Finds, Tells, PartOf, TextOf};
+use wire::wide;
 
 // Which slice holds the text (0 the sheet, 1 the form), and where in that slice. Refused, these three are 0. A place is
 // itself plus 1, or 0 for none.
@@ -21,12 +22,6 @@ pub struct TextPart {
     pub source: u32,
     pub offset: u32,
     pub length: u32,
-}
-
-fn wide(x: u32) -> usize
-    ensures { λ r. ⌜ r ≡ x ⌝ }
-{
-    x as usize
 }
 
 fn refused(number: u32, place: u32) -> TextPart

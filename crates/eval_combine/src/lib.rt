@@ -13,6 +13,7 @@ use eval_structs::Fallback;
 use eval_structs::Pick;
 use eval_told::Ran;
 use state_marks::Numbers;
+use wire::wide;
 
 pub struct Optioned {
     pub ran: Ran,
@@ -22,12 +23,6 @@ pub struct Optioned {
 pub struct Chosen {
     pub ran: Ran,
     pub first: bool,
-}
-
-fn wide(x: u32) -> usize
-    ensures { λ r. ⌜ r ≡ x ⌝ }
-{
-    x as usize
 }
 
 fn value(tries: u32, len: u32, word: u32, p: Numbers) -> Ran

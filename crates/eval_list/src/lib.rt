@@ -12,12 +12,7 @@ ghost use Rattle.eval_list.specs.Lists.{Listed, Writes, OverScalar, Over
 use eval_node::Repeated;
 use eval_told::Ran;
 use state_marks::Numbers;
-
-fn wide(x: u32) -> usize
-    ensures { λ r. ⌜ r ≡ x ⌝ }
-{
-    x as usize
-}
+use wire::wide;
 
 fn blank() -> [u32; 515]
     ensures { λ r. ⌜ length r ≡ 515 ⌝ }

@@ -17,6 +17,7 @@ ghost use Rattle.eval_node.specs.Values.{Put, Wrote, noValue, Fits, oneM
 use eval_structs::Counting;
 use eval_told::Ran;
 use state_marks::Numbers;
+use wire::wide;
 
 // How a repeat ended: how many values were counted, how many words of them were written, and the last of them.
 pub struct Repeated {
@@ -28,12 +29,6 @@ pub struct Repeated {
     pub len: u32,
     pub word: u32,
     pub numbers: Numbers,
-}
-
-fn wide(x: u32) -> usize
-    ensures { λ r. ⌜ r ≡ x ⌝ }
-{
-    x as usize
 }
 
 // Writes the words of a value that is no list. How many they are comes back.

@@ -22,12 +22,7 @@ use eval_number::Number;
 use eval_told::Ran;
 use split_arg::Part;
 use state_marks::Numbers;
-
-fn wide(x: u32) -> usize
-    ensures { λ r. ⌜ r ≡ x ⌝ }
-{
-    x as usize
-}
+use wire::wide;
 
 fn value(word: u32, numbers: Numbers) -> Ran
     ensures { λ r. ⌜ r ≡ valueRan word numbers ⌝ }

@@ -15,6 +15,7 @@ ghost use Rattle.run.specs.Runner.{runAnswer, ended, answerOf, Checked, 
 use rules::State;
 use run_fields::Reached;
 use state_marks::Numbers;
+use wire::wide;
 
 // How the run ended. A place is itself plus 1, or 0 for none; `words` is how many answer words there are.
 #[repr(C)]
@@ -49,12 +50,6 @@ fn nothing_known() -> [u64; 257]
     ensures { λ r. ⌜ r ≡ replicate 257 0 ⌝ }
 {
     [0u64; 257]
-}
-
-fn wide(x: u32) -> usize
-    ensures { λ r. ⌜ r ≡ x ⌝ }
-{
-    x as usize
 }
 
 fn refused(number: u32, place: u32, numbers: Numbers) -> Reached

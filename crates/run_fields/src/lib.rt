@@ -12,6 +12,7 @@ ghost use Rattle.run_fields.specs.Line.{Starts, Fields, written, PutValu
 ghost use Rattle.eval_list.specs.Lists.{Writes};
 use eval_told::Ran;
 use state_marks::Numbers;
+use wire::wide;
 
 // How the run of all fields ended. `words` is how many answer words there are.
 pub struct Reached {
@@ -20,12 +21,6 @@ pub struct Reached {
     pub tries: u32,
     pub words: u32,
     pub numbers: Numbers,
-}
-
-fn wide(x: u32) -> usize
-    ensures { λ r. ⌜ r ≡ x ⌝ }
-{
-    x as usize
 }
 
 // Whether the value of a node is a list or an optional list: through optionals and choices to what is beneath.

@@ -14,6 +14,7 @@ ghost use Rattle.rules.specs.State.{parsed, presentFrom, countPresent, pickFrom
 ghost use Rattle.rules.specs.Calls.{fromRaw, stateIn};
 ghost use Rattle.state_marks.specs.Lent.{Fine, Removed, firstOr, pickOf, conflictMark, Alike};
 use rules::State;
+use wire::wide;
 
 // A state without its marks. The current place is itself plus 1, or 0 for none.
 pub struct Numbers {
@@ -28,12 +29,6 @@ pub struct Numbers {
 pub struct Picked {
     pub first: bool,
     pub place: u32,
-}
-
-fn wide(x: u32) -> usize
-    ensures { λ r. ⌜ r ≡ x ⌝ }
-{
-    x as usize
 }
 
 // The first unused place from `from` on; `end` if there is none below it.

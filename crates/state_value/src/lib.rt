@@ -15,6 +15,7 @@ ghost use Rattle.state_value.specs.Options.{handedOver, allUnused, range
 use rules::State;
 use state_marks::Numbers;
 use state_marks::Picked;
+use wire::wide;
 
 pub struct Scope {
     pub start: u32,
@@ -31,12 +32,6 @@ pub enum ScopeOption {
 pub enum ConflictOption {
     Some(u32, u32),
     None,
-}
-
-fn wide(x: u32) -> usize
-    ensures { λ r. ⌜ r ≡ x ⌝ }
-{
-    x as usize
 }
 
 fn numbers(s: State) -> Numbers

@@ -22,6 +22,7 @@ ghost use Rattle.take.specs.Takes.{Ready, Skips, Reaches, setCurrent, re
 use split_arg::Item;
 use split_arg::Part;
 use state_marks::Numbers;
+use wire::wide;
 
 // Whether it was taken.
 pub struct Flag {
@@ -50,12 +51,6 @@ pub enum Operand {
 pub struct Positional {
     pub operand: Operand,
     pub numbers: Numbers,
-}
-
-fn wide(x: u32) -> usize
-    ensures { λ r. ⌜ r ≡ x ⌝ }
-{
-    x as usize
 }
 
 fn set_current(p: Numbers, current: u32) -> Numbers

@@ -79,21 +79,21 @@ use Rattle.call_find.proofs.Seen as TN
 use Rattle.call_find.proofs.Seen.Laws as TN′
 use Rattle.call_find.proofs.started as started
 use Rattle.call_find.proofs.started.Symbol as started-def
-use Rattle.call_find.proofs.started.Symbol.{name as #item-search·started}
+use Rattle.call_find.proofs.started.Symbol.{name as #call-find·started}
 use Rattle.call_find.proofs.started.Met as started-thm
 use Rattle.call_find.proofs.nothing_seen as nothing-seen
 use Rattle.call_find.proofs.nothing_seen.Symbol as nothing-seen-def
-use Rattle.call_find.proofs.nothing_seen.Symbol.{name as #item-search·nothing-seen}
+use Rattle.call_find.proofs.nothing_seen.Symbol.{name as #call-find·nothing-seen}
 use Rattle.call_find.proofs.nothing_seen.Met as nothing-seen-thm
 use Rattle.call_find.proofs.turn as turn
 use Rattle.call_find.proofs.turn.Symbol as turn-def
-use Rattle.call_find.proofs.turn.Symbol.{name as #item-search·turn}
+use Rattle.call_find.proofs.turn.Symbol.{name as #call-find·turn}
 use Rattle.call_find.proofs.turn.Met as turn-thm
 use Rattle.call_find.proofs.finish as finish
 use Rattle.call_find.proofs.finish.Symbol as finish-def
-use Rattle.call_find.proofs.finish.Symbol.{name as #item-search·finish}
+use Rattle.call_find.proofs.finish.Symbol.{name as #call-find·finish}
 use Rattle.call_find.proofs.finish.Met as finish-thm
-use Rattle.call_find.proofs.find.Key.{name as #item-search·find}
+use Rattle.call_find.proofs.find.Key.{name as #call-find·find}
 use Rattle.call_find.proofs.find as find
 use Rattle.call_find.proofs.find.Statement as stated
 use Rattle.call_find.proofs.find.Code as code
@@ -304,7 +304,7 @@ module _ {M : Type 1} (𝓤 : URA M) (H : Heap 𝓤) (A : Atoms 𝓤) (W : Given
     Nearer-wf : WellFounded Nearer
     Nearer-wf = InvImage·wf (λ (u : Upto). n - u .i) (Nat·lt-wfRel .wf)
 
-    module _ (𝓣 : Tables 𝓤 H) (known-turn : Triple 𝓤 (𝓣 .C #item-search·turn) (Turn 𝓤 H A at-mem run)) (known-finish : Triple 𝓤 (𝓣 .C #item-search·finish) (Finish 𝓤 H A at-mem run))
+    module _ (𝓣 : Tables 𝓤 H) (known-turn : Triple 𝓤 (𝓣 .C #call-find·turn) (Turn 𝓤 H A at-mem run)) (known-finish : Triple 𝓤 (𝓣 .C #call-find·finish) (Finish 𝓤 H A at-mem run))
         (l₀ l₁ l₂ l₃ l₄ l₅ l₆ l₇ l₈ l₉ l₁₀ l₁₁ l₁₂ : ℕ) where
       abbrev C : Calls 𝓤 H
       C = 𝓣 .C
@@ -473,8 +473,8 @@ module _ {M : Type 1} (𝓤 : URA M) (H : Heap 𝓤) (A : Atoms 𝓤) (W : Given
   search-is : (g : Search) (v : Val) → Is G g (v ∷ []) → Is G g (valG g ∷ [])
   search-is g v is = subst (λ (vs : List Val). Is G g vs) (LL.tells TG.the-type TG′.the-laws g _ is) is
 
-  walk : (𝓣 : Tables 𝓤 H) → Triple 𝓤 (𝓣 .C #item-search·started) (Start 𝓤 H A at-mem run) → Triple 𝓤 (𝓣 .C #item-search·nothing-seen)
-      (Unseen 𝓤 H A at-mem run) → Triple 𝓤 (𝓣 .C #item-search·turn) (Turn 𝓤 H A at-mem run) → Triple 𝓤 (𝓣 .C #item-search·finish)
+  walk : (𝓣 : Tables 𝓤 H) → Triple 𝓤 (𝓣 .C #call-find·started) (Start 𝓤 H A at-mem run) → Triple 𝓤 (𝓣 .C #call-find·nothing-seen)
+      (Unseen 𝓤 H A at-mem run) → Triple 𝓤 (𝓣 .C #call-find·turn) (Turn 𝓤 H A at-mem run) → Triple 𝓤 (𝓣 .C #call-find·finish)
       (Finish 𝓤 H A at-mem run)
       → ent 𝓤 (onEntry 𝓤 H A find.signature (κ₁, (κ₂, (κ₃, tt))) (q₁, (q₂, (q₃, tt))) x at)
       (WpFn 𝓤 H (𝓣 .C) (𝓣 .Λ) code.function (valOf f ∷ valOf s ∷ sliceVal (b, o) n ∷ valS h ∷ vint w64 k ∷ []) Post)
@@ -555,9 +555,9 @@ module _ {M : Type 1} (𝓤 : URA M) (H : Heap 𝓤) (A : Atoms 𝓤) (W : Given
       looped g (search-is g v is) st 𝓣 known-turn known-finish l₀ l₁ l₂ l₃ l₄ l₅ l₆ l₇ l₈ l₉ l₁₀ l₁₁ l₁₂ (subst (λ (d : Seen). Is N d (valN d ∷ [])) e (seen-is c w ic)))))))))))))))))))))))
 
 module _ {M : Type 1} (𝓤 : URA M) (H : Heap 𝓤) (A : Atoms 𝓤) (W : Given 𝓤 H A) (at-mem : Memory → SProp 𝓤) (run : Routine → Fun 𝓤) (𝓣 : Tables 𝓤 H)
-    (known-started : Triple 𝓤 (𝓣 .C #item-search·started) (Start 𝓤 H A at-mem run))
-    (known-unseen : Triple 𝓤 (𝓣 .C #item-search·nothing-seen) (Unseen 𝓤 H A at-mem run))
-    (known-turn : Triple 𝓤 (𝓣 .C #item-search·turn) (Turn 𝓤 H A at-mem run)) (known-finish : Triple 𝓤 (𝓣 .C #item-search·finish) (Finish 𝓤 H A at-mem run)) where
+    (known-started : Triple 𝓤 (𝓣 .C #call-find·started) (Start 𝓤 H A at-mem run))
+    (known-unseen : Triple 𝓤 (𝓣 .C #call-find·nothing-seen) (Unseen 𝓤 H A at-mem run))
+    (known-turn : Triple 𝓤 (𝓣 .C #call-find·turn) (Turn 𝓤 H A at-mem run)) (known-finish : Triple 𝓤 (𝓣 .C #call-find·finish) (Finish 𝓤 H A at-mem run)) where
   find-walks : Walks 𝓤 H A find.ended stayed (WpFn 𝓤 H (𝓣 .C) (𝓣 .Λ) code.function) (find.clauses 𝓤 H A at-mem run)
   find-walks = walked 𝓤 H A find.ended stayed (find.clauses 𝓤 H A at-mem run) (WpFn 𝓤 H (𝓣 .C) (𝓣 .Λ) code.function)
       (λ κs. (slice-vals, (slice-vals, (slice-vals, (LL.vals TS.the-type TS′.the-laws, (uint-vals w64, tt))))))
@@ -596,9 +596,9 @@ pub find-spec : {M : Type 1} → stated.statement M
 unfolding code.routine tablesOf
 find-spec 𝓤 H 𝓜 𝓖 𝓡 =
     entered 𝓤 H (tripleOf 𝓤 H (𝓖 .A) find.signature (find.spec 𝓤 H (𝓖 .A) (𝓜 .mem) (𝓡 .run)))
-    (tables 𝓤 H 𝓜 𝓡 code.env .C) (tables 𝓤 H 𝓜 𝓡 code.env .Λ) #item-search·find code.function (code.unfolded 𝓤 H 𝓜 𝓡)
+    (tables 𝓤 H 𝓜 𝓡 code.env .C) (tables 𝓤 H 𝓜 𝓡 code.env .Λ) #call-find·find code.function (code.unfolded 𝓤 H 𝓜 𝓡)
     (find-meets 𝓤 H (𝓖 .A) (givenOf 𝓤 H 𝓜 𝓖) (𝓜 .mem) (𝓡 .run) (tablesOf 𝓤 H 𝓜 (tables 𝓤 H 𝓜 𝓡 code.env))
-    (cited 𝓤 H (Start 𝓤 H (𝓖 .A) (𝓜 .mem) (𝓡 .run)) 𝓜 𝓡 code.env #item-search·started started-def.routine code.calls-item-search·started (started-thm.met 𝓤 H 𝓜 𝓖 𝓡))
-    (cited 𝓤 H (Unseen 𝓤 H (𝓖 .A) (𝓜 .mem) (𝓡 .run)) 𝓜 𝓡 code.env #item-search·nothing-seen nothing-seen-def.routine code.calls-item-search·nothing-seen (nothing-seen-thm.met 𝓤 H 𝓜 𝓖 𝓡))
-    (cited 𝓤 H (Turn 𝓤 H (𝓖 .A) (𝓜 .mem) (𝓡 .run)) 𝓜 𝓡 code.env #item-search·turn turn-def.routine code.calls-item-search·turn (turn-thm.met 𝓤 H 𝓜 𝓖 𝓡))
-    (cited 𝓤 H (Finish 𝓤 H (𝓖 .A) (𝓜 .mem) (𝓡 .run)) 𝓜 𝓡 code.env #item-search·finish finish-def.routine code.calls-item-search·finish (finish-thm.met 𝓤 H 𝓜 𝓖 𝓡)))
+    (cited 𝓤 H (Start 𝓤 H (𝓖 .A) (𝓜 .mem) (𝓡 .run)) 𝓜 𝓡 code.env #call-find·started started-def.routine code.calls-call-find·started (started-thm.met 𝓤 H 𝓜 𝓖 𝓡))
+    (cited 𝓤 H (Unseen 𝓤 H (𝓖 .A) (𝓜 .mem) (𝓡 .run)) 𝓜 𝓡 code.env #call-find·nothing-seen nothing-seen-def.routine code.calls-call-find·nothing-seen (nothing-seen-thm.met 𝓤 H 𝓜 𝓖 𝓡))
+    (cited 𝓤 H (Turn 𝓤 H (𝓖 .A) (𝓜 .mem) (𝓡 .run)) 𝓜 𝓡 code.env #call-find·turn turn-def.routine code.calls-call-find·turn (turn-thm.met 𝓤 H 𝓜 𝓖 𝓡))
+    (cited 𝓤 H (Finish 𝓤 H (𝓖 .A) (𝓜 .mem) (𝓡 .run)) 𝓜 𝓡 code.env #call-find·finish finish-def.routine code.calls-call-find·finish (finish-thm.met 𝓤 H 𝓜 𝓖 𝓡)))
