@@ -4,10 +4,10 @@ use std::ffi::{OsStr, OsString};
 use std::fmt;
 use std::ops::Range;
 
-use crate::form::place;
+use crate::ffi;
 use crate::item::{Area, Item};
 use crate::read_words::{sentence, spot};
-use crate::reader::Run;
+use crate::run::Run;
 use crate::shown::underlined;
 
 /// Why a line was refused. Its `Display` says in words what was refused, and shows the line with the place underlined.
@@ -34,7 +34,7 @@ struct Inner {
 impl ReadError {
     pub(crate) fn new(run: &Run) -> ReadError {
         let answer = &run.answer;
-        let (place, items) = (place(answer.place), run.items());
+        let (place, items) = (ffi::place(answer.place), run.items());
         let split = !run.records.is_empty();
         ReadError(Box::new(Inner {
             number: answer.number,
