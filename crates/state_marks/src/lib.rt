@@ -10,11 +10,18 @@ ghost use Rattle.utf8.specs.Utf8.{if_then_else_};
 ghost use Rattle.rules.specs.Base.{all};
 ghost use Rattle.rules.specs.Outcome.{ok, refused, refuse};
 ghost use Rattle.rules.specs.Tree.{zeros};
-ghost use Rattle.rules.specs.State.{parsed, presentFrom, countPresent, pickFrom, conflicts, markGood};
+ghost use Rattle.rules.specs.State.{parsed, present, presentFrom, countPresent, pickFrom, conflicts, markGood};
 ghost use Rattle.rules.specs.Calls.{fromRaw, stateIn};
-ghost use Rattle.state_marks.specs.Lent.{Fine, Removed, firstOr, pickOf, conflictMark, Alike};
+ghost use Rattle.state_marks.specs.Lent.{rawOf, numbersOf, Fine, Removed, firstOr, pickOf, conflictMark, Alike};
 use rules::State;
 use wire::wide;
+
+// The marks that are written: at the first `--`, at a word that `take_cmd` takes, and at what the first field uses.
+pub const MARKER: u16 = 1;
+
+pub const COMMAND: u16 = 1;
+
+pub const FIELD: u16 = 1;
 
 // A state without its marks. The current place is itself plus 1, or 0 for none.
 pub struct Numbers {
@@ -29,6 +36,45 @@ pub struct Numbers {
 pub struct Picked {
     pub first: bool,
     pub place: u32,
+}
+
+// A state taken apart, and put together again.
+pub fn numbers_of(s: State) -> Numbers
+    ensures { λ r. ⌜ r ≡ numbersOf s ⌝ }
+{
+    Numbers {
+        count: s.count,
+        remaining: s.remaining,
+        current: s.current,
+        start: s.start,
+        end: s.end,
+    }
+}
+
+pub fn joined(marks: [u16; 256], p: Numbers) -> State
+    ensures { λ r. ⌜ r ≡ rawOf marks p ⌝ }
+{
+    State {
+        marks: marks,
+        count: p.count,
+        remaining: p.remaining,
+        current: p.current,
+        start: p.start,
+        end: p.end,
+    }
+}
+
+// Marks are read by these two alone.
+pub fn is_parsed(mark: u16) -> bool
+    ensures { λ r. ⌜ r ≡ parsed mark ⌝ }
+{
+    mark == 1
+}
+
+pub fn is_present(mark: u16) -> bool
+    ensures { λ r. ⌜ r ≡ present mark ⌝ }
+{
+    !is_parsed(mark)
 }
 
 // The first unused place from `from` on; `end` if there is none below it.
@@ -84,12 +130,6 @@ pub fn remove(marks: &mut [u16; 256], p: Numbers, i: usize, mark: u16) -> Number
         start: p.start,
         end: p.end,
     }
-}
-
-fn is_parsed(mark: u16) -> bool
-    ensures { λ r. ⌜ r ≡ parsed mark ⌝ }
-{
-    mark == 1
 }
 
 fn differ(x: bool, y: bool) -> bool
