@@ -10,8 +10,9 @@ ghost use Rattle.utf8.specs.Utf8.{if_then_else_};
 ghost use Rattle.rules.specs.Base.{all};
 ghost use Rattle.rules.specs.Outcome.{ok, refused, refuse};
 ghost use Rattle.rules.specs.Tree.{zeros};
-ghost use Rattle.rules.specs.State.{parsed, present, presentFrom, countPresent, pickFrom, conflicts, markGood};
+ghost use Rattle.rules.specs.State.{parsed, present, winner, presentFrom, countPresent, pickFrom, conflicts, markGood};
 ghost use Rattle.rules.specs.Calls.{fromRaw, stateIn};
+ghost use Rattle.rules.specs.Codes.{placeOf};
 ghost use Rattle.state_marks.specs.Lent.{rawOf, numbersOf, Fine, Removed, firstOr, pickOf, conflictMark, Alike};
 use rules::State;
 use wire::wide;
@@ -64,7 +65,7 @@ pub fn joined(marks: [u16; 256], p: Numbers) -> State
     }
 }
 
-// Marks are read by these two alone.
+// Marks are read by these alone.
 pub fn is_parsed(mark: u16) -> bool
     ensures { λ r. ⌜ r ≡ parsed mark ⌝ }
 {
@@ -77,6 +78,16 @@ pub fn is_present(mark: u16) -> bool
     !is_parsed(mark)
 }
 
+// The place plus 1 of what a mark is in conflict with, or 0 for none.
+pub fn winner_of(mark: u16) -> u32
+    ensures { λ r. ⌜ placeOf r ≡ winner mark ⌝ }
+{
+    if mark < 2 {
+        return 0;
+    }
+    mark as u32 - 1
+}
+
 // The first unused place from `from` on; `end` if there is none below it.
 pub fn first_present(marks: &[u16], from: usize, end: usize) -> usize
     requires { ⌜ (from ≤ end) × (end ≤ length (now marks)) ⌝ }
@@ -84,7 +95,7 @@ pub fn first_present(marks: &[u16], from: usize, end: usize) -> usize
 {
     let mut i = from;
     while i < end {
-        if marks[i] != 1 {
+        if is_present(marks[i]) {
             return i;
         }
         i += 1;
@@ -100,7 +111,7 @@ pub fn count_present(marks: &[u16], from: usize, to: usize) -> u32
     let mut count: u32 = 0;
     let mut i = from;
     while i < to {
-        if marks[i] != 1 {
+        if is_present(marks[i]) {
             count += 1;
         }
         i += 1;
@@ -119,7 +130,7 @@ pub fn remove(marks: &mut [u16; 256], p: Numbers, i: usize, mark: u16) -> Number
     if wide(p.end) <= i {
         return p;
     }
-    if marks[i] == 1 {
+    if is_parsed(marks[i]) {
         return p;
     }
     marks[i] = mark;
@@ -205,10 +216,10 @@ fn conflict_mark(mark: u16, loser: u16, w: u16) -> u16
     requires { ⌜ w < 256 ⌝ }
     ensures { λ r. ⌜ r ≡ conflictMark w mark loser ⌝ }
 {
-    if mark == 1 {
+    if is_parsed(mark) {
         return mark;
     }
-    if loser == 1 {
+    if is_parsed(loser) {
         return 2 + w;
     }
     mark
@@ -230,8 +241,14 @@ pub fn save_conflicts(marks: &mut [u16; 256], loser: &[u16], count: usize, w: us
 fn mark_good(mark: u16, count: usize) -> bool
     ensures { λ r. ⌜ r ≡ markGood parsed count mark ⌝ }
 {
-    if mark <= 1 {
+    if mark == 0 {
         return true;
+    }
+    if is_parsed(mark) {
+        return true;
+    }
+    if mark < 2 {
+        return false;
     }
     (mark as usize) - 2 < count
 }
