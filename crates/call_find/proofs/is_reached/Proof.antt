@@ -23,15 +23,8 @@ returns-2 c =
     reached-behind _ _ _ (wide .ensures) (if1 .left) _ (wide2 .ensures) (c .if2 .taken)
 
 returns-3 : tie.Need-returns-3
-returns-3 c =
-    let by-if2 = c .before in
-    let if2 = by-if2 .if2 in
-    let by-wide2 = by-if2 .before in
-    let wide2 = by-wide2 .wide2 in
-    let by-if1 = by-wide2 .before in
-    let if1 = by-if1 .if1 in
-    let wide = by-if1 .before .wide in
-    reached-past _ _ _ (wide .ensures) (if1 .left) _ (wide2 .ensures) (if2 .left) (search needs) (c .if3 .taken)
+returns-3 c = reached-past _ _ _ (c .before .before .before .before .wide .ensures) (c .before .before .before .if1 .left) _
+    (c .before .before .wide2 .ensures) (c .before .if2 .left) (search needs) (c .if3 .taken)
 
 mul-result : tie.Need-mul-result
 mul-result c = search needs
@@ -40,17 +33,8 @@ element-copy-out-result : tie.Need-element-copy-out-result
 element-copy-out-result c = search needs
 
 returns-4 : tie.Need-returns-4
-returns-4 c =
-    let by-if3 = c .before in
-    let if3 = by-if3 .if3 in
-    let by-if2 = by-if3 .before in
-    let if2 = by-if2 .if2 in
-    let by-wide2 = by-if2 .before in
-    let wide2 = by-wide2 .wide2 in
-    let by-if1 = by-wide2 .before in
-    let if1 = by-if1 .if1 in
-    let wide = by-if1 .before .wide in
-    reached-mark _ _ _ (wide .ensures) (if1 .left) _ (wide2 .ensures) (if2 .left) (search needs) (if3 .left)
+returns-4 c = reached-mark _ _ _ (c .before .before .before .before .before .wide .ensures) (c .before .before .before .before .if1 .left) _
+    (c .before .before .before .wide2 .ensures) (c .before .before .if2 .left) (search needs) (c .before .if3 .left)
 
 pub is-reached-spec : {M : Type 1} → statement M
 is-reached-spec =

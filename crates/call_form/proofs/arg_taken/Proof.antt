@@ -32,17 +32,10 @@ value-answer-requires c κs =
 
 returns : tie.Need-returns
 returns c =
-    let by-joined = c .before in
-    let joined = by-joined .joined in
-    let by-take-arg = by-joined .before .before in
-    let take-arg = by-take-arg .take-arg in
-    let by-numbers = by-take-arg .before in
-    let numbers = by-numbers .numbers in
-    let by-args = by-numbers .before .before .before .before .before .before .before .before in
-    let args = by-args .args in
-    let good = by-args .good in
-    let long : length (args .s .marks) ≡ 256 = search (needs, good) in
-    arg-hands _ _ _ _ (numbers .ensures) long _ _ _ (joined .ensures) _ (c .value-answer .ensures) _ _ (take-arg .ensures)
+    let long : length (c .before .before .before .before .before .before .before .before .before .before .before .before .args .s .marks) ≡ 256 =
+    search (needs, c .before .before .before .before .before .before .before .before .before .before .before .before .good) in
+    arg-hands _ _ _ _ (c .before .before .before .before .numbers .ensures) long _ _ _ (c .before .joined .ensures) _ (c .value-answer .ensures) _ _
+    (c .before .before .before .take-arg .ensures)
 
 pub arg-taken-spec : {M : Type 1} → statement M
 arg-taken-spec =

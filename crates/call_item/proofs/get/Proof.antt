@@ -44,23 +44,13 @@ nothing-requires-3 c κs = search needs
 
 returns-3 : tie.Need-returns-3
 returns-3 c =
-    let by-if3 = c .before in
-    let if3 = by-if3 .if3 in
-    let by-is-free = by-if3 .before in
-    let is-free = by-is-free .is-free in
-    let by-if2 = by-is-free .before in
-    let if2 = by-if2 .if2 in
-    let by-wide = by-if2 .before in
-    let wide = by-wide .wide in
-    let by-if1 = by-wide .before in
-    let if1 = by-if1 .if1 in
-    let by-given-state = by-if1 .before in
-    let given-state = by-given-state .given-state in
-    let by-args = by-given-state .before .before .before in
-    let args = by-args .args in
-    let good = by-args .good in
-    let long : length (args .s .marks) ≡ 256 = search (needs, good) in rw (c .nothing3 .ensures)
-    (get-absent _ _ _ _ _ (given-state .ensures) (if1 .left) _ (wide .ensures) (if2 .left) long _ (is-free .ensures) (if3 .taken))
+    let long : length (c .before .before .before .before .before .before .before .before .before .args .s .marks) ≡ 256 = search
+    (needs, c .before .before .before .before .before .before .before .before .before .good) in
+    rw
+    (c .nothing3 .ensures)
+    (get-absent _ _ _ _ _ (c .before .before .before .before .before .before .given-state .ensures)
+    (c .before .before .before .before .before .if1 .left) _ (c .before .before .before .before .wide .ensures)
+    (c .before .before .before .if2 .left) long _ (c .before .before .is-free .ensures) (c .before .if3 .taken))
 
 record-words-requires : tie.Need-record-words-requires
 record-words-requires c κs =
@@ -75,23 +65,11 @@ record-words-requires c κs =
 
 returns-4 : tie.Need-returns-4
 returns-4 c =
-    let by-if3 = c .before in
-    let if3 = by-if3 .if3 in
-    let by-is-free = by-if3 .before in
-    let is-free = by-is-free .is-free in
-    let by-if2 = by-is-free .before in
-    let if2 = by-if2 .if2 in
-    let by-wide = by-if2 .before in
-    let wide = by-wide .wide in
-    let by-if1 = by-wide .before in
-    let if1 = by-if1 .if1 in
-    let by-given-state = by-if1 .before in
-    let given-state = by-given-state .given-state in
-    let by-args = by-given-state .before .before .before in
-    let args = by-args .args in
-    let good = by-args .good in
-    let long : length (args .s .marks) ≡ 256 = search (needs, good) in get-found _ _ _ _ _ (given-state .ensures) (if1 .left) _ (wide .ensures)
-    (if2 .left) long _ (is-free .ensures) (if3 .left) _ (c .record-words .ensures)
+    let long : length (c .before .before .before .before .before .before .before .before .before .args .s .marks) ≡ 256 = search
+    (needs, c .before .before .before .before .before .before .before .before .before .good) in
+    get-found _ _ _ _ _ (c .before .before .before .before .before .before .given-state .ensures)
+    (c .before .before .before .before .before .if1 .left) _ (c .before .before .before .before .wide .ensures)
+    (c .before .before .before .if2 .left) long _ (c .before .before .is-free .ensures) (c .before .if3 .left) _ (c .record-words .ensures)
 
 pub get-spec : {M : Type 1} → statement M
 get-spec =

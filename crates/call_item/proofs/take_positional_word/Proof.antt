@@ -75,23 +75,13 @@ joined-requires c κs = search needs
 
 returns-3 : tie.Need-returns-3
 returns-3 c =
-    let by-bit = c .before in
-    let bit = by-bit .bit in
-    let by-operand = by-bit .before .before in
-    let operand = by-operand .operand in
-    let by-take-positional-word = by-operand .before .before in
-    let take-positional-word = by-take-positional-word .take-positional-word in
-    let by-numbers = by-take-positional-word .before in
-    let numbers = by-numbers .numbers in
-    let by-if1 = by-numbers .before .before .before in
-    let if1 = by-if1 .if1 in
-    let by-given-state = by-if1 .before in
-    let given-state = by-given-state .given-state in
-    let by-args = by-given-state .before .before .before in
-    let args = by-args .args in
-    let good = by-args .good in
-    let long : length (args .s .marks) ≡ 256 = search (needs, good) in positional-taken _ _ _ _ (given-state .ensures) (if1 .left) _
-    (numbers .ensures) _ _ (take-positional-word .ensures _) _ _ _ (operand .given .1) long _ (c .joined .ensures) _ (bit .ensures)
+    let long : length (c .before .before .before .before .before .before .before .before .before .before .before .before .before .args .s .marks) ≡
+    256 = search (needs, c .before .before .before .before .before .before .before .before .before .before .before .before .before .good) in
+    positional-taken _ _ _ _ (c .before .before .before .before .before .before .before .before .before .before .given-state .ensures)
+    (c .before .before .before .before .before .before .before .before .before .if1 .left) _
+    (c .before .before .before .before .before .before .numbers .ensures) _ _
+    (c .before .before .before .before .before .take-positional-word .ensures _) _ _ _ (c .before .before .before .operand .given .1) long _
+    (c .joined .ensures) _ (c .before .bit .ensures)
 
 pub take-positional-word-spec : {M : Type 1} → statement M
 take-positional-word-spec =

@@ -23,11 +23,7 @@ returns-2 : tie.Need-returns-2
 returns-2 c = search conflicts-past
 
 save-conflicts-requires : tie.Need-save-conflicts-requires
-save-conflicts-requires c κs =
-    let by-if1 = c .before .before in
-    let if1 = by-if1 .if1 in
-    let both-good = by-if1 .before .both-good in
-    let r = both-fine _ _ _ (both-good .ensures) (if1 .left) in (r .0, r .1, search needs)
+save-conflicts-requires c κs = let r = both-fine _ _ _ (c .before .before .before .both-good .ensures) (c .before .before .if1 .left) in (r .0, r .1, search needs)
 
 changed-requires : tie.Need-changed-requires
 changed-requires c κs = search needs

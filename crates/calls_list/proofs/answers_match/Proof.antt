@@ -51,18 +51,11 @@ said-requires : tie.Need-said-requires
 said-requires c κs = search needs
 
 returns-2 : tie.Need-returns-2
-returns-2 c =
-    let by-if1 = c .before .before .before in
-    let if1 = by-if1 .if1 in
-    let by-after-text2 = by-if1 .before in
-    let after-text2 = by-after-text2 .after-text2 in
-    let by-after-state = by-after-text2 .before .before in
-    let after-state = by-after-state .after-state in
-    let by-after-text = by-after-state .before .before in
-    let after-text = by-after-text .after-text in
-    let split = by-after-text .before .before .before .split in
-    λ t. calls-told _ _ _ _ (search needs) _ _ (split .ensures) _ (after-text .ensures) _ _ (after-state .ensures) _ (after-text2 .ensures)
-    (if1 .left) (c .said .ensures t)
+returns-2 c = λ t. calls-told _ _ _ _ (search needs) _ _
+    (c .before .before .before .before .before .before .before .before .before .before .before .split .ensures) _
+    (c .before .before .before .before .before .before .before .before .after-text .ensures) _ _
+    (c .before .before .before .before .before .before .after-state .ensures) _ (c .before .before .before .before .after-text2 .ensures)
+    (c .before .before .before .if1 .left) (c .said .ensures t)
 
 pub answers-match-spec : {M : Type 1} → statement M
 answers-match-spec =

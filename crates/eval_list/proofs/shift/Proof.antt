@@ -26,11 +26,7 @@ array-share-prefix-kept : tie.Need-array-share-prefix-kept
 array-share-prefix-kept c = search needs
 
 slice-aggregate-copy : tie.Need-slice-aggregate-copy
-slice-aggregate-copy c =
-    let by-lift = c .before .before in
-    let lift = by-lift .lift in
-    let pre = by-lift .before .before .before .pre in
-    let l : length (lift .result) ≡ 515 = search needs in sym (length-take-le _ _ (omega (arith, pre .0)))
+slice-aggregate-copy c = let l : length (c .before .before .lift .result) ≡ 515 = search needs in sym (length-take-le _ _ (omega (arith, c .before .before .before .before .before .pre .0)))
 
 copy-requires : tie.Need-copy-requires
 copy-requires c κs = search needs

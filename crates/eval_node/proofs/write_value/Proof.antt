@@ -23,11 +23,7 @@ add-put-2 c =
     omega (arith, pre (if1 .taken))
 
 put-requires : tie.Need-put-requires
-put-requires c κs =
-    let by-if1 = c .before .before in
-    let if1 = by-if1 .if1 in
-    let pre = by-if1 .before .before .pre in
-    search (needs, pre (if1 .taken))
+put-requires c κs = search (needs, c .before .before .before .before .pre (c .before .before .if1 .taken))
 
 same-length : tie.Need-same-length
 same-length c = search needs

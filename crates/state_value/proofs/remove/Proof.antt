@@ -18,14 +18,9 @@ joined-requires c κs = search needs
 
 returns : tie.Need-returns
 returns c =
-    let by-remove = c .before in
-    let remove = by-remove .remove in
-    let by-numbers = by-remove .before in
-    let numbers = by-numbers .numbers in
-    let before = by-numbers .before .before .before in
-    let c5 = before in
+    let c5 = c .before .before .before .before .before in
     let long : length (c5 .args .s .marks) ≡ 256 = search (needs, c5 .good) in
-    removed-over _ (c5 .pre) _ _ _ _ _ long (numbers .ensures) (remove .ensures) (c .joined .ensures)
+    removed-over _ (c5 .pre) _ _ _ _ _ long (c .before .before .numbers .ensures) (c .before .remove .ensures) (c .joined .ensures)
 
 pub remove-spec : {M : Type 1} → statement M
 remove-spec = tie.close (tie.spec numbers-requires remove-requires joined-requires returns)

@@ -25,17 +25,10 @@ joined-requires c κs = search needs
 
 returns : tie.Need-returns
 returns c =
-    let by-numbers = c .before in
-    let numbers = by-numbers .numbers in
-    let by-save-conflicts = by-numbers .before in
-    let save-conflicts = by-save-conflicts .save-conflicts in
-    let by-wide = by-save-conflicts .before in
-    let wide = by-wide .wide in
-    let before = by-wide .before .before .before .before .before .before in
-    let c9 = before in
+    let c9 = c .before .before .before .before .before .before .before .before .before in
     let long : length (c9 .args .s .marks) ≡ 256 = search (needs, c9 .good) in
-    saved-over _ (c9 .pre .0) _ (c9 .pre .1) _ _ _ _ _ long (c9 .pre .2) (wide .ensures)
-    (save-conflicts .ensures) (numbers .ensures) (c .joined .ensures)
+    saved-over _ (c9 .pre .0) _ (c9 .pre .1) _ _ _ _ _ long (c9 .pre .2) (c .before .before .before .wide .ensures)
+    (c .before .before .save-conflicts .ensures) (c .before .numbers .ensures) (c .joined .ensures)
 
 pub save-conflicts-spec : {M : Type 1} → statement M
 save-conflicts-spec =

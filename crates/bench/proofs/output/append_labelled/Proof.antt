@@ -14,11 +14,7 @@ same-length : tie.Need-same-length
 same-length c = search needs
 
 returns : tie.Need-returns
-returns c =
-    let by-append-number = c .before .before in
-    let append-number = by-append-number .append-number in
-    let append = by-append-number .before .before .before .before .append in
-    labelled _ _ _ _ _ (search needs) (append .ensures) _ _ _ (append-number .ensures)
+returns c = labelled _ _ _ _ _ (search needs) (c .before .before .before .before .before .before .append .ensures) _ _ _ (c .before .before .append-number .ensures)
 
 pub append-labelled-spec : {M : Type 1} → statement M
 append-labelled-spec = tie.close (tie.spec append-requires append-number-requires same-length returns)

@@ -23,14 +23,9 @@ same-length : tie.Need-same-length
 same-length c = search needs
 
 returns : tie.Need-returns
-returns c =
-    let by-append = c .before .before in
-    let append = by-append .append in
-    let by-decimal = by-append .before .before .before in
-    let decimal = by-decimal .decimal in
-    let wide = by-decimal .before .before .wide in
-    number-appends _ _ _ _ (wide .ensures) (search needs) (decimal .ensures .0) (decimal .ensures .1 .0) (decimal .ensures .1 .1) _ _ _ _
-    (append .ensures)
+returns c = number-appends _ _ _ _ (c .before .before .before .before .before .before .before .wide .ensures) (search needs)
+    (c .before .before .before .before .before .decimal .ensures .0) (c .before .before .before .before .before .decimal .ensures .1 .0)
+    (c .before .before .before .before .before .decimal .ensures .1 .1) _ _ _ _ (c .before .before .append .ensures)
 
 pub append-number-spec : {M : Type 1} → statement M
 append-number-spec =

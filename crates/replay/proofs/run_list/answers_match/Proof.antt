@@ -44,22 +44,12 @@ after-state-requires : tie.Need-after-state-requires
 after-state-requires c κs = search needs
 
 returns : tie.Need-returns
-returns c =
-    let by-after-byte = c .before in
-    let after-byte = by-after-byte .after-byte in
-    let by-after-words = by-after-byte .before in
-    let after-words = by-after-words .after-words in
-    let by-size = by-after-words .before in
-    let size = by-size .size in
-    let by-after-word2 = by-size .before .before in
-    let after-word2 = by-after-word2 .after-word2 in
-    let by-after-word = by-after-word2 .before in
-    let after-word = by-after-word .after-word in
-    let by-after-refusal = by-after-word .before in
-    let after-refusal = by-after-refusal .after-refusal in
-    let run = by-after-refusal .before .before .before .before .run in
-    λ t. run-told _ _ _ _ _ (search needs) (search needs) _ _ _ (run .ensures) _ (after-refusal .ensures) _ (after-word .ensures) _
-    (after-word2 .ensures) _ (size .ensures) _ (after-words .ensures) _ (after-byte .ensures) _ (c .after-state .ensures) t
+returns c = λ t. run-told _ _ _ _ _ (search needs) (search needs) _ _ _
+    (c .before .before .before .before .before .before .before .before .before .before .before .run .ensures) _
+    (c .before .before .before .before .before .before .before .after-refusal .ensures) _
+    (c .before .before .before .before .before .before .after-word .ensures) _ (c .before .before .before .before .before .after-word2 .ensures) _
+    (c .before .before .before .size .ensures) _ (c .before .before .after-words .ensures) _ (c .before .after-byte .ensures) _
+    (c .after-state .ensures) t
 
 pub answers-match-spec : {M : Type 1} → statement M
 answers-match-spec =

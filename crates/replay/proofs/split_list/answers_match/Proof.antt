@@ -32,18 +32,9 @@ after-words-requires : tie.Need-after-words-requires
 after-words-requires c κs = search needs
 
 returns : tie.Need-returns
-returns c =
-    let by-word-count = c .before in
-    let word-count = by-word-count .word-count in
-    let by-after-state = by-word-count .before .before in
-    let after-state = by-after-state .after-state in
-    let by-after-byte = by-after-state .before in
-    let after-byte = by-after-byte .after-byte in
-    let by-after-refusal = by-after-byte .before in
-    let after-refusal = by-after-refusal .after-refusal in
-    let split = by-after-refusal .before .before .before .split in
-    λ t. split-told _ _ _ _ (search needs) _ _ (split .ensures) _ (after-refusal .ensures) _ (after-byte .ensures) _ (after-state .ensures) _
-    (word-count .ensures) _ (c .after-words .ensures) t
+returns c = λ t. split-told _ _ _ _ (search needs) _ _ (c .before .before .before .before .before .before .before .before .split .ensures) _
+    (c .before .before .before .before .before .after-refusal .ensures) _ (c .before .before .before .before .after-byte .ensures) _
+    (c .before .before .before .after-state .ensures) _ (c .before .word-count .ensures) _ (c .after-words .ensures) t
 
 pub answers-match-spec : {M : Type 1} → statement M
 answers-match-spec =

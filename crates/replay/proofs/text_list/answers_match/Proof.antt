@@ -35,20 +35,10 @@ after-hex-requires : tie.Need-after-hex-requires
 after-hex-requires c κs = search needs
 
 returns : tie.Need-returns
-returns c =
-    let by-after-byte = c .before in
-    let after-byte = by-after-byte .after-byte in
-    let by-after-refusal = by-after-byte .before in
-    let after-refusal = by-after-refusal .after-refusal in
-    let by-after-word = by-after-refusal .before in
-    let after-word = by-after-word .after-word in
-    let by-text = by-after-word .before in
-    let text = by-text .text in
-    let at-split = by-text .before .before .before .before .before .before .split in
-    λ t.
-    let split = at-split .ensures in
-    let told = text-told _ _ _ _ (search needs) _ _ split _ _ _ _ (text .ensures) in
-    told _ (after-word .ensures) _ (after-refusal .ensures) _ (after-byte .ensures) _ (c .after-hex .ensures) t
+returns c = λ t.
+    let split = c .before .before .before .before .before .before .before .before .before .before .split .ensures in
+    let told = text-told _ _ _ _ (search needs) _ _ split _ _ _ _ (c .before .before .before .before .text .ensures) in
+    told _ (c .before .before .before .after-word .ensures) _ (c .before .before .after-refusal .ensures) _ (c .before .after-byte .ensures) _ (c .after-hex .ensures) t
 
 pub answers-match-spec : {M : Type 1} → statement M
 answers-match-spec =
