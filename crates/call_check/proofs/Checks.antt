@@ -6,9 +6,8 @@ use mathlib.Core.Path.{_≡_, refl, sym, ap, _∙_}
 use Prim.Native.Nat.{ℕ, zero, suc, _≤_, _<_}
 use native.Mathlib.Omega.{arith}
 use lib.ListN.{length, getElem?}
-use Rattle.utf8.specs.Utf8.{if_then_else_}
-use Rattle.rules.specs.Base.{firstFault, _>>?_}
-use Rattle.rules.specs.Outcome.{Outcome, ok, _>>=_, refuse}
+use Rattle.rules.specs.Base.{_>>?_}
+use Rattle.rules.specs.Outcome.{Outcome, ok, _>>=_}
 use Rattle.rules.specs.Value.{Kind}
 use Rattle.rules.specs.Form.{Form, nodeCount, readForm, portable}
 use Rattle.rules.specs.Tree.{Tree, kindOf}
@@ -16,12 +15,11 @@ use Rattle.rules.specs.Accept.{Checked, accepted, refusedAt, Accepted, checkFor
 use Rattle.rules.specs.Codes.{checkCode, kindCode}
 use Rattle.rules.specs.Calls.{formIn, asked, callKind, callPortable}
 use Rattle.rules.specs.declared.Refused.{Refused}
-use Rattle.rules.specs.Demands.{All}
 use Rattle.rules.specs.Sound.{Sound}
-use Rattle.rules.proofs.Acceptance.{All-at, is-some, lookup-some, accepted-form, accepted-trees, accepted-trees-sound, accepted-length, accepted-passed}
+use Rattle.rules.proofs.Acceptance.{All-at, is-some, lookup-some, accepted-form, accepted-trees, accepted-trees-sound, accepted-length}
 use Rattle.rules.proofs.WellMadeLaws.{check-numbers, well-made}
-use Rattle.form_layout.proofs.Sizes.{nodes-length}
-use Rattle.form_fields.specs.Names.{GoodNames}
+use Rattle.form_layout.proofs.Sizes.{nodes-length, accepted-names}
+use Rattle.form_layout.specs.Layout.{GoodNames}
 use Rattle.call_check.specs.Reader.{told, yesCode}
 
 positive : (n : ℕ) → 1 ≤ n → n ≡ 0 → ⊥
@@ -46,16 +44,8 @@ check-eight b r e z = let (a, h) = check-accepted b r e z in omega (arith, well-
 pub node-below : (b : List ℕ) (k n : ℕ) → n ≡ nodeCount b → k < n → k < nodeCount b
 node-below b k n m h = omega (arith, m, h)
 
-all-no-fault : {A : Type 0} (p : A → Bool) (k : ℕ) (l : List A) → All (λ (a : A). p a ≡ true) l → firstFault p k l ≡ none
-unfolding firstFault if_then_else_
-all-no-fault p k [] h = refl
-all-no-fault p k (x ∷ l) h = rw (h .0) (all-no-fault p (suc k) l (h .1))
-
-pub names-good : (b : List ℕ) (a : Accepted) → checkForm b ≡ accepted a → GoodNames b
-names-good b a h = record { good = accepted-length b a h; names = all-no-fault _ 0 _ (accepted-passed b a h .names) }
-
 pub check-names : (b : List ℕ) (r : Refused) → r ≡ checkCode (checkForm b) → r .number ≡ 0 → GoodNames b
-check-names b r e z = let (a, h) = check-accepted b r e z in names-good b a h
+check-names b r e z = let (a, h) = check-accepted b r e z in accepted-names b a h
 
 -- ---- how a call goes on
 pub form-passed : {A : Type 0} (b : List ℕ) (a : Accepted) (f : Accepted → Outcome A) → checkForm b ≡ accepted a → (formIn b >>= f) ≡ f a

@@ -1,27 +1,26 @@
 -- Splitting as an entry point: what is refused leaves, and the letters of a form in two buffers.
-use mathlib.Core.Bool.{Bool, true, false, and-eq-true-iff, _&&_}
+use mathlib.Core.Bool.{Bool, true, false}
 use mathlib.Core.List.{List, [], _∷_, _++_}
 use mathlib.Core.Option.{Option, some, none}
 use mathlib.Core.Path.{_≡_, refl, sym, ap, _∙_}
 use Prim.Native.Nat.{ℕ, suc, _+_, _-_, _≤_, _<_}
 use native.Mathlib.Omega.{arith}
-use borrow.Author.Tests.{leb-true}
-use lib.Dec.{eqb, leb}
+use lib.Dec.{eqb}
 use lib.ListN.{length, replicate, take, length-append, length-replicate}
 use lib.Seq.{sets, sets-eq, length-sets}
 use native.Mathlib.Nat.{sub-zero}
 use Rattle.utf8.specs.Utf8.{if_then_else_}
 use Rattle.rules.specs.Outcome.{Outcome, ok, _>>=_, Refusal}
 use Rattle.rules.specs.Sheet.{sheetFault, arguments}
-use Rattle.rules.specs.Form.{Name, readForm, nameBytes, oneCharacter, nodeCount, fieldCount, nameCount, areaLength, countsGood, formLength}
-use Rattle.rules.specs.Accept.{Checked, accepted, refusedAt, Accepted, Letters, checkForm, lengthGood, lettersOf}
+use Rattle.rules.specs.Form.{Name, readForm, nameBytes, oneCharacter, nameCount}
+use Rattle.rules.specs.Accept.{Checked, accepted, refusedAt, Accepted, Letters, checkForm, lettersOf}
 use Rattle.rules.specs.Tree.{shortOf}
 use Rattle.rules.specs.Codes.{checkCode, placeOf}
 use Rattle.rules.specs.Run.{Line, padded, split}
 use Rattle.rules.specs.Calls.{toRaw, Splitting, splitRefused, splitReport, callSplit}
 use Rattle.rules.specs.declared.Refused.{Refused}
 use Rattle.rules.specs.declared.State.{State as Raw}
-use Rattle.take_search.specs.Codes.{Checked as GoodNames}
+use Rattle.form_layout.specs.Layout.{GoodNames}
 use Rattle.split_args.proofs.States.{all-zero, empty-raw}
 use Rattle.split_args.specs.declared.Ended.{Ended}
 use Rattle.split_args.specs.Construct.{rawOf, Given, Ends, refusalNumber, refusalPlace}
@@ -29,7 +28,7 @@ use Rattle.split_arg.specs.Clusters.{letters}
 use Rattle.form_letters.specs.Classes.{namedAt}
 use Rattle.form_letters.specs.Letters.{lettersFrom, lettersByName, WroteLetters}
 use Rattle.form_letters.proofs.Order.{same-letters}
-use Rattle.form_layout.proofs.Sizes.{names-length}
+use Rattle.form_layout.proofs.Sizes.{names-length, names-few, accepted-names}
 use Rattle.rules.proofs.Acceptance.{accepted-form}
 use Rattle.rules.proofs.LetterLaws.{split-same}
 use Rattle.rules.proofs.CodeLaws.{place-code}
@@ -37,7 +36,7 @@ use Rattle.split_args.proofs.Plain.{alike-ends}
 use Rattle.rules.proofs.GivenLaws.{split-form, split-sheet, split-short, split-goes}
 use Rattle.call_check.specs.Reader.{splittingOf, answerOf, Answers}
 use Rattle.call_check.specs.Ready.{Ready}
-use Rattle.call_check.proofs.Checks.{check-accepted, names-good}
+use Rattle.call_check.proofs.Checks.{check-accepted}
 
 pub refused-splitting :
     (l o : List ℕ) (number place : ℕ)
@@ -112,15 +111,6 @@ letters-few a wanted k (m ∷ ms) = go (letters-few a wanted (suc k) ms) (wanted
     go rest true e = rw e (omega (arith, length-append (shortOf a m) (lettersFrom a wanted (suc k) ms), short-few a m, rest))
     go rest false e = rw e (omega (arith, rest))
 
-names-few : (b : List ℕ) → lengthGood b ≡ true → nameCount b ≤ 128
-unfolding lengthGood countsGood
-names-few b e =
-    let p = and-eq-true-iff (countsGood b) (eqb (formLength b) (length b)) .0 e in
-    let counts : Bool = leb 8 (length b) && (leb 1 (nodeCount b) && leb (nodeCount b) 64) && (leb 1 (fieldCount b) && leb (fieldCount b) 16) in
-    let q = and-eq-true-iff (counts && leb (nameCount b) 128) (leb (areaLength b) 4096) .0 (p .0) in
-    let r = and-eq-true-iff counts (leb (nameCount b) 128) .0 (q .0) in
-    leb-true (nameCount b) 128 (r .1)
-
 take-front : (w l : List ℕ) → take (length w) (w ++ l) ≡ w
 take-front [] l = refl
 take-front (x ∷ w) l = ap {B = List ℕ} (λ r. x ∷ r) (take-front w l)
@@ -135,7 +125,7 @@ module _ (b : List ℕ) (kind : ℕ) (o p : List ℕ) (n : ℕ) (g : GoodNames b
   long = ap length z ∙ length-replicate {A = ℕ} 128 0
 
   few : length (lettersByName (readForm b) kind) ≤ 128
-  few = omega (arith, letters-few (readForm b .area) (namedAt (readForm b .nodes) kind) 0 (readForm b .names), names-length b, names-few b (g .good))
+  few = omega (arith, letters-few (readForm b .area) (namedAt (readForm b .nodes) kind) 0 (readForm b .names), names-length b, names-few b g)
 
   pub letters-fit : n ≤ length p
   letters-fit =
@@ -150,9 +140,7 @@ module _ (b : List ℕ) (kind : ℕ) (o p : List ℕ) (n : ℕ) (g : GoodNames b
 
 -- ---- an accepted form and a checked sheet
 pub ready-names : (form sheet items : List ℕ) → Ready form sheet items → GoodNames form
-ready-names form sheet items r =
-    let g = names-good form (r .result) (r .accepts) in
-    record { good = g .good; names = g .names }
+ready-names form sheet items r = accepted-names form (r .result) (r .accepts)
 
 pub ready-given : (form sheet items : List ℕ) → Ready form sheet items → Given sheet items
 ready-given form sheet items r = record { checked = r .checked; room = r .room }
@@ -214,7 +202,7 @@ split-letters form sheet items o p n q s m k out r g zo zq wo wq c =
 
 pub codes-fit : (form sheet items o : List ℕ) → Ready form sheet items → o ≡ replicate 128 0 → nameCount form ≤ length o
 codes-fit form sheet items o r z =
-    omega (arith, names-few form (ready-names form sheet items r .good), ap length z ∙ length-replicate {A = ℕ} 128 0)
+    omega (arith, names-few form (ready-names form sheet items r), ap length z ∙ length-replicate {A = ℕ} 128 0)
 
 -- the state that the items start in
 pub split-state :

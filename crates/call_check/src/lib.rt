@@ -8,7 +8,7 @@ ghost use Rattle.rules.specs.Form.{readForm};
 ghost use Rattle.rules.specs.Accept.{checkForm, lettersOf};
 ghost use Rattle.rules.specs.Codes.{checkCode, kindCode, placeOf};
 ghost use Rattle.rules.specs.Calls.{callKind, callPortable, callSplit, splitRefused};
-ghost use Rattle.take_search.specs.Codes.{Coded};
+ghost use Rattle.form_codes.specs.Codes.{CodedNames};
 ghost use Rattle.split_args.specs.Construct.{Ends};
 ghost use Rattle.call_check.specs.Reader.{sheetCode, told, yesCode, splittingOf, Answers};
 ghost use Rattle.call_check.specs.Ready.{Ready};
@@ -121,7 +121,7 @@ fn zeros() -> [u32; 128]
 
 // The same as `split_accepted`, with the letters of the form worked out.
 fn split_clusters(form: &[u8], codes: &[u32], sheet: &[u8], items: &mut [u32]) -> Ended
-    requires { ⌜ Ready (now form) (now sheet) (now items) × Coded (now form) (now codes) ⌝ }
+    requires { ⌜ Ready (now form) (now sheet) (now items) × CodedNames (now form) (now codes) ⌝ }
     ensures { λ r. ⌜ Ends (lettersOf (readForm (now (form .entry)))) (now (sheet .entry)) (length (now (items .entry))) (now (items .exit)) r ⌝ }
 {
     let mut flags = zeros();
@@ -135,7 +135,7 @@ fn split_clusters(form: &[u8], codes: &[u32], sheet: &[u8], items: &mut [u32]) -
 // An accepted form with its short names as numbers, a checked sheet, and room for the items. The letters are worked out only
 // where one can be looked up.
 pub fn split_accepted(form: &[u8], codes: &[u32], sheet: &[u8], items: &mut [u32]) -> Ended
-    requires { ⌜ Ready (now form) (now sheet) (now items) × Coded (now form) (now codes) ⌝ }
+    requires { ⌜ Ready (now form) (now sheet) (now items) × CodedNames (now form) (now codes) ⌝ }
     ensures { λ r. ⌜ Ends (lettersOf (readForm (now (form .entry)))) (now (sheet .entry)) (length (now (items .entry))) (now (items .exit)) r ⌝ }
 {
     if split_args::all_plain(sheet) {
@@ -150,7 +150,7 @@ fn split_ready(form: &[u8], sheet: &[u8], items: &mut [u32]) -> Ended
     ensures { λ r. ⌜ Answers (callSplit (now (form .entry)) (now (sheet .entry)) (length (now (items .entry)))) (now (items .exit)) r ⌝ }
 {
     let mut codes = zeros();
-    take_search::codes(form, &mut codes);
+    form_codes::codes(form, &mut codes);
     split_accepted(form, &codes, sheet, items)
 }
 

@@ -27,13 +27,14 @@ use Rattle.rules.proofs.Acceptance.{is-some}
 use Rattle.split_arg.specs.Items.{recordAt}
 use Rattle.state_marks.proofs.Laws.{in-kept}
 use Rattle.state_marks.proofs.Marks.{present-at}
-use Rattle.take_search.specs.Codes.{Checked, Coded, namedAt}
+use Rattle.form_layout.specs.Layout.{GoodNames}
+use Rattle.form_codes.specs.Codes.{CodedNames, namedAt}
 use Rattle.take_search.specs.Search.{HasNames, HasItem}
 use Rattle.call_check.proofs.Checks.{check-accepted, form-passed}
 use Rattle.call_table.proofs.Laws.{area-length}
 use Rattle.call_form.specs.Keys.{noKey, Keyed}
 use Rattle.call_form.specs.declared.Key.{Key}
-use Rattle.call_form.proofs.Tests.{accepted-names}
+use Rattle.form_layout.proofs.Sizes.{accepted-names}
 use Rattle.call_answers.specs.Answers.{coded, answerWith, placeOrNone, plainAnswer}
 use Rattle.call_answers.specs.declared.Answer.{Answer}
 use Rattle.call_find.specs.declared.ItemRecord.{ItemRecord}
@@ -107,7 +108,7 @@ module _ (form sheet : List ℕ) (k : ℕ) (r : Refused) (e : r ≡ checkCode (c
     pub start-accepted : (a : Accepted) × (checkForm form ≡ accepted a)
     start-accepted = check-accepted form r e z
 
-    pub start-checked : Checked form
+    pub start-checked : GoodNames form
     start-checked = accepted-names form (start-accepted .0) (start-accepted .1)
 
     module _ (f : ℕ) (ef : f ≡ sheetFault sheet) where
@@ -127,7 +128,7 @@ module _ (form sheet : List ℕ) (k : ℕ) (r : Refused) (e : r ≡ checkCode (c
         pub start-made : sheetFault sheet ≡ 0
         start-made = sym ef ∙ n
 
-        module _ (key : Key) (ek : Keyed form k key) (codes : List ℕ) (ec : Coded form codes) (count : ℕ) (en : count ≡ argumentCount sheet) (a : ℕ) (ea : a ≡ areaStart 2 count) where
+        module _ (key : Key) (ek : Keyed form k key) (codes : List ℕ) (ec : CodedNames form codes) (count : ℕ) (en : count ≡ argumentCount sheet) (a : ℕ) (ea : a ≡ areaStart 2 count) where
           pub start-ready : Started form sheet k (record { number = 0; place = 0; area = length sheet - a; key = key; codes = codes })
           start-ready =
               let at = ek .at (start-accepted .0) (start-accepted .1) in

@@ -21,10 +21,9 @@ use Rattle.rules.specs.Calls.{fromRaw, itemFrom, asked, handed, onForm, keyOf, 
 use Rattle.rules.specs.declared.Refused.{Refused}
 use Rattle.rules.specs.declared.State.{State as Raw}
 use Rattle.rules.proofs.Acceptance.{lookup-some}
-use Rattle.form_layout.specs.Layout.{HasName, nameBytesAt}
+use Rattle.form_layout.specs.Layout.{HasName, nameBytesAt, GoodNames}
 use Rattle.split_arg.specs.Items.{recordAt}
 use Rattle.state_marks.specs.Lent.{numbersOf}
-use Rattle.take_search.specs.Codes.{Checked}
 use Rattle.take_search.specs.Items.{Table}
 use Rattle.take_search.specs.Search.{HasItem}
 use Rattle.take.specs.Takes.{Items}
@@ -36,7 +35,8 @@ use Rattle.call_form.specs.Given.{Given, Tests}
 use Rattle.call_form.specs.Keys.{keyNames, rulesKey, KeyAt, Keyed, commandAt}
 use Rattle.call_form.specs.Hands.{stateWith, Hands, Says}
 use Rattle.call_form.specs.declared.Key.{Key}
-use Rattle.call_form.proofs.Tests.{accepted-names, refused-state, refused-answer, passed}
+use Rattle.form_layout.proofs.Sizes.{accepted-names}
+use Rattle.call_form.proofs.Tests.{refused-state, refused-answer, passed}
 use Rattle.call_form.proofs.Keys.{past, command-name, command-word, has-name}
 
 -- what a call asks of the form or of the items is there, or it is refused
@@ -84,7 +84,7 @@ module _ (form sheet words : List ℕ) (x : Raw) (r : Refused) (t : Tests form s
     pub tests-accepted : (a : Accepted) × (checkForm form ≡ accepted a)
     tests-accepted = (tests-given .result, tests-given .accepts)
 
-    pub tests-names : Checked form
+    pub tests-names : GoodNames form
     tests-names = accepted-names form (tests-given .result) (tests-given .accepts)
 
     abbrev these : List Item

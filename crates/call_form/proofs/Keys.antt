@@ -20,13 +20,13 @@ use Rattle.rules.proofs.WellMadeLaws.{well-made}
 use Rattle.form_names.specs.Names.{nameOf}
 use Rattle.form_names.specs.declared.Name as names
 use Rattle.form_layout.specs.declared.Node as layout
-use Rattle.form_layout.specs.Layout.{nodeOf, HasName, nameBytesAt}
+use Rattle.form_layout.specs.Layout.{nodeOf, HasName, nameBytesAt, GoodNames}
 use Rattle.form_layout.proofs.Sizes.{sized, nodes-length, names-length}
-use Rattle.take_search.specs.Codes.{Checked, namesFrom, namedAt}
+use Rattle.form_codes.specs.Codes.{namesFrom, namedAt}
 use Rattle.eval_told.proofs.NodeLaw.{node-tree}
 use Rattle.call_form.specs.Keys.{noKey, KeyAt, Keyed, commandAt}
 use Rattle.call_form.specs.declared.Key.{Key}
-use Rattle.call_form.proofs.Tests.{accepted-names}
+use Rattle.form_layout.proofs.Sizes.{accepted-names}
 
 pub past : {A : Type 0} (l : List A) (k : ℕ) → length l ≤ k → getElem? l k ≡ none
 past [] k h = refl
@@ -43,7 +43,7 @@ form-eight b e = omega (arith, well-made b (e .0) (e .1) .counts .exact)
 pub name-below : (b : List ℕ) (k n : ℕ) → n ≡ nameCount b → k < n → k < nameCount b
 name-below b k n m h = omega (arith, m, h)
 
-pub names-fit : (b w : List ℕ) → Checked b → w ≡ replicate 128 0 → nameCount b ≤ length w
+pub names-fit : (b w : List ℕ) → GoodNames b → w ≡ replicate 128 0 → nameCount b ≤ length w
 names-fit b w c e = omega (arith, sized b (c .good) .counts .names, ap length e, length-replicate {A = ℕ} 128 0)
 
 -- ---- a tree's names, by the kind of its node

@@ -23,7 +23,8 @@ use Rattle.state_marks.specs.declared.Numbers.{Numbers}
 use Rattle.state_marks.specs.Lent.{rawOf, numbersOf, stateOf, Fine}
 use Rattle.state_marks.proofs.Laws.{raw-back}
 use Rattle.state_value.proofs.Given.{given-fine}
-use Rattle.take_search.specs.Codes.{Checked, Coded as CodedNames}
+use Rattle.form_layout.specs.Layout.{GoodNames}
+use Rattle.form_codes.specs.Codes.{CodedNames}
 use Rattle.take_search.specs.Items.{partBytes}
 use Rattle.take_search.specs.Search.{HasNames}
 use Rattle.take.specs.Takes.{Ready, Items, TakesFlag, TakesArg, TakesCmd, valueOf}
@@ -38,11 +39,11 @@ use Rattle.call_answers.specs.declared.StateAnswer.{StateAnswer}
 use Rattle.call_table.specs.Given.{HasState}
 use Rattle.call_form.specs.Given.{Given}
 use Rattle.call_form.specs.Hands.{stateWith, SmallValue, valueAnswer, Hands, Says}
-use Rattle.call_form.proofs.Tests.{accepted-names}
+use Rattle.form_layout.proofs.Sizes.{accepted-names}
 
 -- ---- what an accepted form and a good state give the takes
 module _ (form sheet words : List ℕ) (x : Raw) (g : Given form sheet words x) where
-  pub given-names : Checked form
+  pub given-names : GoodNames form
   given-names = accepted-names form (g .result) (g .accepts)
 
   pub has-names : (codes : List ℕ) (first count : ℕ) → CodedNames form codes → first + count ≤ nameCount form → HasNames form codes first count

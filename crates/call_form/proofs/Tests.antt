@@ -14,15 +14,11 @@ use Rattle.rules.specs.Calls.{formIn, stateIn, fromRaw, handed, onForm}
 use Rattle.rules.specs.declared.Refused.{Refused}
 use Rattle.rules.specs.declared.State.{State as Raw}
 use Rattle.call_answers.specs.Answers.{Coded, coded, codedOr0, answerWith, answerOf, stateAnswerOf}
-use Rattle.call_check.proofs.Checks.{check-accepted, form-passed, names-good}
-use Rattle.take_search.specs.Codes.{Checked}
+use Rattle.call_check.proofs.Checks.{check-accepted, form-passed}
 use Rattle.call_table.specs.Given.{itemsGiven, GivesState}
 use Rattle.call_table.proofs.Laws.{onTable, on-table, state-given}
 use Rattle.call_form.specs.Given.{Given, givenIn, Tests}
 use Rattle.call_form.specs.Hands.{stateWith}
-
-pub accepted-names : (b : List ℕ) (a : Accepted) → checkForm b ≡ accepted a → Checked b
-accepted-names b a h = let g = names-good b a h in record { good = g .good; names = g .names }
 
 -- ---- refused before the end
 abbrev refusalOf : {A : Type 0} → Refusal → Outcome A → Refusal

@@ -12,7 +12,7 @@ use Rattle.rules.specs.Form.{nameCount, readForm, nameBytes}
 use Rattle.rules.specs.Tree.{Named}
 use Rattle.rules.specs.Accept.{Accepted, accepted, checkForm}
 use Rattle.rules.specs.Calls.{flagNames, argumentKey, keyOf, Key as RulesKey}
-use Rattle.take_search.specs.Codes.{namedAt}
+use Rattle.form_codes.specs.Codes.{namedAt}
 use Rattle.call_form.specs.declared.Key.{Key}
 
 abbrev pub keyNames : List ℕ → Key → Named

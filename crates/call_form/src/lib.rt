@@ -11,7 +11,8 @@ ghost use Rattle.rules.specs.Run.{parsedMark};
 ghost use Rattle.rules.specs.Take.{matchesArg, takeFlag, takeArg, takeCmd};
 ghost use Rattle.rules.specs.Calls.{fromRaw, callMatches, callTakeFlag, callTakeArg, callTakeCmd};
 ghost use Rattle.state_marks.specs.Lent.{rawOf, numbersOf};
-ghost use Rattle.take_search.specs.Codes.{Checked, Coded};
+ghost use Rattle.form_layout.specs.Layout.{GoodNames};
+ghost use Rattle.form_codes.specs.Codes.{CodedNames};
 ghost use Rattle.take_search.specs.Search.{HasItem};
 ghost use Rattle.call_answers.specs.Answers.{coded, yesNo, yesCode, takenCode, answerWith, answerOf, stateAnswerOf};
 ghost use Rattle.call_table.specs.Given.{HasState};
@@ -146,11 +147,11 @@ fn no_codes() -> [u32; 128]
 
 // The codes of a form's names.
 pub fn codes_of(form: &[u8]) -> [u32; 128]
-    requires { ⌜ Checked (now form) ⌝ }
-    ensures { λ r. ⌜ Coded (now (form .entry)) r ⌝ }
+    requires { ⌜ GoodNames (now form) ⌝ }
+    ensures { λ r. ⌜ CodedNames (now (form .entry)) r ⌝ }
 {
     let mut words = no_codes();
-    take_search::codes(form, &mut words);
+    form_codes::codes(form, &mut words);
     words
 }
 
@@ -206,7 +207,7 @@ fn is_command(form: &[u8], k: usize) -> bool
 
 // Whether item i has one of the names.
 fn matched(form: &[u8], sheet: &[u8], items: &[u32], i: usize, key: Key) -> Answer
-    requires { ⌜ Checked (now form) × (key .first + key .count ≤ nameCount (now form)) × HasItem (now sheet) (now items) i ⌝ }
+    requires { ⌜ GoodNames (now form) × (key .first + key .count ≤ nameCount (now form)) × HasItem (now sheet) (now items) i ⌝ }
     ensures { λ r. ⌜ Says (now (sheet .entry)) (now (items .entry)) i (matchesArg (keyNames (now (form .entry)) key) (key .adjacent)) r ⌝ }
 {
     let codes = codes_of(form);

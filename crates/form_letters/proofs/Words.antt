@@ -1,7 +1,7 @@
 -- Letters appended to the words of a slice, record by record.
 use mathlib.Core.Path.{_≡_, refl, sym, ap, _∙_}
 use mathlib.Core.Bool.{Bool, true, false, not}
-use mathlib.Core.List.{List, [], _∷_, _++_, map, append-assoc, append-nil}
+use mathlib.Core.List.{List, [], _∷_, _++_, append-assoc, append-nil}
 use mathlib.Core.Option.{Option, some, none}
 use Prim.Native.Nat.{ℕ, zero, suc, _+_, _-_, _≤_, _<_}
 use native.Mathlib.Nat.{add-zero, add-suc, suc-add, zero-add}
@@ -9,8 +9,8 @@ use native.Mathlib.Numerals.{add-one}
 use native.Mathlib.Omega.{arith}
 use lib.Bits.{bitAnd}
 use lib.Dec.{eqb}
-use lib.ListN.{length, getD, getElem?, drop, set, length-append, drop-of-length-le}
-use lib.Seq.{sets, getD-take}
+use lib.ListN.{length, getD, drop, set, length-append, drop-of-length-le}
+use lib.Seq.{sets}
 use borrow.Author.Tests.{not-true, not-false}
 use Rattle.utf8.specs.Utf8.{if_then_else_}
 use Rattle.rules.specs.Codes.{placeCode}
@@ -19,7 +19,8 @@ use Rattle.rules.specs.Tree.{shortOf}
 use Rattle.rules.proofs.Acceptance.{lookup-some}
 use Rattle.rules.proofs.Places.{drop-below}
 use Rattle.form_layout.proofs.Sizes.{names-length}
-use Rattle.take_search.specs.Codes.{codeOf, codesOf, Coded}
+use Rattle.form_codes.specs.Codes.{codeOf, CodedNames}
+use Rattle.form_codes.proofs.NameCodes.{code-at}
 use Rattle.form_letters.specs.Letters.{lettersFrom, lettersByName, Wrote, letterList, letterIf, Appended}
 use Rattle.form_letters.specs.Classes.{namedAt, bits, classOf, Classed}
 
@@ -74,18 +75,6 @@ module _ (xs : List Node) (count : ℕ) (t : List ℕ) (z : Classed xs count t) 
 
 -- ---- a record's code
 
-mapped-at : {A : Type 0} (f : A → ℕ) (l : List A) (k : ℕ) (x : A) → getElem? l k ≡ some x → getD (map f l) k 0 ≡ f x
-mapped-at f [] k x e = let z : _≡_ {A = ℕ} 0 1 = cc in absurd (omega arith)
-mapped-at f (y ∷ l) zero x e = let z : y ≡ x = cc in rw z
-mapped-at f (y ∷ l) (suc k) x e = mapped-at f l k x e
-
-code-at : (b codes : List ℕ) (k : ℕ) (x : Name) → Coded b codes → k < nameCount b → getElem? (readForm b .names) k ≡ some x
-    → getD codes k 0 ≡ codeOf (readForm b .area) x
-unfolding codesOf
-code-at b codes k x z h e =
-    sym (getD-take (nameCount b) codes k 0 h)
-    ∙ rw (z .same) (mapped-at (codeOf (readForm b .area)) (readForm b .names) k x e)
-
 short-letter : (area : List ℕ) (x : Name) → letterList (codeOf area x) ≡ shortOf area x
 unfolding codeOf shortOf letterList if_then_else_
 short-letter area x = go (eqb (x .type) 0) (oneCharacter (nameBytes area x))
@@ -115,7 +104,7 @@ module _ (b : List ℕ) (kind : ℕ) (o₀ : List ℕ) where
   written-first = record { done = []; words = refl; count = refl; few = omega arith; same = refl }
 
   module _ (o : List ℕ) (n k m : ℕ) (z : Written b kind o₀ o n k) (em : m ≡ nameCount b) where
-    module _ (h : k < m) (codes : List ℕ) (coded : Coded b codes) (code : ℕ) (ec : code ≡ getD codes k 0) (wanted : Bool) (ew : wanted ≡ namedAt (readForm b .nodes) kind k) where
+    module _ (h : k < m) (codes : List ℕ) (coded : CodedNames b codes) (code : ℕ) (ec : code ≡ getD codes k 0) (wanted : Bool) (ew : wanted ≡ namedAt (readForm b .nodes) kind k) where
       letters-step :
           z .done ++ (letterIf wanted code ++ lettersFrom (readForm b .area) (namedAt (readForm b .nodes) kind) (suc k) (drop (suc k) (readForm b .names)))
           ≡ lettersByName (readForm b) kind

@@ -30,7 +30,7 @@ use Rattle.state_marks.specs.Lent.{rawOf, numbersOf, stateOf, Fine}
 use Rattle.rules.proofs.CodeLaws.{place-code, code-place}
 use Rattle.rules.proofs.GivenLaws.{run-form, run-sheet, run-short, run-cramped, run-goes}
 use Rattle.state_marks.proofs.Laws.{raw-back}
-use Rattle.take_search.specs.Codes.{Coded}
+use Rattle.form_codes.specs.Codes.{CodedNames}
 use Rattle.take_search.specs.Items.{Table}
 use Rattle.take_table.specs.Known.{Matchable, Known}
 use Rattle.eval_told.specs.Told.{Told}
@@ -247,7 +247,7 @@ module _ (form sheet i a : List ℕ) (c : Checked form sheet i a) (a′ : List �
     unfolding stateOf
     same-state = rw state (from-to (w .line .state))
 
-    pub fields-start : (codes : List ℕ) → Coded form codes → Begins form codes sheet i′ m p a′
+    pub fields-start : (codes : List ℕ) → CodedNames form codes → Begins form codes sheet i′ m p a′
     unfolding parsed
     fields-start codes k = record {
       result = c .ready .result;

@@ -14,7 +14,7 @@ use Rattle.rules.specs.Run.{Report}
 use Rattle.rules.specs.Calls.{toRaw}
 use Rattle.state_marks.specs.declared.Numbers.{Numbers}
 use Rattle.state_marks.specs.Lent.{rawOf}
-use Rattle.take_search.specs.Codes.{Coded}
+use Rattle.form_codes.specs.Codes.{CodedNames}
 use Rattle.take.specs.Takes as takes
 use Rattle.run_fields.specs.declared.Reached.{Reached}
 use Rattle.call_check.specs.Ready.{Ready}
@@ -68,7 +68,7 @@ pub record Checked (form sheet items answers : List ℕ) : Type 0 where
 pub record Begins (b codes s words m : List ℕ) (p : Numbers) (o : List ℕ) : Type 0 where
   pub result : Accepted
   pub accepts : checkForm b ≡ accepted result
-  pub coded : Coded b codes
+  pub coded : CodedNames b codes
   pub made : sheetFault s ≡ 0
   pub state : takes.Ready (sheetArea s) words m p 1
   pub room : 8240 ≤ length o

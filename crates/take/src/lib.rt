@@ -14,7 +14,7 @@ ghost use Rattle.rules.specs.Take.{isCommand, isOperand, matchesArg};
 ghost use Rattle.rules.specs.Calls.{itemFrom};
 ghost use Rattle.split_arg.specs.Items.{recordAt, itemOf};
 ghost use Rattle.state_marks.specs.Lent.{Fine};
-ghost use Rattle.take_search.specs.Codes.{namedAt};
+ghost use Rattle.form_codes.specs.Codes.{namedAt};
 ghost use Rattle.take_search.specs.Items.{operandKind};
 ghost use Rattle.take_search.specs.Search.{HasNames, HasItem, Sought};
 ghost use Rattle.take_table.specs.Known.{Says};

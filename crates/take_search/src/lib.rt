@@ -13,8 +13,8 @@ ghost use Rattle.rules.specs.Split.{Item as RulesItem};
 ghost use Rattle.rules.specs.Take.{containsName, matchesArg, isOperand};
 ghost use Rattle.rules.specs.Calls.{itemFrom};
 ghost use Rattle.split_arg.specs.Items.{recordAt};
-ghost use Rattle.form_layout.specs.Layout.{HasName};
-ghost use Rattle.take_search.specs.Codes.{Checked, codesOf, Written, namedAt};
+ghost use Rattle.form_layout.specs.Layout.{HasName, GoodNames};
+ghost use Rattle.form_codes.specs.Codes.{namedAt};
 ghost use Rattle.take_search.specs.Items.{HasPart, partBytes, operandKind};
 ghost use Rattle.take_search.specs.Search.{HasNames, HasItem, HasItems, Sought};
 use split_arg::Item;
@@ -25,31 +25,6 @@ fn wide(x: u32) -> u64
     ensures { λ r. ⌜ r ≡ x ⌝ }
 {
     x as u64
-}
-
-// The code of name record k: its character plus 1 if it is short, else 0.
-fn code(form: &[u8], k: usize) -> u32
-    requires { ⌜ HasName (now form) k ⌝ }
-    ensures { λ r. ⌜ getElem? (codesOf (readForm (now (form .entry)))) k ≡ some r ⌝ }
-{
-    let x = form_layout::name_at(form, k);
-    if x.kind != 0 {
-        return 0;
-    }
-    form_names::character(form_layout::name_bytes(form, k))
-}
-
-// The codes of all name records: made once, so that no short name is decoded again.
-pub fn codes(form: &[u8], out: &mut [u32])
-    requires { ⌜ Checked (now form) × (nameCount (now form) ≤ length (now out)) ⌝ }
-    ensures { λ _. ⌜ Written (now (form .entry)) (now (out .entry)) (now (out .exit)) ⌝ }
-{
-    let count = form_layout::name_count(form);
-    let mut k = 0;
-    while k < count {
-        out[k] = code(form, k);
-        k += 1;
-    }
 }
 
 // Whether one of `count` codes from `first` on is that of a character.
@@ -99,7 +74,7 @@ pub fn is_long(form: &[u8], k: usize, name: &[u8]) -> bool
 
 // Whether one of `count` name records from `first` on is this long name.
 fn has_long(form: &[u8], name: &[u8], first: usize, count: usize) -> bool
-    requires { ⌜ Checked (now form) × (first + count ≤ nameCount (now form)) ⌝ }
+    requires { ⌜ GoodNames (now form) × (first + count ≤ nameCount (now form)) ⌝ }
     ensures { λ r. ⌜ r ≡ containsName (namedAt (now (form .entry)) first count .longs) (now (name .entry)) ⌝ }
 {
     let end = first + count;

@@ -9,8 +9,7 @@ ghost use Rattle.rules.specs.Accept.{lengthGood};
 ghost use Rattle.rules.specs.Form.{nameCount};
 ghost use Rattle.rules.specs.Sheet.{sheetArea};
 ghost use Rattle.rules.specs.Split.{Item as RulesItem};
-ghost use Rattle.form_layout.specs.Layout.{nodeOf};
-ghost use Rattle.take_search.specs.Codes.{Checked};
+ghost use Rattle.form_layout.specs.Layout.{nodeOf, GoodNames};
 ghost use Rattle.take_search.specs.Search.{HasItem, Sought};
 ghost use Rattle.form_letters.specs.Classes.{Marked};
 ghost use Rattle.take_table.specs.Bits.{bitAt};
@@ -146,7 +145,7 @@ fn short_owners(codes: &[u32], count: usize, owners: &[u64; 128], character: u32
 
 // The nodes that have these bytes as a long name.
 fn long_owners(form: &[u8], count: usize, owners: &[u64; 128], name: &[u8]) -> u64
-    requires { ⌜ Checked (now form) × (count ≡ nameCount (now form)) × Owners (now form) count (now owners) ⌝ }
+    requires { ⌜ GoodNames (now form) × (count ≡ nameCount (now form)) × Owners (now form) count (now owners) ⌝ }
     ensures { λ r. ⌜ SetOf (now (form .entry)) (hasLong (now (form .entry)) (now (name .entry))) r ⌝ }
 {
     let mut set: u64 = 0;

@@ -5,7 +5,7 @@ use borrow.Author.Needs.{needs}
 use Rattle.rules.specs.Take.{matchesArg}
 use Rattle.rules.specs.Sheet.{sheetArea}
 use Rattle.take_search.proofs.Search.{item-there, Seeking, seeking-first, seeking-used, seeking-other, seeking-hit, seeking-last}
-use Rattle.take_search.specs.Codes.{namedAt}
+use Rattle.form_codes.specs.Codes.{namedAt}
 use Rattle.take_search.proofs.find_named.Statement.{statement}
 use Rattle.take_search.proofs.find_named.Tie as tie
 

@@ -19,7 +19,7 @@ use Rattle.eval_list.proofs.settle.Reads as settle-reads
 use Rattle.eval_list.proofs.shift.Reads as shift-reads
 use Rattle.eval_combine.proofs.choose.Reads as choose-reads
 use Rattle.eval_combine.proofs.optional.Reads as optional-reads
-use Rattle.eval_list.proofs.wide.Reads as wide-reads
+use Rattle.wire.proofs.wide.Reads as wide-reads
 
 abbrev pub μ-run-either : Measures 6 run-either-kinds.ps ℕ
 μ-run-either κs a = max (a .1 .1 .1 .1 .1 .1 .0) (a .1 .1 .1 .1 .1 .1 .1 .0) * 2 + 2

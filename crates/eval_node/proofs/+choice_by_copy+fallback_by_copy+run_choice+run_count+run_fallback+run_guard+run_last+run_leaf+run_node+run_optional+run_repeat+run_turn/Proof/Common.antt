@@ -67,7 +67,7 @@ use Rattle.eval_combine.proofs.optional.Reads as optional-reads
 use Rattle.eval_combine.proofs.optional_unchanged.Reads as optional-unchanged-reads
 use Rattle.eval_node.proofs.unwrite.Reads as unwrite-reads
 use Rattle.eval_shortcut.proofs.stays.Reads as stays-reads
-use Rattle.eval_node.proofs.wide.Reads as wide-reads
+use Rattle.wire.proofs.wide.Reads as wide-reads
 use Rattle.eval_shortcut.proofs.wrap.Reads as wrap-reads
 use Rattle.eval_node.proofs.write_value.Reads as write-value-reads
 use Rattle.form_layout.proofs.node_at.Reads as node-at-reads
