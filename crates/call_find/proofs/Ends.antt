@@ -17,7 +17,7 @@ use Rattle.rules.specs.Sheet.{sheetArea, sheetFault, argumentCount}
 use Rattle.rules.specs.Split.{Item}
 use Rattle.rules.specs.Tree.{zeros}
 use Rattle.rules.specs.State.{present, parsed, presentAt}
-use Rattle.rules.specs.Accept.{GoodNames as CheckedForm, Accepted, accepted, refusedAt, checkForm}
+use Rattle.rules.specs.Accept.{Checked as CheckedForm, Accepted, accepted, refusedAt, checkForm}
 use Rattle.rules.specs.Take.{matchesArg}
 use Rattle.rules.specs.Calls.{formIn, sheetIn, itemFrom, stateIn, fromRaw}
 use Rattle.rules.specs.declared.Refused.{Refused}

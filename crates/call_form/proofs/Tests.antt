@@ -7,7 +7,7 @@ use lib.ListN.{length}
 use Rattle.rules.specs.Outcome.{Outcome, ok, refused, fault, _>>=_, Refusal, refuse}
 use Rattle.rules.specs.Split.{Item}
 use Rattle.rules.specs.State.{State}
-use Rattle.rules.specs.Accept.{GoodNames as CheckedForm, accepted, refusedAt, Accepted, checkForm}
+use Rattle.rules.specs.Accept.{Checked as CheckedForm, accepted, refusedAt, Accepted, checkForm}
 use Rattle.rules.specs.Codes.{placeCode, checkCode}
 use Rattle.rules.specs.Take.{Took}
 use Rattle.rules.specs.Calls.{formIn, stateIn, fromRaw, handed, onForm}
