@@ -22,6 +22,7 @@ ghost use Rattle.take.specs.Takes.{Ready, Skips, Reaches, setCurrent, re
 use split_arg::Item;
 use split_arg::Part;
 use state_marks::Numbers;
+use state_marks::is_present;
 use wire::wide;
 
 // Whether it was taken.
@@ -73,7 +74,7 @@ fn is_free(marks: &[u16], i: usize, end: usize) -> bool
     if end <= i {
         return false;
     }
-    marks[i] != 1
+    is_present(marks[i])
 }
 
 fn text_of(item: Item) -> Part

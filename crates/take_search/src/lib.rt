@@ -19,6 +19,7 @@ ghost use Rattle.take_search.specs.Items.{HasPart, partBytes, operandKin
 ghost use Rattle.take_search.specs.Search.{HasNames, HasItem, HasItems, Sought};
 use split_arg::Item;
 use split_arg::Part;
+use state_marks::is_present;
 
 fn wide(x: u32) -> u64
     ensures { λ r. ⌜ r ≡ x ⌝ }
@@ -155,7 +156,7 @@ pub fn find_named(
 {
     let mut i = from;
     while i < end {
-        if marks[i] != 1 {
+        if is_present(marks[i]) {
             if matches(form, codes, sheet, items, i, first, count, adjacent) {
                 return i;
             }
@@ -184,7 +185,7 @@ pub fn find_operand(items: &[u32], marks: &[u16], from: usize, end: usize) -> us
 {
     let mut place = from;
     while place < end {
-        if marks[place] != 1 {
+        if is_present(marks[place]) {
             if is_operand(items, place) {
                 return place;
             }

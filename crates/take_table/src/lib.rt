@@ -16,6 +16,7 @@ ghost use Rattle.take_table.specs.Bits.{bitAt};
 ghost use Rattle.take_table.specs.Known.{isAdjacent, SetOf, Matchable, MatchSet, Known, Says};
 ghost use Rattle.take_table.specs.Owners.{Owners, Added, isLoose, Lookup, hasShort, hasLong};
 use split_arg::Item;
+use state_marks::is_present;
 
 // ---- sets of nodes as the bits of a word
 
@@ -241,7 +242,7 @@ pub fn find(table: &[u64], marks: &[u16], node: usize, from: usize, end: usize) 
     }
     let mut i = from;
     while i < end {
-        if marks[i] != 1 {
+        if is_present(marks[i]) {
             if has(table[i], node) {
                 return i;
             }
