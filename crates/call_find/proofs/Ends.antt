@@ -30,7 +30,7 @@ use Rattle.state_marks.proofs.Marks.{present-at}
 use Rattle.form_layout.specs.Layout.{GoodNames}
 use Rattle.form_codes.specs.Codes.{CodedNames, namedAt}
 use Rattle.take_search.specs.Search.{HasNames, HasItem}
-use Rattle.call_check.proofs.Checks.{check-accepted, form-passed}
+use Rattle.rules.proofs.GivenLaws.{check-accepted, form-passed}
 use Rattle.call_table.proofs.Laws.{area-length}
 use Rattle.call_form.specs.Keys.{noKey, Keyed}
 use Rattle.call_form.specs.declared.Key.{Key}

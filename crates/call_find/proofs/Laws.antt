@@ -30,7 +30,7 @@ use Rattle.state_marks.proofs.Marks.{from-take}
 use Rattle.take_search.specs.Items.{Table}
 use Rattle.take_search.specs.Search.{seek, Sought}
 use Rattle.take_search.proofs.Search.{nothing-found, something-found}
-use Rattle.call_check.proofs.Checks.{form-passed}
+use Rattle.rules.proofs.GivenLaws.{form-passed}
 use Rattle.call_form.specs.Keys.{rulesKey}
 use Rattle.call_answers.specs.Answers.{coded, answerWith, placeOrNone, plainAnswer}
 use Rattle.call_answers.specs.declared.Answer.{Answer}

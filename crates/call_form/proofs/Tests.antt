@@ -14,7 +14,7 @@ use Rattle.rules.specs.Calls.{formIn, stateIn, fromRaw, handed, onForm}
 use Rattle.rules.specs.declared.Refused.{Refused}
 use Rattle.rules.specs.declared.State.{State as Raw}
 use Rattle.call_answers.specs.Answers.{Coded, coded, codedOr0, answerWith, stateWith, answerOf, stateAnswerOf}
-use Rattle.call_check.proofs.Checks.{check-accepted, form-passed}
+use Rattle.rules.proofs.GivenLaws.{check-accepted, form-passed}
 use Rattle.call_table.specs.Given.{itemsGiven, GivesState}
 use Rattle.call_table.proofs.Laws.{onTable, on-table, state-given}
 use Rattle.call_form.specs.Given.{HasForm, givenIn, Tests}

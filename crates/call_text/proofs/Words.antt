@@ -29,7 +29,8 @@ use Rattle.take_search.specs.Search.{HasItem}
 use Rattle.call_table.specs.Given.{HasTable, Gives}
 use Rattle.call_table.specs.declared.Input.{Input}
 use Rattle.call_table.proofs.Laws.{onTable, table-refused, table-given}
-use Rattle.call_check.proofs.Checks.{check-accepted, check-names, form-passed}
+use Rattle.rules.proofs.GivenLaws.{check-accepted, form-passed}
+use Rattle.form_layout.proofs.Sizes.{check-names}
 use Rattle.call_text.specs.declared.TextPart.{TextPart}
 use Rattle.call_text.specs.Text.{textSays, TextOf, sourceOf, partText, refusedPart, itemPart, recordPart, callPart, partTold, PartOf, Finds, Tells}
 

@@ -9,8 +9,8 @@ use native.Mathlib.Numerals.{add-one}
 use native.Mathlib.Omega.{arith}
 use lib.Bits.{bitAnd}
 use lib.Dec.{eqb}
-use lib.ListN.{length, getD, drop, set, length-append, drop-of-length-le}
-use lib.Seq.{sets}
+use lib.ListN.{length, getD, take, drop, set, replicate, length-append, length-replicate, drop-of-length-le}
+use lib.Seq.{sets, sets-eq, length-sets}
 use borrow.Author.Tests.{not-true, not-false}
 use Rattle.utf8.specs.Utf8.{if_then_else_}
 use Rattle.rules.specs.Codes.{placeCode}
@@ -18,10 +18,11 @@ use Rattle.rules.specs.Form.{Node, Name, nameCount, readForm, nameBytes, oneCha
 use Rattle.rules.specs.Tree.{shortOf}
 use Rattle.rules.proofs.Acceptance.{lookup-some}
 use Rattle.rules.proofs.Places.{drop-below}
-use Rattle.form_layout.proofs.Sizes.{names-length}
+use Rattle.form_layout.specs.Layout.{GoodNames}
+use Rattle.form_layout.proofs.Sizes.{names-length, names-few}
 use Rattle.form_codes.specs.Codes.{codeOf, CodedNames}
 use Rattle.form_codes.proofs.NameCodes.{code-at}
-use Rattle.form_letters.specs.Letters.{lettersFrom, lettersByName, Wrote, letterList, letterIf, Appended}
+use Rattle.form_letters.specs.Letters.{lettersFrom, lettersByName, Wrote, WroteLetters, letterList, letterIf, Appended}
 use Rattle.form_letters.specs.Classes.{namedAt, bits, classOf, Classed}
 
 -- ---- one letter
@@ -133,3 +134,49 @@ module _ (b : List ℕ) (kind : ℕ) (o₀ : List ℕ) where
         let all : z .done ≡ lettersByName (readForm b) kind =
         sym (append-nil (z .done)) ∙ rw (drop-of-length-le (readForm b .names) {i = k} (omega (arith, names-length b))) at (z .same) in
         record { words = rw (← all) (z .words); count = rw (← all) (z .count) }
+
+-- ---- how many there are
+short-few : (a : List ℕ) (m : Name) → length (shortOf a m) ≤ 1
+unfolding shortOf if_then_else_
+short-few a m = go (eqb (m .type) 0) refl (oneCharacter (nameBytes a m)) refl
+  where
+    go : (t : Bool) → eqb (m .type) 0 ≡ t → (o : Option ℕ) → oneCharacter (nameBytes a m) ≡ o → length (shortOf a m) ≤ 1
+    go false e o h = rw e (omega arith)
+    go true e none h = rw (e, h, shortOf) (omega arith)
+    go true e (some c) h = rw (e, h, shortOf) (omega arith)
+
+letters-few : (a : List ℕ) (wanted : ℕ → Bool) (k : ℕ) (ms : List Name) → length (lettersFrom a wanted k ms) ≤ length ms
+unfolding lettersFrom if_then_else_
+letters-few a wanted k [] = omega arith
+letters-few a wanted k (m ∷ ms) = go (letters-few a wanted (suc k) ms) (wanted k) refl
+  where
+    go : length (lettersFrom a wanted (suc k) ms) ≤ length ms → (t : Bool) → wanted k ≡ t → length (lettersFrom a wanted k (m ∷ ms)) ≤ suc (length ms)
+    go rest true e = rw e (omega (arith, length-append (shortOf a m) (lettersFrom a wanted (suc k) ms), short-few a m, rest))
+    go rest false e = rw e (omega (arith, rest))
+
+take-front : (w l : List ℕ) → take (length w) (w ++ l) ≡ w
+take-front [] l = refl
+take-front (x ∷ w) l = ap {B = List ℕ} (λ r. x ∷ r) (take-front w l)
+
+take-set : (w o : List ℕ) → length w ≤ length o → take (length w) (sets o 0 w) ≡ w
+take-set w o h = ap (λ (l : List ℕ). take (length w) l) (sets-eq w o 0 (omega (arith, h))) ∙ take-front w _
+
+-- a buffer of 128 words that holds the letters of a kind
+module _ (b : List ℕ) (kind : ℕ) (o p : List ℕ) (n : ℕ) (g : GoodNames b) (z : o ≡ replicate 128 0)
+    (w : WroteLetters b kind o p n) where
+  long : length o ≡ 128
+  long = ap length z ∙ length-replicate {A = ℕ} 128 0
+
+  few : length (lettersByName (readForm b) kind) ≤ 128
+  few = omega (arith, letters-few (readForm b .area) (namedAt (readForm b .nodes) kind) 0 (readForm b .names), names-length b, names-few b g)
+
+  pub letters-fit : n ≤ length p
+  letters-fit =
+      omega (arith, w .count, few, long, ap length (w .words) ∙ length-sets o 0 (lettersByName (readForm b) kind))
+
+  pub letters-taken : take n p ≡ lettersByName (readForm b) kind
+  letters-taken =
+      let l = lettersByName (readForm b) kind in
+      ap (λ (k : ℕ). take k p) (w .count)
+      ∙ ap (λ (x : List ℕ). take (length l) x) (w .words)
+      ∙ take-set l o (omega (arith, few, long))

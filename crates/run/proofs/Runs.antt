@@ -37,7 +37,7 @@ use Rattle.eval_told.specs.Told.{Told}
 use Rattle.split_args.proofs.States.{padded-words, all-zero, fill-long}
 use Rattle.split_args.specs.declared.Ended.{Ended as Split}
 use Rattle.split_args.specs.Construct.{rawOf as begun, Unmarked, Ends, refusalNumber, refusalPlace}
-use Rattle.call_check.proofs.Checks.{check-accepted}
+use Rattle.rules.proofs.GivenLaws.{check-accepted}
 use Rattle.run_fields.specs.Line.{Starts, toldAll, Reaches, refusedWith}
 use Rattle.run_fields.specs.declared.Reached.{Reached}
 use Rattle.run.specs.Runner.{Ended, runAnswer, ended, answerOf, shortSlices, Checked, Begins}

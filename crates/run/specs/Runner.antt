@@ -17,7 +17,7 @@ use Rattle.state_marks.specs.Lent.{rawOf}
 use Rattle.form_codes.specs.Codes.{CodedNames}
 use Rattle.take.specs.Takes as takes
 use Rattle.run_fields.specs.declared.Reached.{Reached}
-use Rattle.call_check.specs.Ready.{Ready}
+use Rattle.split_line.specs.Input.{Splittable}
 use Rattle.run.specs.declared.RunAnswer.{RunAnswer}
 
 -- the answer, and what both slices hold
@@ -61,7 +61,7 @@ shortSlices ni na = ltb ni 1792 || ltb na 8240
 
 -- ---- what is known once every test is passed
 pub record Checked (form sheet items answers : List ℕ) : Type 0 where
-  pub ready : Ready form sheet items
+  pub ready : Splittable form sheet items
   pub space : 8240 ≤ length answers
 
 -- the items of an accepted form's line, the codes of its names, a state over the items, and an answer slice of zeros
