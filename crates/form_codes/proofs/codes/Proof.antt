@@ -1,10 +1,10 @@
 -- Invariant: the first k codes are stored. Assumes nothing.
 use Prim.Native.Nat.{_-_}
 use borrow.Author.Needs.{needs}
-use Rattle.take_search.proofs.Names.{checked-long}
-use Rattle.take_search.proofs.Names.{Filling, filling-first, filling-next, filling-last}
-use Rattle.take_search.proofs.codes.Statement.{statement}
-use Rattle.take_search.proofs.codes.Tie as tie
+use Rattle.form_layout.proofs.Sizes.{names-long}
+use Rattle.form_codes.proofs.NameCodes.{Filling, filling-first, filling-next, filling-last}
+use Rattle.form_codes.proofs.codes.Statement.{statement}
+use Rattle.form_codes.proofs.codes.Tie as tie
 
 abbrev Inv-loop : tie.InvT-loop
 Inv-loop form out₀ count k₀ out k = Filling form out₀ count out k
@@ -13,7 +13,7 @@ abbrev μ-loop : tie.MeasureT-loop
 μ-loop form out₀ count k₀ out k = count - k
 
 name-count-requires : tie.Need-name-count-requires Inv-loop μ-loop
-name-count-requires c κs = checked-long _ (c .before .before .pre .0)
+name-count-requires c κs = names-long _ (c .before .before .pre .0)
 
 loop-holds : tie.Need-loop-holds Inv-loop μ-loop
 loop-holds c = search filling-first

@@ -15,13 +15,9 @@ use Rattle.state_marks.specs.Lent.{numbersOf}
 use Rattle.take.specs.Takes.{Items}
 use Rattle.take.specs.declared.Value.{Value}
 use Rattle.take.specs.declared.Value.the-variants.{Missing, Taken as Value·Taken, NoArgument}
-use Rattle.call_answers.specs.Answers.{Coded, coded, yesCode, answerWith, stateAnswerOf}
+use Rattle.call_answers.specs.Answers.{Coded, coded, yesCode, answerWith, stateWith, stateAnswerOf}
 use Rattle.call_answers.specs.declared.Answer.{Answer}
 use Rattle.call_answers.specs.declared.StateAnswer.{StateAnswer}
-
-abbrev pub stateWith : ℕ → ℕ → Coded → Raw → StateAnswer
-stateWith number place c x = record
-    { number = number; place = place; found = c .found; first = c .first; second = c .second; state = x }
 
 -- a place fits in a word
 abbrev pub SmallValue : Value → Type 0
@@ -36,9 +32,9 @@ valueAnswer (Value·Taken i t) left x = stateWith 0 0 (coded 1 i 0) left
 valueAnswer (NoArgument i) left x = stateWith 22 (i + 1) (coded 0 0 0) x
 
 -- what a take makes of the items of the slice
-pub record Hands {A : Type 0} (code : A → Coded) (sheet words : List ℕ) (x : Raw) (f : List Item → Outcome (Took A)) (r : StateAnswer) : Type 0 where
+pub record TakeAnswer {A : Type 0} (code : A → Coded) (sheet words : List ℕ) (x : Raw) (f : List Item → Outcome (Took A)) (r : StateAnswer) : Type 0 where
   pub same : (is : List Item) → Items (sheetArea sheet) words (numbersOf x) is → stateAnswerOf code (handed x (f is)) ≡ some r
 
 -- what a test says of an item
-pub record Says (sheet words : List ℕ) (i : ℕ) (test : Item → Bool) (r : Answer) : Type 0 where
+pub record TestAnswer (sheet words : List ℕ) (i : ℕ) (test : Item → Bool) (r : Answer) : Type 0 where
   pub same : (y : Item) → itemFrom (sheetArea sheet) (recordAt words i) ≡ some y → r ≡ answerWith 0 0 (yesCode (test y))

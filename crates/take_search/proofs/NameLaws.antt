@@ -1,79 +1,36 @@
--- Laws of a form's names: their codes, and the loops that look one up.
+-- The loops that look up a name.
 use mathlib.Core.Path.{_≡_, refl, sym, ap, _∙_}
-use mathlib.Core.Bool.{Bool, true, false, _&&_, _||_}
-use mathlib.Core.List.{List, [], _∷_, _++_, map}
-use mathlib.Core.Option.{Option, some, none}
-use Prim.Native.Nat.{ℕ, zero, suc, _+_, _-_, _≤_, _<_, min}
-use native.Mathlib.Nat.{not-suc-le-zero, le-of-suc-le-suc, zero-add}
+use mathlib.Core.Bool.{Bool, true, false, _||_, or-false, and-false}
+use mathlib.Core.List.{List, [], _∷_}
+use mathlib.Core.Option.{some}
+use Prim.Native.Nat.{ℕ, zero, suc, _+_, _-_, _≤_, _<_}
+use native.Mathlib.Nat.{not-suc-le-zero, le-of-suc-le-suc}
 use native.Mathlib.Numerals.{add-one}
 use native.Mathlib.Omega.{arith}
-use lib.Dec.{eqb, eqb·zero-suc, eqb·suc-suc}
-use lib.ListN.{length, getD, take, drop, set, getElem?, length-map, drop-of-length-le}
-use lib.Seq.{sets, drop-cons, length-sets, sets-eq, take-at}
+use lib.Dec.{eqb}
+use lib.ListN.{length, getD, take, drop, getElem?, drop-of-length-le}
+use lib.Seq.{drop-cons}
 use borrow.Author.Tests.{eq-eqb, ne-eqb}
 use Rattle.utf8.specs.Utf8.{if_then_else_}
-use Rattle.wire.proofs.Stores.{Stored, stored-first, stored-next, stored-last}
 use Rattle.rules.specs.Base.{contains, same, concatMap}
-use Rattle.rules.specs.Codes.{placeCode}
-use Rattle.rules.specs.Form.{Name, nameCount, readForm, nameBytes, oneCharacter}
-use Rattle.rules.specs.Tree.{shortOf, longOf, namedBy}
+use Rattle.rules.specs.Form.{Name, nameCount, readForm, nameBytes}
+use Rattle.rules.specs.Tree.{longOf, namedBy}
 use Rattle.rules.specs.Take.{containsName}
 use Rattle.rules.proofs.Acceptance.{lookup-some}
 use Rattle.rules.proofs.Places.{drop-below}
+use Rattle.rules.proofs.ContainsLaws.{names-append}
 use Rattle.form_names.specs.Names.{nameOf}
 use Rattle.form_names.specs.declared.Name as declared
-use Rattle.form_layout.specs.Layout.{nameBytesAt, HasName}
-use Rattle.form_layout.proofs.Sizes.{names-length, sized}
-use Rattle.take_search.specs.Codes.{Checked, codeOf, codesOf, Coded, Written, namesFrom, namedAt}
+use Rattle.form_layout.specs.Layout.{nameBytesAt}
+use Rattle.form_layout.proofs.Sizes.{names-length}
+use Rattle.form_codes.specs.Codes.{namesFrom, namedAt}
 
 -- ---- lists
-
-pub or-false : (a : Bool) → (a || false) ≡ a
-or-false true = refl
-or-false false = refl
-
-or-assoc : (a b c : Bool) → ((a || b) || c) ≡ (a || (b || c))
-or-assoc true b c = refl
-or-assoc false b c = refl
-
-and-false : (a : Bool) → (a && false) ≡ false
-and-false true = refl
-and-false false = refl
-
-pub map-at : {A B : Type 0} (f : A → B) (l : List A) (k : ℕ) (x : A) → getElem? l k ≡ some x → getElem? (map f l) k ≡ some (f x)
-map-at f [] k x e = let z : _≡_ {A = ℕ} 0 1 = cc in absurd (omega arith)
-map-at f (y ∷ l) zero x e = let z : y ≡ x = cc in rw z
-map-at f (y ∷ l) (suc k) x e = map-at f l k x e
-
-map-take : {A B : Type 0} (f : A → B) (n : ℕ) (l : List A) → take n (map f l) ≡ map f (take n l)
-map-take f zero l = refl
-map-take f (suc n) [] = refl
-map-take f (suc n) (x ∷ l) = ap (λ (r : List _). f x ∷ r) (map-take f n l)
-
-map-drop : {A B : Type 0} (f : A → B) (n : ℕ) (l : List A) → drop n (map f l) ≡ map f (drop n l)
-map-drop f zero l = refl
-map-drop f (suc n) [] = refl
-map-drop f (suc n) (x ∷ l) = map-drop f n l
-
--- a part of the front of a list
-take-drop-front : {A : Type 0} (n m k : ℕ) (l : List A) → m + k ≤ n → take k (drop m (take n l)) ≡ take k (drop m l)
-take-drop-front n zero zero l h = refl
-take-drop-front zero zero (suc k) l h = absurd (omega arith)
-take-drop-front (suc n) zero (suc k) [] h = refl
-take-drop-front (suc n) zero (suc k) (x ∷ l) h = ap (λ (r : List _). x ∷ r) (take-drop-front n zero k l (omega arith))
-take-drop-front zero (suc m) k l h = absurd (omega arith)
-take-drop-front (suc n) (suc m) k [] h = refl
-take-drop-front (suc n) (suc m) k (x ∷ l) h = take-drop-front n m k l (omega arith)
 
 pub at-getD : (l : List ℕ) (i : ℕ) → i < length l → getElem? l i ≡ some (getD l i 0)
 at-getD [] i h = absurd (not-suc-le-zero h)
 at-getD (x ∷ l) zero h = refl
 at-getD (x ∷ l) (suc i) h = at-getD l i (le-of-suc-le-suc h)
-
-pub getD-of : (l : List ℕ) (i x : ℕ) → getElem? l i ≡ some x → getD l i 0 ≡ x
-getD-of [] i x e = let z : _≡_ {A = ℕ} 0 1 = cc in absurd (omega arith)
-getD-of (y ∷ l) zero x e = cc
-getD-of (y ∷ l) (suc i) x e = getD-of l i x e
 
 -- what a loop from k up to `end` has yet to look at
 abbrev pub window : {A : Type 0} → List A → ℕ → ℕ → List A
@@ -85,101 +42,7 @@ window-step l k end x h e = let z : end - k ≡ suc (end - suc k) = omega arith 
 window-end : {A : Type 0} (l : List A) (k end : ℕ) → end ≤ k → window l k end ≡ []
 window-end l k end h = let z : end - k ≡ 0 = omega arith in rw z
 
--- ---- a checked form
-
-pub checked-long : (b : List ℕ) → Checked b → 8 ≤ length b
-checked-long b h = sized b (h .good) .counts .long
-
-pub names-few : (b : List ℕ) → Checked b → nameCount b ≤ 128
-names-few b h = sized b (h .good) .counts .names
-
-pub has-name : (b : List ℕ) (k : ℕ) → Checked b → k < nameCount b → HasName b k
-has-name b k h l = record { good = h .good; names = h .names; below = l }
-
--- ---- codes
-
-module _ (b : List ℕ) (k : ℕ) (x : declared.Name) (e : getElem? (readForm b .names) k ≡ some (nameOf x)) where
-  pub code-other : (x .kind ≡ 0 → ⊥) → getElem? (codesOf (readForm b)) k ≡ some 0
-  unfolding codesOf codeOf if_then_else_
-  code-other h = map-at (codeOf (readForm b .area)) (readForm b .names) k (nameOf x) e ∙ rw (ne-eqb (x .kind) 0 h)
-
-  pub code-short : x .kind ≡ 0 → (s : List ℕ) → nameBytesAt (readForm b) k ≡ some s → (r : ℕ) → r ≡ placeCode (oneCharacter s)
-      → getElem? (codesOf (readForm b)) k ≡ some r
-  unfolding codesOf codeOf if_then_else_ nameBytesAt
-  code-short h s t r q =
-      let z : some (nameBytes (readForm b .area) (nameOf x)) ≡ some s = rw (e, nameBytesAt) at t in
-      let w : nameBytes (readForm b .area) (nameOf x) ≡ s = cc in
-      map-at (codeOf (readForm b .area)) (readForm b .names) k (nameOf x) e ∙ rw (eq-eqb (x .kind) 0 h, w, q)
-
-codes-length : (b : List ℕ) → length (codesOf (readForm b)) ≡ nameCount b
-unfolding codesOf
-codes-length b = length-map (readForm b .names) _ ∙ names-length b
-
--- the loop of `codes`
-abbrev pub Filling : List ℕ → List ℕ → ℕ → List ℕ → ℕ → Type 0
-Filling b out₀ n out k = Stored out₀ 0 (codesOf (readForm b)) n out k
-
-pub filling-first : (b out : List ℕ) (n : ℕ) → Filling b out n out 0
-filling-first b out n = stored-first out 0 (codesOf (readForm b)) n
-
-module _ (b out₀ : List ℕ) (n : ℕ) (out : List ℕ) (k : ℕ) (few : n ≡ nameCount b) (room : nameCount b ≤ length out₀) (z : Filling b out₀ n out k) where
-  all-fit : n ≡ min (length (codesOf (readForm b))) (length out₀ - 0)
-  all-fit = let l = codes-length b in omega arith
-
-  pub filling-next : (x : ℕ) → getElem? (codesOf (readForm b)) k ≡ some x → k < n → Filling b out₀ n (set out k x) (k + 1)
-  filling-next x e h =
-      let next = stored-next out₀ 0 (codesOf (readForm b)) n out k all-fit z x (sym (getD-of (codesOf (readForm b)) k x e)) h in
-      let w : 0 + k ≡ k = zero-add k in
-      rw w at next
-
-  pub filling-last : n ≤ k → Written b out₀ out
-  filling-last h =
-      let v = codesOf (readForm b) in
-      let l = codes-length b in
-      let s : out ≡ sets out₀ 0 v = stored-last out₀ 0 v n out k all-fit z h in
-      let whole = length-sets out₀ 0 v in
-      record {
-        same = s;
-        coded = record {
-          long = omega (arith, ap length s);
-          same = rw (s, sets-eq v out₀ 0 (omega arith)) (take-at v _ (nameCount b) l);
-        };
-      }
-
 -- ---- short names
-
-pub contains-append : (l m : List ℕ) (c : ℕ) → contains (l ++ m) c ≡ (contains l c || contains m c)
-unfolding contains
-contains-append [] m c = refl
-contains-append (x ∷ l) m c = rw (contains-append l m c) (sym (or-assoc (eqb x c) (contains l c) (contains m c)))
-
-short-shape : (t : Bool) (o : Option ℕ) (c : ℕ)
-    → contains (if t then (elim o [ none ↦ [] | some d ↦ d ∷ [] ]) else []) c ≡ eqb (if t then placeCode o else 0) (suc c)
-unfolding contains if_then_else_
-short-shape true none c = sym (eqb·zero-suc c)
-short-shape true (some d) c = or-false (eqb d c) ∙ sym (eqb·suc-suc d c)
-short-shape false o c = sym (eqb·zero-suc c)
-
-pub short-code : (area : List ℕ) (x : Name) (c : ℕ) → contains (shortOf area x) c ≡ eqb (codeOf area x) (suc c)
-unfolding shortOf codeOf
-short-code area x c = short-shape (eqb (x .type) 0) (oneCharacter (nameBytes area x)) c
-
-shorts-codes : (area : List ℕ) (l : List Name) (c : ℕ) → contains (concatMap (shortOf area) l) c ≡ contains (map (codeOf area) l) (suc c)
-unfolding concatMap contains
-shorts-codes area [] c = refl
-shorts-codes area (x ∷ l) c =
-    contains-append (shortOf area x) (concatMap (shortOf area) l) c ∙ rw (short-code area x c, shorts-codes area l c)
-
--- the codes of a table decide
-pub shorts-table : (b table : List ℕ) (first count c : ℕ) → Coded b table → first + count ≤ nameCount b
-    → contains (namedAt b first count .shorts) c ≡ contains (take count (drop first table)) (c + 1)
-unfolding namedAt namedBy namesFrom codesOf
-shorts-table b table first count c z h =
-    let f = readForm b in
-    shorts-codes (f .area) (take count (drop first (f .names))) c
-    ∙ rw (add-one c, ← take-drop-front (nameCount b) first count table h, z .same)
-    (ap (λ (l : List ℕ). contains l (suc c))
-    (sym (ap (take count) (map-drop (codeOf (f .area)) first (f .names)) ∙ map-take (codeOf (f .area)) count (drop first (f .names)))))
 
 -- the loop of `has_short`
 pub record Sifting (table : List ℕ) (first count want end k : ℕ) : Type 0 where
@@ -259,11 +122,6 @@ module _ (a b : List ℕ) (i : ℕ) (z : Comparing a b i) where
       sym (rw (drop-of-length-le a h, drop-of-length-le b k)) ∙ z .same
 
 -- ---- long names
-
-pub names-append : (l m : List (List ℕ)) (n : List ℕ) → containsName (l ++ m) n ≡ (containsName l n || containsName m n)
-unfolding containsName
-names-append [] m n = refl
-names-append (x ∷ l) m n = rw (names-append l m n) (sym (or-assoc (same x n) (containsName l n) (containsName m n)))
 
 module _ (b : List ℕ) (k : ℕ) (x : declared.Name) (e : getElem? (readForm b .names) k ≡ some (nameOf x)) (name : List ℕ) where
   abbrev IsLong : Bool → Type 0

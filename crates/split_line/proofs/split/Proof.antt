@@ -1,7 +1,7 @@
 use borrow.Author.Needs.{needs}
 use Rattle.split_args.proofs.Plain.{plain-ends}
-use Rattle.call_check.proofs.split_accepted.Statement.{statement}
-use Rattle.call_check.proofs.split_accepted.Tie as tie
+use Rattle.split_line.proofs.split.Statement.{statement}
+use Rattle.split_line.proofs.split.Tie as tie
 
 all-plain-requires : tie.Need-all-plain-requires
 all-plain-requires c κs = search needs
@@ -42,8 +42,8 @@ same-length-2 c = search needs
 returns-2 : tie.Need-returns-2
 returns-2 c = search needs
 
-pub split-accepted-spec : {M : Type 1} → statement M
-split-accepted-spec =
+pub split-spec : {M : Type 1} → statement M
+split-spec =
     tie.close
     (tie.spec
     all-plain-requires

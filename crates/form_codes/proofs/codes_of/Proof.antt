@@ -1,8 +1,8 @@
 -- By the law of `codes`. Assumes nothing.
 use borrow.Author.Needs.{needs}
-use Rattle.call_form.proofs.Keys.{names-fit}
-use Rattle.call_form.proofs.codes_of.Statement.{statement}
-use Rattle.call_form.proofs.codes_of.Tie as tie
+use Rattle.form_codes.proofs.NameCodes.{codes-room}
+use Rattle.form_codes.proofs.codes_of.Statement.{statement}
+use Rattle.form_codes.proofs.codes_of.Tie as tie
 
 no-codes-requires : tie.Need-no-codes-requires
 no-codes-requires c κs = search needs
@@ -11,7 +11,7 @@ slice-aggregate-codes : tie.Need-slice-aggregate-codes
 slice-aggregate-codes c = search needs
 
 codes-requires : tie.Need-codes-requires
-codes-requires c κs = search (needs, names-fit)
+codes-requires c κs = search (needs, codes-room)
 
 returns : tie.Need-returns
 returns c = search needs

@@ -1,8 +1,8 @@
 -- By the type of the record. Assumes nothing.
 use borrow.Author.Needs.{needs}
-use Rattle.take_search.proofs.Names.{code-other, code-short}
-use Rattle.take_search.proofs.code.Statement.{statement}
-use Rattle.take_search.proofs.code.Tie as tie
+use Rattle.form_codes.proofs.NameCodes.{code-other, code-short}
+use Rattle.form_codes.proofs.code.Statement.{statement}
+use Rattle.form_codes.proofs.code.Tie as tie
 
 name-at-requires : tie.Need-name-at-requires
 name-at-requires c κs = search needs

@@ -1,23 +1,14 @@
 -- The short names of a form as numbers, a word for each name record.
-use mathlib.Core.Bool.{true}
 use mathlib.Core.List.{List, map}
-use mathlib.Core.Option.{none}
 use mathlib.Core.Path.{_≡_}
 use Prim.Native.Nat.{ℕ, _≤_}
 use lib.Dec.{eqb}
 use lib.ListN.{length, take, drop}
 use lib.Seq.{sets}
 use Rattle.utf8.specs.Utf8.{if_then_else_}
-use Rattle.rules.specs.Base.{firstFault}
 use Rattle.rules.specs.Codes.{placeCode}
-use Rattle.rules.specs.Form.{Name, Form, nameCount, readForm, nameBytes, nameGood, oneCharacter}
-use Rattle.rules.specs.Accept.{lengthGood}
+use Rattle.rules.specs.Form.{Name, Form, nameCount, readForm, nameBytes, oneCharacter}
 use Rattle.rules.specs.Tree.{Named, namedBy}
-
--- a form of the right length, whose name records are good
-pub record Checked (b : List ℕ) : Type 0 where
-  pub good : lengthGood b ≡ true
-  pub names : firstFault (nameGood (readForm b .area)) 0 (readForm b .names) ≡ none
 
 -- the character of a short name plus 1; 0 for any other name
 unfoldable pub codeOf : List ℕ → Name → ℕ
@@ -27,14 +18,14 @@ unfoldable pub codesOf : Form → List ℕ
 codesOf f = map (codeOf (f .area)) (f .names)
 
 -- a table of these, with room behind it
-pub record Coded (b table : List ℕ) : Type 0 where
+pub record CodedNames (b table : List ℕ) : Type 0 where
   pub long : nameCount b ≤ length table
   pub same : take (nameCount b) table ≡ codesOf (readForm b)
 
 -- what `codes` leaves
-pub record Written (b out out′ : List ℕ) : Type 0 where
+pub record WroteCodes (b out out′ : List ℕ) : Type 0 where
   pub same : out′ ≡ sets out 0 (codesOf (readForm b))
-  pub coded : Coded b out′
+  pub coded : CodedNames b out′
 
 -- the names that `count` records from `first` on give
 unfoldable pub namesFrom : List ℕ → ℕ → ℕ → List Name
