@@ -39,8 +39,8 @@ use Rattle.eval_told.proofs.Repeats.{append-three, told-state, told-tries, told
 use Rattle.eval_node.proofs.Words.{sets-append, sets-back}
 use Rattle.run_fields.specs.declared.Reached.{Reached}
 use Rattle.eval_list.specs.Lists.{Writes}
-use Rattle.run_fields.specs.Line.{Starts, Fields, toldAll, RunsFields, refusedWith, valuesOf}
-use Rattle.run_fields.proofs.Fields.{Field, field, form-long, few-fields, field-count}
+use Rattle.run_fields.specs.Line.{Starts, Placed, toldAll, RunsFields, refusedWith, valuesOf}
+use Rattle.run_fields.proofs.Fields.{FieldAt, field, form-long, few-fields, field-count}
 
 -- ---- what is told behind so many tries and these words
 unfoldable pub behind : ℕ → List ℕ → Run (List Value) → Option Told
@@ -199,10 +199,10 @@ module _ (b known s words m₀ : List ℕ) (p₀ : Numbers) (o₀ : List ℕ) (m
           })
 
       module _ (n : ℕ) (c : n ≡ fieldCount b) (l : k < n) (node : ℕ) (h : getElem? (readForm b .fields) k ≡ some node) where
-        abbrev mine : Field b (a .fields) k node
+        abbrev mine : FieldAt b (a .fields) k node
         mine = field b a e k node h
 
-        pub going-field : Fields b known s words m p mark node o at
+        pub going-field : Placed b known s words m p (record { node = node; at = at; mark = mark }) o
         going-field = record {
           stands = record {
             tree = mine .tree;

@@ -24,6 +24,7 @@ use Rattle.eval_told.specs.Told.{Told}
 use Rattle.eval_told.specs.Nodes.{Standing}
 use Rattle.eval_node.specs.Cycle.{Room}
 use Rattle.eval_node.specs.Values.{Put}
+use Rattle.eval_list.specs.declared.Field.{Field}
 use Rattle.run_fields.specs.declared.Reached.{Reached}
 
 -- an accepted form, a checked sheet, a state over the items, which nodes each item matches, and an answer slice of zeros
@@ -37,9 +38,9 @@ pub record Starts (b known s words m : List ℕ) (p : Numbers) (o : List ℕ) (m
   pub zeros : (k : ℕ) → getD o k 0 ≡ 0
 
 -- a node, and room for its words
-pub record Fields (b known s words m : List ℕ) (p : Numbers) (mark n : ℕ) (o : List ℕ) (at : ℕ) : Type 0 where
-  pub stands : Standing b known s words m p mark n
-  pub space : Room o at
+pub record Placed (b known s words m : List ℕ) (p : Numbers) (f : Field) (o : List ℕ) : Type 0 where
+  pub stands : Standing b known s words m p (f .mark) (f .node)
+  pub space : Room o (f .at)
 
 -- a result whose words are written, so many of them
 abbrev pub written : Ran → ℕ → Ran

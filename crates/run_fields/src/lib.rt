@@ -8,8 +8,9 @@ ghost use Rattle.rules.specs.Accept.{Accepted, accepted, checkForm};
 ghost use Rattle.rules.specs.Sheet.{sheetArea};
 ghost use Rattle.rules.specs.Tree.{Tree, kindOf};
 ghost use Rattle.eval_told.specs.Nodes.{treeAt, isScalar};
-ghost use Rattle.run_fields.specs.Line.{Starts, Fields, written, PutValue, RunsFields, Reaches, refusedWith, valuesOf};
-ghost use Rattle.eval_list.specs.Lists.{Writes};
+ghost use Rattle.run_fields.specs.Line.{Starts, Placed, written, PutValue, RunsFields, Reaches, refusedWith, valuesOf};
+ghost use Rattle.eval_list.specs.Lists.{WritesField};
+use eval_list::Field;
 use eval_told::Ran;
 use state_marks::Numbers;
 use wire::wide;
@@ -64,30 +65,28 @@ fn put_value(out: &mut [u32], at: usize, ran: Ran) -> Ran
     wrote(ran, len)
 }
 
-// A field by the general run, whatever its node is.
-fn run_other(
+// A node, whatever it is: the words of its value go to `out`, where all is 0.
+pub fn run_value(
     form: &[u8],
     known: &[u64],
     sheet: &[u8],
     items: &[u32],
     marks: &mut [u16; 256],
     p: Numbers,
-    node: usize,
-    at: usize,
+    field: Field,
     out: &mut [u32],
-    mark: u16,
 ) -> Ran
-    requires { ⌜ Fields (now form) (now known) (now sheet) (now items) (now marks) p mark node (now out) at ⌝ }
-    ensures { λ r. ⌜ ((t : Tree) → treeAt (now (form .entry)) node ≡ some t → Writes mark (sheetArea (now (sheet .entry))) (now (items .entry)) t (now (marks .entry)) p (now (marks .exit)) (now (out .entry)) at (now (out .exit)) r) ⌝ }
+    requires { ⌜ Placed (now form) (now known) (now sheet) (now items) (now marks) p field (now out) ⌝ }
+    ensures { λ r. ⌜ WritesField (now (form .entry)) (now (sheet .entry)) (now (items .entry)) field (now (marks .entry)) p (now (marks .exit)) (now (out .entry)) (now (out .exit)) r ⌝ }
 {
-    if is_list(form, node) {
-        return eval_list::run_list(form, known, sheet, items, marks, p, node, at, out, mark);
+    if is_list(form, field.node) {
+        return eval_list::run_list(form, known, sheet, items, marks, p, field, out);
     }
-    let ran = eval_node::run_node(form, known, sheet, items, marks, p, node, mark);
-    put_value(out, at, ran)
+    let ran = eval_node::run_node(form, known, sheet, items, marks, p, field.node, field.mark);
+    put_value(out, field.at, ran)
 }
 
-// One field: its words go to `out` from `at` on. A flag or a positional is evaluated in place, which is quicker than the general run.
+// One field. A flag or a positional is evaluated in place, which is quicker than the general run.
 fn run_field(
     form: &[u8],
     known: &[u64],
@@ -95,24 +94,23 @@ fn run_field(
     items: &[u32],
     marks: &mut [u16; 256],
     p: Numbers,
-    node: usize,
-    at: usize,
+    field: Field,
     out: &mut [u32],
-    mark: u16,
 ) -> Ran
-    requires { ⌜ Fields (now form) (now known) (now sheet) (now items) (now marks) p mark node (now out) at ⌝ }
-    ensures { λ r. ⌜ ((t : Tree) → treeAt (now (form .entry)) node ≡ some t → Writes mark (sheetArea (now (sheet .entry))) (now (items .entry)) t (now (marks .entry)) p (now (marks .exit)) (now (out .entry)) at (now (out .exit)) r) ⌝ }
+    requires { ⌜ Placed (now form) (now known) (now sheet) (now items) (now marks) p field (now out) ⌝ }
+    ensures { λ r. ⌜ WritesField (now (form .entry)) (now (sheet .entry)) (now (items .entry)) field (now (marks .entry)) p (now (marks .exit)) (now (out .entry)) (now (out .exit)) r ⌝ }
 {
-    let x = form_layout::node_at(form, node);
+    let x = form_layout::node_at(form, field.node);
+    let mark = field.mark;
     if x.kind == 1 {
-        let flag = eval_params::eval_flag(known, marks, p, node, x.r == 1, mark);
-        return put_value(out, at, flag);
+        let flag = eval_params::eval_flag(known, marks, p, field.node, x.r == 1, mark);
+        return put_value(out, field.at, flag);
     }
     if x.kind == 3 {
         let operand = eval_params::eval_positional(sheet, items, marks, p, x.p, x.r == 2, mark);
-        return put_value(out, at, operand);
+        return put_value(out, field.at, operand);
     }
-    run_other(form, known, sheet, items, marks, p, node, at, out, mark)
+    run_value(form, known, sheet, items, marks, p, field, out)
 }
 
 fn refused(number: u32, place: u32, tries: u32, numbers: Numbers) -> Reached
@@ -161,7 +159,8 @@ fn each_field(
     let mut k = 0;
     while k < n {
         let node = form_layout::field_at(form, k);
-        let ran = run_field(form, known, sheet, items, marks, s, node, at, out, mark);
+        let field = Field { node, at, mark };
+        let ran = run_field(form, known, sheet, items, marks, s, field, out);
         let left = ran.numbers;
         tries = tries + ran.tries;
         if ran.number != 0 {
