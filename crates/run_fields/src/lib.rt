@@ -6,6 +6,7 @@ ghost use Prim.Native.Nat.{_+_, _≤_};
 ghost use lib.ListN.{length};
 ghost use Rattle.rules.specs.Accept.{Accepted, accepted, checkForm};
 ghost use Rattle.rules.specs.Sheet.{sheetArea};
+ghost use Rattle.rules.specs.Run.{parsedMark};
 ghost use Rattle.rules.specs.Tree.{Tree, kindOf};
 ghost use Rattle.eval_told.specs.Nodes.{treeAt, isScalar};
 ghost use Rattle.run_fields.specs.Line.{Starts, Placed, written, PutValue, RunsFields, Reaches, refusedWith, valuesOf};
@@ -113,7 +114,7 @@ fn run_field(
     run_value(form, known, sheet, items, marks, p, field, out)
 }
 
-fn refused(number: u32, place: u32, tries: u32, numbers: Numbers) -> Reached
+pub fn refused(number: u32, place: u32, tries: u32, numbers: Numbers) -> Reached
     ensures { λ r. ⌜ r ≡ refusedWith number place tries numbers ⌝ }
 {
     Reached {
@@ -138,6 +139,14 @@ fn answered(tries: u32, words: usize, numbers: Numbers) -> Reached
     }
 }
 
+// The mark of what field `number` uses. Every field has the same: this is the one place where the number tells.
+fn field_mark(number: usize) -> u16
+    ensures { λ r. ⌜ r ≡ parsedMark ⌝ }
+{
+    let _ = number;
+    1
+}
+
 // The fields in order, up to the first that is refused. Each is run on the state that the last one left.
 fn each_field(
     form: &[u8],
@@ -146,11 +155,11 @@ fn each_field(
     items: &[u32],
     marks: &mut [u16; 256],
     p: Numbers,
+    first: usize,
     out: &mut [u32],
-    mark: u16,
 ) -> Reached
-    requires { ⌜ Starts (now form) (now known) (now sheet) (now items) (now marks) p (now out) mark ⌝ }
-    ensures { λ r. ⌜ ((a : Accepted) → checkForm (now (form .entry)) ≡ accepted a → RunsFields mark (sheetArea (now (sheet .entry))) (now (items .entry)) (a .fields) (now (marks .entry)) p (now (marks .exit)) (now (out .entry)) (now (out .exit)) r) ⌝ }
+    requires { ⌜ Starts (now form) (now known) (now sheet) (now items) (now marks) p first (now out) ⌝ }
+    ensures { λ r. ⌜ ((a : Accepted) → checkForm (now (form .entry)) ≡ accepted a → RunsFields (sheetArea (now (sheet .entry))) (now (items .entry)) (a .fields) (now (marks .entry)) p (now (marks .exit)) (now (out .entry)) (now (out .exit)) r) ⌝ }
 {
     let n = form_layout::field_count(form);
     let mut s = p;
@@ -159,6 +168,7 @@ fn each_field(
     let mut k = 0;
     while k < n {
         let node = form_layout::field_at(form, k);
+        let mark = field_mark(first + k);
         let field = Field { node, at, mark };
         let ran = run_field(form, known, sheet, items, marks, s, field, out);
         let left = ran.numbers;
@@ -174,7 +184,8 @@ fn each_field(
     answered(tries, at, s)
 }
 
-// All fields, then 27 at the first present place that is left in scope. Refused, `out` is all 0 again.
+// These items in this state, whose numbers tell the scope, and these fields, of which the first has number `first`: then 27 at
+// the first present place that is left in scope. Refused, `out` is all 0 again.
 pub fn run_fields(
     form: &[u8],
     known: &[u64],
@@ -182,13 +193,13 @@ pub fn run_fields(
     items: &[u32],
     marks: &mut [u16; 256],
     p: Numbers,
+    first: usize,
     out: &mut [u32],
-    mark: u16,
 ) -> Reached
-    requires { ⌜ Starts (now form) (now known) (now sheet) (now items) (now marks) p (now out) mark ⌝ }
-    ensures { λ r. ⌜ ((a : Accepted) → checkForm (now (form .entry)) ≡ accepted a → Reaches mark (sheetArea (now (sheet .entry))) (now (items .entry)) (a .fields) (now (marks .entry)) p (now (marks .exit)) (now (out .entry)) (now (out .exit)) r) ⌝ }
+    requires { ⌜ Starts (now form) (now known) (now sheet) (now items) (now marks) p first (now out) ⌝ }
+    ensures { λ r. ⌜ ((a : Accepted) → checkForm (now (form .entry)) ≡ accepted a → Reaches (sheetArea (now (sheet .entry))) (now (items .entry)) (a .fields) (now (marks .entry)) p (now (marks .exit)) (now (out .entry)) (now (out .exit)) r) ⌝ }
 {
-    let all = each_field(form, known, sheet, items, marks, p, out, mark);
+    let all = each_field(form, known, sheet, items, marks, p, first, out);
     if all.number != 0 {
         return all;
     }
