@@ -60,35 +60,23 @@ returns-3 c bytes e =
 
 returns-4 : tie.Need-returns-4
 returns-4 c bytes e =
-    let by-if3 = c .before .before in
-    let if3 = by-if3 .if3 in
-    let by-match = by-if3 .before .before in
-    let match = by-match .match in
-    let by-if1 = by-match .before .before in
-    let if1 = by-if1 .if1 in
-    let by-part-good = by-if1 .before in
-    let part-good = by-part-good .part-good in
-    let by-args = by-part-good .before .before .before .before in
-    let args = by-args .args in
-    let pre = by-args .pre in
-    let r = args .r .now in is-word bytes r _ e _ (part-good .ensures) (if1 .left) (omega (arith, match .rest .0, match .rest .1))
-    (omega (arith, if3 .taken)) _ (c .all-zero .ensures ∙ ap zeros (words-unused r pre))
+    let r = c .before .before .before .before .before .before .before .before .before .before .before .args .r .now in
+    is-word bytes r _ e _ (c .before .before .before .before .before .before .before .part-good .ensures)
+    (c .before .before .before .before .before .before .if1 .left)
+    (omega (arith, c .before .before .before .before .match .rest .0, c .before .before .before .before .match .rest .1))
+    (omega (arith, c .before .before .if3 .taken)) _
+    (c .all-zero .ensures
+    ∙ ap zeros (words-unused r (c .before .before .before .before .before .before .before .before .before .before .before .pre)))
 
 returns-5 : tie.Need-returns-5
 returns-5 c bytes e =
-    let by-part-good = c .before .before .before .before in
-    let part-good = by-part-good .part-good in
-    let args = by-part-good .before .before .before .before .args in
-    let r = args .r .now in
-    is-other bytes r _ e _ (part-good .ensures) (λ h. omega arith) (λ h. omega arith) (λ l h. omega arith)
+    let r = c .before .before .before .before .before .before .before .before .args .r .now in
+    is-other bytes r _ e _ (c .before .before .before .before .part-good .ensures) (λ h. omega arith) (λ h. omega arith) (λ l h. omega arith)
 
 returns-6 : tie.Need-returns-6
 returns-6 c bytes e =
-    let by-part-good = c .before .before .before .before .before in
-    let part-good = by-part-good .part-good in
-    let args = by-part-good .before .before .before .before .args in
-    let r = args .r .now in
-    is-other bytes r _ e _ (part-good .ensures) (λ h. omega arith) (λ h. omega arith) (λ l h. omega arith)
+    let r = c .before .before .before .before .before .before .before .before .before .args .r .now in
+    is-other bytes r _ e _ (c .before .before .before .before .before .part-good .ensures) (λ h. omega arith) (λ h. omega arith) (λ l h. omega arith)
 
 pub record-good-spec : {M : Type 1} → statement M
 record-good-spec =
