@@ -47,8 +47,8 @@ run-admitted-spec =
     (tie.spec
     wide-requires
     known-of-requires
-    slice-aggregate-run-value
     numbers-requires
+    slice-aggregate-run-value
     run-value-requires
     answered-requires
     same-length

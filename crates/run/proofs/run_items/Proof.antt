@@ -13,8 +13,11 @@ wide-requires c κs = search needs
 known-requires : tie.Need-known-requires
 known-requires c κs = (search items-matchable, search items-few, search table-long)
 
-run-known-requires : tie.Need-run-known-requires
-run-known-requires c κs = search items-start
+slice-aggregate-run-fields : tie.Need-slice-aggregate-run-fields
+slice-aggregate-run-fields c = search needs
+
+run-fields-requires : tie.Need-run-fields-requires
+run-fields-requires c κs = search items-start
 
 same-length : tie.Need-same-length
 same-length c = search needs
@@ -29,6 +32,7 @@ run-items-spec =
     nothing-known-requires
     wide-requires
     known-requires
-    run-known-requires
+    slice-aggregate-run-fields
+    run-fields-requires
     same-length
     returns)

@@ -7,20 +7,20 @@ use Rattle.eval_shortcut.proofs.Absent.{has-tree}
 use Rattle.eval_node.proofs.Turns.{if-taken, Turning, turn-first, turn-asks, long-kept, long-wrote, long-wiped, space-kept, turn-fits, turn-ends, turn-stops, turn-refused, turn-less}
 use Rattle.eval_node.proofs.Turns.{turn-space, turn-adds, turn-idles, turn-next}
 use Prim.Native.Nat.{ℕ}
-use Rattle.eval_node.proofs.run_turn.Reads as run-turn
+use Rattle.eval_node.proofs.turn.Reads as turn
 use Rattle.eval_node.proofs.run_repeat.Reads as run-repeat
-use Rattle.eval_node.proofs.+choice_by_copy+fallback_by_copy+run_choice+run_count+run_fallback+run_guard+run_last+run_leaf+run_node+run_optional+run_repeat+run_turn.Lts-run_repeat as run-repeat-lts
-use Rattle.eval_node.proofs.+choice_by_copy+fallback_by_copy+run_choice+run_count+run_fallback+run_guard+run_last+run_leaf+run_node+run_optional+run_repeat+run_turn.Proof.Common.{
+use Rattle.eval_node.proofs.+choice+choice_copied+count+fallback+fallback_copied+guard+last+leaf+optional+run_node+run_repeat+turn.Lts-run_repeat as run-repeat-lts
+use Rattle.eval_node.proofs.+choice+choice_copied+count+fallback+fallback_copied+guard+last+leaf+optional+run_node+run_repeat+turn.Proof.Common.{
   run-repeat-at,
   run-repeat-calls,
 }
 
 abbrev pub run-repeat-Inv-loop : run-repeat-lts.InvT-loop
-run-repeat-Inv-loop form known sheet items marks₀ child catch stops writes at out₀ mark leaf keeps before₀ s₀ from₀ last₀ all₀ marks out before s from last all =
-    Turning form known sheet items marks₀ child catch stops writes at out₀ mark s₀ marks out s from last all × (keeps ≡ true → before ≡ marks)
+run-repeat-Inv-loop form known sheet items marks₀ how out₀ mark leaf over keeps before₀ s₀ from₀ last₀ all₀ marks out before s from last all =
+    Turning form known sheet items marks₀ how out₀ mark s₀ marks out s from last all × (keeps ≡ true → before ≡ marks)
 
 abbrev pub run-repeat-μ-loop : run-repeat-lts.MeasureT-loop
-run-repeat-μ-loop form known sheet items marks₀ child catch stops writes at out₀ mark leaf keeps before₀ s₀ from₀ last₀ all₀ marks out before s from last all =
+run-repeat-μ-loop form known sheet items marks₀ how out₀ mark leaf over keeps before₀ s₀ from₀ last₀ all₀ marks out before s from last all =
     last
 
 pub run-repeat-leaf-below-requires : (t : ℕ) → run-repeat-lts.Need-leaf-below-requires (run-repeat-calls t) (run-repeat-at t) run-repeat.Post run-repeat-Inv-loop run-repeat-μ-loop
@@ -44,16 +44,16 @@ run-repeat-loop-holds t c =
     let by-wide = c .before in
     let wide = by-wide .wide in
     let pre = by-wide .before .before .before .before .before .before .before .before .before .pre in
-    (turn-first _ _ _ _ _ _ _ _ _ _ _ _ _ (pre .1) _ (wide .ensures) _ (c .nothing .ensures), λ e. refl)
+    (turn-first _ _ _ _ _ _ _ _ _ (pre .1) _ (wide .ensures) _ (c .nothing .ensures), λ e. refl)
 
-pub run-repeat-run-turn-requires : (t : ℕ) → run-repeat-lts.Need-run-turn-requires (run-repeat-calls t) (run-repeat-at t) run-repeat.Post run-repeat-Inv-loop run-repeat-μ-loop
-run-repeat-run-turn-requires t c κs =
+pub run-repeat-turn-requires : (t : ℕ) → run-repeat-lts.Need-turn-requires (run-repeat-calls t) (run-repeat-at t) run-repeat.Post run-repeat-Inv-loop run-repeat-μ-loop
+run-repeat-turn-requires t c κs =
     let by-loop = c .before in
     let loop = by-loop .loop in
     let by-leaf-below = by-loop .before .before .before .before .before in
     let leaf-below = by-leaf-below .leaf-below in
     let pre = by-leaf-below .before .before .before .before .before .before .pre in
-    (omega (arith, pre .0), (turn-asks _ _ _ _ _ _ _ _ _ _ _ _ _ _ _ _ _ _ _ (loop .inv .0), leaf-below .ensures .1))
+    (omega (arith, pre .0), (turn-asks _ _ _ _ _ _ _ _ _ _ _ _ _ _ _ (loop .inv .0), leaf-below .ensures .1))
 
 pub run-repeat-parse-option-requires : (t : ℕ) → run-repeat-lts.Need-parse-option-requires (run-repeat-calls t) (run-repeat-at t) run-repeat.Post run-repeat-Inv-loop run-repeat-μ-loop
 run-repeat-parse-option-requires t c κs = search needs
@@ -67,10 +67,10 @@ run-repeat-write-value-requires t c κs =
     let enum-told = by-enum-told .enum-told in
     let by-parse-option = by-enum-told .before .before in
     let parse-option = by-parse-option .parse-option in
-    let by-run-turn = by-parse-option .before .before in
-    let run-turn = by-run-turn .run-turn in
-    let loop = by-run-turn .before .before .loop in
-    turn-space _ _ _ _ _ _ _ _ _ _ _ _ _ _ _ _ _ _ _ (loop .inv .0) _ _ (run-turn .ensures) (sym (parse-option .ensures) ∙ enum-told .given .1)
+    let by-turn = by-parse-option .before .before in
+    let turn = by-turn .turn in
+    let loop = by-turn .before .before .loop in
+    turn-space _ _ _ _ _ _ _ _ _ _ _ _ _ _ _ (loop .inv .0) _ _ (turn .ensures) (sym (parse-option .ensures) ∙ enum-told .given .1)
 
 pub run-repeat-one-more-requires : (t : ℕ) → run-repeat-lts.Need-one-more-requires (run-repeat-calls t) (run-repeat-at t) run-repeat.Post run-repeat-Inv-loop run-repeat-μ-loop
 run-repeat-one-more-requires t c κs =
@@ -80,10 +80,10 @@ run-repeat-one-more-requires t c κs =
     let enum-told = by-enum-told .enum-told in
     let by-parse-option = by-enum-told .before .before in
     let parse-option = by-parse-option .parse-option in
-    let by-run-turn = by-parse-option .before .before in
-    let run-turn = by-run-turn .run-turn in
-    let loop = by-run-turn .before .before .loop in
-    turn-adds _ _ _ _ _ _ _ _ _ _ _ _ _ _ _ _ _ _ _ (loop .inv .0) _ _ (run-turn .ensures) (sym (parse-option .ensures) ∙ enum-told .given .1) _ _
+    let by-turn = by-parse-option .before .before in
+    let turn = by-turn .turn in
+    let loop = by-turn .before .before .loop in
+    turn-adds _ _ _ _ _ _ _ _ _ _ _ _ _ _ _ (loop .inv .0) _ _ (turn .ensures) (sym (parse-option .ensures) ∙ enum-told .given .1) _ _
     (write-value .ensures)
 
 pub run-repeat-idle-requires : (t : ℕ) → run-repeat-lts.Need-idle-requires (run-repeat-calls t) (run-repeat-at t) run-repeat.Post run-repeat-Inv-loop run-repeat-μ-loop
@@ -94,7 +94,7 @@ run-repeat-same-length t c =
     let by-write-value = c .before .before .before .before .before in
     let write-value = by-write-value .write-value in
     let loop = by-write-value .before .before .before .before .before .before .before .before .loop in
-    long-wrote _ _ _ _ _ _ _ _ _ _ _ _ _ _ _ _ _ _ _ (loop .inv .0) _ _ _ _ _ (write-value .ensures)
+    long-wrote _ _ _ _ _ _ _ _ _ _ _ _ _ _ _ (loop .inv .0) _ _ _ _ _ (write-value .ensures)
 
 pub run-repeat-returns : (t : ℕ) → run-repeat-lts.Need-returns (run-repeat-calls t) (run-repeat-at t) run-repeat.Post run-repeat-Inv-loop run-repeat-μ-loop
 run-repeat-returns t c =
@@ -108,10 +108,10 @@ run-repeat-returns t c =
     let enum-told = by-enum-told .enum-told in
     let by-parse-option = by-enum-told .before .before in
     let parse-option = by-parse-option .parse-option in
-    let by-run-turn = by-parse-option .before .before in
-    let run-turn = by-run-turn .run-turn in
-    let loop = by-run-turn .before .before .loop in
-    turn-idles _ _ _ _ _ _ _ _ _ _ _ _ _ _ _ _ _ _ _ (loop .inv .0) _ _ (run-turn .ensures) (sym (parse-option .ensures) ∙ enum-told .given .1) _ _
+    let by-turn = by-parse-option .before .before in
+    let turn = by-turn .turn in
+    let loop = by-turn .before .before .loop in
+    turn-idles _ _ _ _ _ _ _ _ _ _ _ _ _ _ _ (loop .inv .0) _ _ (turn .ensures) (sym (parse-option .ensures) ∙ enum-told .given .1) _ _
     (write-value .ensures) _ (one-more .ensures) _ (idle .ensures) (c .if1 .taken)
 
 pub run-repeat-copy-if-requires : (t : ℕ) → run-repeat-lts.Need-copy-if-requires (run-repeat-calls t) (run-repeat-at t) run-repeat.Post run-repeat-Inv-loop run-repeat-μ-loop
@@ -126,10 +126,10 @@ run-repeat-loop-less t c =
     let enum-told = by-enum-told .enum-told in
     let by-parse-option = by-enum-told .before .before in
     let parse-option = by-parse-option .parse-option in
-    let by-run-turn = by-parse-option .before .before in
-    let run-turn = by-run-turn .run-turn in
-    let loop = by-run-turn .before .before .loop in
-    turn-less _ _ _ _ _ _ _ _ _ _ _ _ _ _ _ _ _ _ _ (loop .inv .0) _ _ (run-turn .ensures) (sym (parse-option .ensures) ∙ enum-told .given .1)
+    let by-turn = by-parse-option .before .before in
+    let turn = by-turn .turn in
+    let loop = by-turn .before .before .loop in
+    turn-less _ _ _ _ _ _ _ _ _ _ _ _ _ _ _ (loop .inv .0) _ _ (turn .ensures) (sym (parse-option .ensures) ∙ enum-told .given .1)
 
 pub run-repeat-loop-again : (t : ℕ) → run-repeat-lts.Need-loop-again (run-repeat-calls t) (run-repeat-at t) run-repeat.Post run-repeat-Inv-loop run-repeat-μ-loop
 run-repeat-loop-again t c =
@@ -147,10 +147,10 @@ run-repeat-loop-again t c =
     let enum-told = by-enum-told .enum-told in
     let by-parse-option = by-enum-told .before .before in
     let parse-option = by-parse-option .parse-option in
-    let by-run-turn = by-parse-option .before .before in
-    let run-turn = by-run-turn .run-turn in
-    let loop = by-run-turn .before .before .loop in (
-      turn-next _ _ _ _ _ _ _ _ _ _ _ _ _ _ _ _ _ _ _ (loop .inv .0) _ _ (run-turn .ensures) (sym (parse-option .ensures) ∙ enum-told .given .1) _ _
+    let by-turn = by-parse-option .before .before in
+    let turn = by-turn .turn in
+    let loop = by-turn .before .before .loop in (
+      turn-next _ _ _ _ _ _ _ _ _ _ _ _ _ _ _ (loop .inv .0) _ _ (turn .ensures) (sym (parse-option .ensures) ∙ enum-told .given .1) _ _
           (write-value .ensures) _ (one-more .ensures) _ (idle .ensures) (if1 .left) _ (c .next-from .ensures),
       if-taken _ _ _ _ (copy-if .ensures),
     )
@@ -160,15 +160,15 @@ run-repeat-enum-told-2 t c = search needs
 
 pub run-repeat-ended-requires : (t : ℕ) → run-repeat-lts.Need-ended-requires (run-repeat-calls t) (run-repeat-at t) run-repeat.Post run-repeat-Inv-loop run-repeat-μ-loop
 run-repeat-ended-requires t c κs =
-    let by-run-turn = c .before .before .before .before in
-    let run-turn = by-run-turn .run-turn in
-    let loop = by-run-turn .before .before .loop in
-    turn-fits _ _ _ _ _ _ _ _ _ _ _ _ _ _ _ _ _ _ _ (loop .inv .0) _ _ (run-turn .ensures)
+    let by-turn = c .before .before .before .before in
+    let turn = by-turn .turn in
+    let loop = by-turn .before .before .loop in
+    turn-fits _ _ _ _ _ _ _ _ _ _ _ _ _ _ _ (loop .inv .0) _ _ (turn .ensures)
 
 pub run-repeat-same-length-2 : (t : ℕ) → run-repeat-lts.Need-same-length-2 (run-repeat-calls t) (run-repeat-at t) run-repeat.Post run-repeat-Inv-loop run-repeat-μ-loop
 run-repeat-same-length-2 t c =
     let loop = c .before .before .before .before .before .before .before .loop in
-    long-kept _ _ _ _ _ _ _ _ _ _ _ _ _ _ _ _ _ _ _ (loop .inv .0)
+    long-kept _ _ _ _ _ _ _ _ _ _ _ _ _ _ _ (loop .inv .0)
 
 pub run-repeat-returns-2 : (t : ℕ) → run-repeat-lts.Need-returns-2 (run-repeat-calls t) (run-repeat-at t) run-repeat.Post run-repeat-Inv-loop run-repeat-μ-loop
 run-repeat-returns-2 t c =
@@ -176,10 +176,10 @@ run-repeat-returns-2 t c =
     let enum-told2 = by-enum-told2 .enum-told2 in
     let by-parse-option = by-enum-told2 .before .before in
     let parse-option = by-parse-option .parse-option in
-    let by-run-turn = by-parse-option .before .before in
-    let run-turn = by-run-turn .run-turn in
-    let loop = by-run-turn .before .before .loop in
-    turn-ends _ _ _ _ _ _ _ _ _ _ _ _ _ _ _ _ _ _ _ (loop .inv .0) _ _ (run-turn .ensures) (sym (parse-option .ensures) ∙ enum-told2 .given .1) _
+    let by-turn = by-parse-option .before .before in
+    let turn = by-turn .turn in
+    let loop = by-turn .before .before .loop in
+    turn-ends _ _ _ _ _ _ _ _ _ _ _ _ _ _ _ (loop .inv .0) _ _ (turn .ensures) (sym (parse-option .ensures) ∙ enum-told2 .given .1) _
     (c .ended .ensures)
 
 pub run-repeat-enum-told-3 : (t : ℕ) → run-repeat-lts.Need-enum-told-3 (run-repeat-calls t) (run-repeat-at t) run-repeat.Post run-repeat-Inv-loop run-repeat-μ-loop
@@ -190,15 +190,15 @@ run-repeat-copy-if-requires-2 t c κs = search needs
 
 pub run-repeat-ended-requires-2 : (t : ℕ) → run-repeat-lts.Need-ended-requires-2 (run-repeat-calls t) (run-repeat-at t) run-repeat.Post run-repeat-Inv-loop run-repeat-μ-loop
 run-repeat-ended-requires-2 t c κs =
-    let by-run-turn = c .before .before .before .before .before .before .before in
-    let run-turn = by-run-turn .run-turn in
-    let loop = by-run-turn .before .before .loop in
-    turn-fits _ _ _ _ _ _ _ _ _ _ _ _ _ _ _ _ _ _ _ (loop .inv .0) _ _ (run-turn .ensures)
+    let by-turn = c .before .before .before .before .before .before .before in
+    let turn = by-turn .turn in
+    let loop = by-turn .before .before .loop in
+    turn-fits _ _ _ _ _ _ _ _ _ _ _ _ _ _ _ (loop .inv .0) _ _ (turn .ensures)
 
 pub run-repeat-same-length-3 : (t : ℕ) → run-repeat-lts.Need-same-length-3 (run-repeat-calls t) (run-repeat-at t) run-repeat.Post run-repeat-Inv-loop run-repeat-μ-loop
 run-repeat-same-length-3 t c =
     let loop = c .before .before .before .before .before .before .before .before .before .before .loop in
-    long-kept _ _ _ _ _ _ _ _ _ _ _ _ _ _ _ _ _ _ _ (loop .inv .0)
+    long-kept _ _ _ _ _ _ _ _ _ _ _ _ _ _ _ (loop .inv .0)
 
 pub run-repeat-returns-3 : (t : ℕ) → run-repeat-lts.Need-returns-3 (run-repeat-calls t) (run-repeat-at t) run-repeat.Post run-repeat-Inv-loop run-repeat-μ-loop
 run-repeat-returns-3 t c =
@@ -208,12 +208,12 @@ run-repeat-returns-3 t c =
     let enum-told3 = by-enum-told3 .enum-told3 in
     let by-parse-option = by-enum-told3 .before .before in
     let parse-option = by-parse-option .parse-option in
-    let by-run-turn = by-parse-option .before .before in
-    let run-turn = by-run-turn .run-turn in
-    let by-loop = by-run-turn .before .before in
+    let by-turn = by-parse-option .before .before in
+    let turn = by-turn .turn in
+    let by-loop = by-turn .before .before in
     let loop = by-loop .loop in
     let keeps-marks = by-loop .before .before .before .before .keeps-marks in
-    turn-stops _ _ _ _ _ _ _ _ _ _ _ _ _ _ _ _ _ _ _ (loop .inv .0) _ _ (run-turn .ensures) (sym (parse-option .ensures) ∙ enum-told3 .given .1) _
+    turn-stops _ _ _ _ _ _ _ _ _ _ _ _ _ _ _ (loop .inv .0) _ _ (turn .ensures) (sym (parse-option .ensures) ∙ enum-told3 .given .1) _
     (keeps-marks .ensures) _ (loop .inv .1) _ (copy-if2 .ensures) _ (c .ended2 .ensures)
 
 pub run-repeat-enum-told-4 : (t : ℕ) → run-repeat-lts.Need-enum-told-4 (run-repeat-calls t) (run-repeat-at t) run-repeat.Post run-repeat-Inv-loop run-repeat-μ-loop
@@ -222,21 +222,21 @@ run-repeat-enum-told-4 t c = search needs
 pub run-repeat-unwrite-requires : (t : ℕ) → run-repeat-lts.Need-unwrite-requires (run-repeat-calls t) (run-repeat-at t) run-repeat.Post run-repeat-Inv-loop run-repeat-μ-loop
 run-repeat-unwrite-requires t c κs =
     let loop = c .before .before .before .before .before .before .before .loop in
-    space-kept _ _ _ _ _ _ _ _ _ _ _ _ _ _ _ _ _ _ _ (loop .inv .0)
+    space-kept _ _ _ _ _ _ _ _ _ _ _ _ _ _ _ (loop .inv .0)
 
 pub run-repeat-passed-on-requires : (t : ℕ) → run-repeat-lts.Need-passed-on-requires (run-repeat-calls t) (run-repeat-at t) run-repeat.Post run-repeat-Inv-loop run-repeat-μ-loop
 run-repeat-passed-on-requires t c κs =
-    let by-run-turn = c .before .before .before .before .before .before .before .before in
-    let run-turn = by-run-turn .run-turn in
-    let loop = by-run-turn .before .before .loop in
-    turn-fits _ _ _ _ _ _ _ _ _ _ _ _ _ _ _ _ _ _ _ (loop .inv .0) _ _ (run-turn .ensures)
+    let by-turn = c .before .before .before .before .before .before .before .before in
+    let turn = by-turn .turn in
+    let loop = by-turn .before .before .loop in
+    turn-fits _ _ _ _ _ _ _ _ _ _ _ _ _ _ _ (loop .inv .0) _ _ (turn .ensures)
 
 pub run-repeat-same-length-4 : (t : ℕ) → run-repeat-lts.Need-same-length-4 (run-repeat-calls t) (run-repeat-at t) run-repeat.Post run-repeat-Inv-loop run-repeat-μ-loop
 run-repeat-same-length-4 t c =
     let by-unwrite = c .before .before .before in
     let unwrite = by-unwrite .unwrite in
     let loop = by-unwrite .before .before .before .before .before .before .before .before .loop in
-    long-wiped _ _ _ _ _ _ _ _ _ _ _ _ _ _ _ _ _ _ _ (loop .inv .0) _ (unwrite .ensures)
+    long-wiped _ _ _ _ _ _ _ _ _ _ _ _ _ _ _ (loop .inv .0) _ (unwrite .ensures)
 
 pub run-repeat-returns-4 : (t : ℕ) → run-repeat-lts.Need-returns-4 (run-repeat-calls t) (run-repeat-at t) run-repeat.Post run-repeat-Inv-loop run-repeat-μ-loop
 run-repeat-returns-4 t c =
@@ -246,8 +246,8 @@ run-repeat-returns-4 t c =
     let enum-told4 = by-enum-told4 .enum-told4 in
     let by-parse-option = by-enum-told4 .before .before in
     let parse-option = by-parse-option .parse-option in
-    let by-run-turn = by-parse-option .before .before in
-    let run-turn = by-run-turn .run-turn in
-    let loop = by-run-turn .before .before .loop in
-    turn-refused _ _ _ _ _ _ _ _ _ _ _ _ _ _ _ _ _ _ _ (loop .inv .0) _ _ (run-turn .ensures) (sym (parse-option .ensures) ∙ enum-told4 .given .1) _
+    let by-turn = by-parse-option .before .before in
+    let turn = by-turn .turn in
+    let loop = by-turn .before .before .loop in
+    turn-refused _ _ _ _ _ _ _ _ _ _ _ _ _ _ _ (loop .inv .0) _ _ (turn .ensures) (sym (parse-option .ensures) ∙ enum-told4 .given .1) _
     (unwrite .ensures) _ (c .passed-on .ensures)

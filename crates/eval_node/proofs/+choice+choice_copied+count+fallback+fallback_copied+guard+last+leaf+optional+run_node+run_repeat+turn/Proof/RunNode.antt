@@ -4,15 +4,15 @@ use Prim.Native.Nat.{ℕ}
 use Rattle.eval_shortcut.proofs.Given.{form-long, node-below, flag-ready, argument-ready, positional-ready, flag-node, argument-node, positional-says, optional-less, optional-ready}
 use Rattle.eval_shortcut.proofs.Given.{optional-says, count-less, count-ready, count-says, last-less, last-ready, last-says, guard-less, guard-ready, guard-says, fallback-less}
 use Rattle.eval_shortcut.proofs.Given.{fallback-ready, choice-less, choice-less₂, choice-ready, choice-says}
-use Rattle.eval_node.proofs.run_choice.Reads as run-choice
-use Rattle.eval_node.proofs.run_count.Reads as run-count
-use Rattle.eval_node.proofs.run_fallback.Reads as run-fallback
-use Rattle.eval_node.proofs.run_guard.Reads as run-guard
-use Rattle.eval_node.proofs.run_last.Reads as run-last
+use Rattle.eval_node.proofs.choice.Reads as choice
+use Rattle.eval_node.proofs.count.Reads as count
+use Rattle.eval_node.proofs.fallback.Reads as fallback
+use Rattle.eval_node.proofs.guard.Reads as guard
+use Rattle.eval_node.proofs.last.Reads as last
 use Rattle.eval_node.proofs.run_node.Reads as run-node
-use Rattle.eval_node.proofs.+choice_by_copy+fallback_by_copy+run_choice+run_count+run_fallback+run_guard+run_last+run_leaf+run_node+run_optional+run_repeat+run_turn.Lts-run_node as run-node-lts
-use Rattle.eval_node.proofs.run_optional.Reads as run-optional
-use Rattle.eval_node.proofs.+choice_by_copy+fallback_by_copy+run_choice+run_count+run_fallback+run_guard+run_last+run_leaf+run_node+run_optional+run_repeat+run_turn.Proof.Common.{
+use Rattle.eval_node.proofs.+choice+choice_copied+count+fallback+fallback_copied+guard+last+leaf+optional+run_node+run_repeat+turn.Lts-run_node as run-node-lts
+use Rattle.eval_node.proofs.optional.Reads as optional
+use Rattle.eval_node.proofs.+choice+choice_copied+count+fallback+fallback_copied+guard+last+leaf+optional+run_node+run_repeat+turn.Proof.Common.{
   run-node-at,
   run-node-calls,
 }
@@ -45,8 +45,8 @@ run-node-eval-positional-requires t c κs =
     let pre = by-node-at .before .before .before .before .before .pre in
     positional-ready _ _ _ _ _ _ _ _ (pre .1) _ (node-at .ensures)
 
-pub run-node-run-optional-requires : (t : ℕ) → run-node-lts.Need-run-optional-requires (run-node-calls t) (run-node-at t) run-node.Post
-run-node-run-optional-requires t c κs =
+pub run-node-optional-requires : (t : ℕ) → run-node-lts.Need-optional-requires (run-node-calls t) (run-node-at t) run-node.Post
+run-node-optional-requires t c κs =
     let by-match = c .before .before in
     let match = by-match .match in
     let by-node-at = by-match .before in
@@ -55,8 +55,8 @@ run-node-run-optional-requires t c κs =
     let l = optional-less _ _ _ _ _ _ _ _ (pre .1) _ (node-at .ensures) (match .keys4) in
     (omega (arith, pre .0), optional-ready _ _ _ _ _ _ _ _ (pre .1) _ (node-at .ensures) (match .keys4))
 
-pub run-node-run-count-requires : (t : ℕ) → run-node-lts.Need-run-count-requires (run-node-calls t) (run-node-at t) run-node.Post
-run-node-run-count-requires t c κs =
+pub run-node-count-requires : (t : ℕ) → run-node-lts.Need-count-requires (run-node-calls t) (run-node-at t) run-node.Post
+run-node-count-requires t c κs =
     let by-match = c .before in
     let match = by-match .match in
     let by-node-at = by-match .before in
@@ -65,8 +65,8 @@ run-node-run-count-requires t c κs =
     let l = count-less _ _ _ _ _ _ _ _ (pre .1) _ (node-at .ensures) (match .keys5) in
     (omega (arith, pre .0), count-ready _ _ _ _ _ _ _ _ (pre .1) _ (node-at .ensures) (match .keys5))
 
-pub run-node-run-last-requires : (t : ℕ) → run-node-lts.Need-run-last-requires (run-node-calls t) (run-node-at t) run-node.Post
-run-node-run-last-requires t c κs =
+pub run-node-last-requires : (t : ℕ) → run-node-lts.Need-last-requires (run-node-calls t) (run-node-at t) run-node.Post
+run-node-last-requires t c κs =
     let by-match = c .before in
     let match = by-match .match in
     let by-node-at = by-match .before in
@@ -75,8 +75,8 @@ run-node-run-last-requires t c κs =
     let l = last-less _ _ _ _ _ _ _ _ (pre .1) _ (node-at .ensures) (match .keys6) in
     (omega (arith, pre .0), last-ready _ _ _ _ _ _ _ _ (pre .1) _ (node-at .ensures) (match .keys6))
 
-pub run-node-run-choice-requires : (t : ℕ) → run-node-lts.Need-run-choice-requires (run-node-calls t) (run-node-at t) run-node.Post
-run-node-run-choice-requires t c κs =
+pub run-node-choice-requires : (t : ℕ) → run-node-lts.Need-choice-requires (run-node-calls t) (run-node-at t) run-node.Post
+run-node-choice-requires t c κs =
     let by-match = c .before in
     let match = by-match .match in
     let by-node-at = by-match .before in
@@ -86,8 +86,8 @@ run-node-run-choice-requires t c κs =
     let r = choice-less₂ _ _ _ _ _ _ _ _ (pre .1) _ (node-at .ensures) (match .keys7) in
     (omega (arith, pre .0), choice-ready _ _ _ _ _ _ _ _ (pre .1) _ (node-at .ensures) (match .keys7))
 
-pub run-node-run-fallback-requires : (t : ℕ) → run-node-lts.Need-run-fallback-requires (run-node-calls t) (run-node-at t) run-node.Post
-run-node-run-fallback-requires t c κs =
+pub run-node-fallback-requires : (t : ℕ) → run-node-lts.Need-fallback-requires (run-node-calls t) (run-node-at t) run-node.Post
+run-node-fallback-requires t c κs =
     let by-match = c .before in
     let match = by-match .match in
     let by-node-at = by-match .before in
@@ -96,8 +96,8 @@ run-node-run-fallback-requires t c κs =
     let l = fallback-less _ _ _ _ _ _ _ _ (pre .1) _ (node-at .ensures) (match .keys8) in
     (omega (arith, pre .0), fallback-ready _ _ _ _ _ _ _ _ (pre .1) _ (node-at .ensures) (match .keys8))
 
-pub run-node-run-guard-requires : (t : ℕ) → run-node-lts.Need-run-guard-requires (run-node-calls t) (run-node-at t) run-node.Post
-run-node-run-guard-requires t c κs =
+pub run-node-guard-requires : (t : ℕ) → run-node-lts.Need-guard-requires (run-node-calls t) (run-node-at t) run-node.Post
+run-node-guard-requires t c κs =
     let by-match = c .before in
     let match = by-match .match in
     let by-node-at = by-match .before in
@@ -147,7 +147,7 @@ run-node-returns-4 t c =
     let by-node-at = by-match .before in
     let node-at = by-node-at .node-at in
     let pre = by-node-at .before .before .before .before .before .pre in
-    optional-says _ _ _ _ _ _ _ _ (pre .1) _ (node-at .ensures) _ _ (match .keys4) (c .run-optional .ensures)
+    optional-says _ _ _ _ _ _ _ _ (pre .1) _ (node-at .ensures) _ _ (match .keys4) (c .optional .ensures)
 
 pub run-node-returns-5 : (t : ℕ) → run-node-lts.Need-returns-5 (run-node-calls t) (run-node-at t) run-node.Post
 run-node-returns-5 t c =
@@ -156,7 +156,7 @@ run-node-returns-5 t c =
     let by-node-at = by-match .before in
     let node-at = by-node-at .node-at in
     let pre = by-node-at .before .before .before .before .before .pre in
-    count-says _ _ _ _ _ _ _ _ (pre .1) _ (node-at .ensures) _ _ (match .keys5) (c .run-count .ensures)
+    count-says _ _ _ _ _ _ _ _ (pre .1) _ (node-at .ensures) _ _ (match .keys5) (c .count .ensures)
 
 pub run-node-returns-6 : (t : ℕ) → run-node-lts.Need-returns-6 (run-node-calls t) (run-node-at t) run-node.Post
 run-node-returns-6 t c =
@@ -165,7 +165,7 @@ run-node-returns-6 t c =
     let by-node-at = by-match .before in
     let node-at = by-node-at .node-at in
     let pre = by-node-at .before .before .before .before .before .pre in
-    last-says _ _ _ _ _ _ _ _ (pre .1) _ (node-at .ensures) _ _ (match .keys6) (c .run-last .ensures)
+    last-says _ _ _ _ _ _ _ _ (pre .1) _ (node-at .ensures) _ _ (match .keys6) (c .last .ensures)
 
 pub run-node-returns-7 : (t : ℕ) → run-node-lts.Need-returns-7 (run-node-calls t) (run-node-at t) run-node.Post
 run-node-returns-7 t c =
@@ -174,10 +174,10 @@ run-node-returns-7 t c =
     let by-node-at = by-match .before in
     let node-at = by-node-at .node-at in
     let pre = by-node-at .before .before .before .before .before .pre in
-    choice-says _ _ _ _ _ _ _ _ (pre .1) _ (node-at .ensures) _ _ (match .keys7) (c .run-choice .ensures)
+    choice-says _ _ _ _ _ _ _ _ (pre .1) _ (node-at .ensures) _ _ (match .keys7) (c .choice .ensures)
 
 pub run-node-returns-8 : (t : ℕ) → run-node-lts.Need-returns-8 (run-node-calls t) (run-node-at t) run-node.Post
-run-node-returns-8 t c = c .run-fallback .ensures
+run-node-returns-8 t c = c .fallback .ensures
 
 pub run-node-returns-9 : (t : ℕ) → run-node-lts.Need-returns-9 (run-node-calls t) (run-node-at t) run-node.Post
 run-node-returns-9 t c =
@@ -188,4 +188,4 @@ run-node-returns-9 t c =
     let pre = by-node-at .before .before .before .before .before .pre in
     guard-says _ _ _ _ _ _ _ _ (pre .1) _ (node-at .ensures) (match .rest .0 .0 .0 .0 .0 .0 .0 .1) (match .rest .0 .0 .0 .0 .0 .0 .1)
     (match .rest .0 .0 .0 .0 .0 .1) (match .rest .0 .0 .0 .0 .1) (match .rest .0 .0 .0 .1) (match .rest .0 .0 .1) (match .rest .0 .1)
-    (match .rest .1) _ _ (c .run-guard .ensures)
+    (match .rest .1) _ _ (c .guard .ensures)

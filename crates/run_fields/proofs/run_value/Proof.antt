@@ -1,7 +1,7 @@
 use borrow.Author.Needs.{needs}
 use Rattle.run_fields.proofs.Fields.{field-listed, field-scalar, field-put}
-use Rattle.run_fields.proofs.run_other.Statement.{statement}
-use Rattle.run_fields.proofs.run_other.Tie as tie
+use Rattle.run_fields.proofs.run_value.Statement.{statement}
+use Rattle.run_fields.proofs.run_value.Tie as tie
 
 is-list-requires : tie.Need-is-list-requires
 is-list-requires c κs = search needs
@@ -31,8 +31,8 @@ returns-2 c =
     let run-node = by-put-value .before .before .run-node in
     λ t h. field-put _ _ _ t _ _ _ _ _ _ _ _ (run-node .ensures t h) (put-value .ensures)
 
-pub run-other-spec : {M : Type 1} → statement M
-run-other-spec =
+pub run-value-spec : {M : Type 1} → statement M
+run-value-spec =
     tie.close
     (tie.spec
     is-list-requires
