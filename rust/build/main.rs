@@ -1,5 +1,7 @@
 //! Links the proved code: the folder of `libexports.a` is `SILVERPOISE_LIB`, or else `rt staticlib exports` makes it.
 
+mod prove;
+
 use std::{env, path::Path, path::PathBuf, process::Command};
 
 fn main() {
@@ -23,17 +25,19 @@ fn build() -> PathBuf {
     let root = Path::new(&manifest).parent().expect("the crate stands in the project's root");
     println!("cargo::rerun-if-changed={}", root.join("crates").display());
     println!("cargo::rerun-if-changed={}", root.join("crates.txt").display());
-    // what `exports` rests on is proved side by side: `staticlib` by itself would prove one crate after the other
-    rt(root, &["check", "run", "call_text"]);
+    prove::side_by_side(root, "exports", jobs());
     rt(root, &["staticlib", "exports"]);
     root.join("target/staticlib")
 }
 
-/// Runs `rt` with two jobs a processor, where the caller does not say how many: a crate often waits for one that it rests on.
+/// How many crates are proved at a time: as many as there are processors, where the caller does not say it.
+fn jobs() -> usize {
+    let said = env::var("RT_JOBS").ok().and_then(|n| n.parse().ok());
+    said.unwrap_or_else(|| std::thread::available_parallelism().map_or(1, |n| n.get()).min(8)).max(1)
+}
+
 fn rt(root: &Path, words: &[&str]) {
-    let processors = std::thread::available_parallelism().map_or(1, |n| n.get());
-    let jobs = env::var("RT_JOBS").unwrap_or_else(|_| (2 * processors).min(8).to_string());
-    match Command::new("rt").args(words).env("RT_JOBS", jobs).current_dir(root).status() {
+    match Command::new("rt").args(words).current_dir(root).status() {
         Ok(status) => assert!(status.success(), "`rt {}` failed", words.join(" ")),
         Err(error) => panic!("`rt` cannot be run ({error}): set SILVERPOISE_LIB to the folder of libexports.a"),
     }
