@@ -130,7 +130,13 @@ fn prove(root: &Path, name: &str, beneath: &BTreeSet<String>) -> io::Result<bool
         let _ = fs::rename(root.join(&part), side.join(&part));
     }
     let quiet = || Stdio::null();
-    let rt = Command::new("rt").args(["check", name]).env("RT_JOBS", "1").current_dir(&side).stdout(quiet()).stderr(quiet()).status()?;
+    let rt = Command::new("rt")
+        .args(["check", name])
+        .env("RT_JOBS", "1")
+        .current_dir(&side)
+        .stdout(quiet())
+        .stderr(quiet())
+        .status()?;
     if rt.success() {
         for part in parts(name) {
             fs::rename(side.join(&part), root.join(&part))?;
