@@ -159,6 +159,7 @@ impl Compared {
 }
 
 /// The words, then 0 up to the length.
+#[cfg(live)]
 pub fn padded(words: &[u32], length: usize) -> Vec<u32> {
     let mut all = vec![0; length];
     all[..words.len()].copy_from_slice(words);
