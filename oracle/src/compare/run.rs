@@ -76,6 +76,7 @@ pub fn show(form: &str) -> bool {
 }
 
 /// The words, then 0 up to the length.
+#[cfg(live)]
 pub fn padded(words: &[u32], length: usize) -> Vec<u32> {
     let mut all = vec![0; length];
     all[..words.len()].copy_from_slice(words);

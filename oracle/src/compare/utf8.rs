@@ -13,11 +13,10 @@ fn expected(s: &[u8], at: usize) -> Decoding {
     Decoding { found: character.is_some(), character: code, size }
 }
 
-/// Whether bytes are valid, their first character and its size, in the words of a list.
-pub fn listed(bytes: &[u8]) -> String {
+/// Whether bytes are valid; whether there is a first character, its value and its size.
+pub fn listed(bytes: &[u8]) -> [u32; 4] {
     let first = utf8_decode(bytes, 0);
-    let character = if first.found { first.character.to_string() } else { "-".to_string() };
-    format!("{} {character} {}", u8::from(utf8_valid(bytes)), first.size)
+    [u32::from(utf8_valid(bytes)), u32::from(first.found), first.character, first.size]
 }
 
 /// Each of this program's own arguments: its characters, or the byte where it stops being UTF-8.
