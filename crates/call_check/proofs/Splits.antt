@@ -19,18 +19,18 @@ use Rattle.rules.specs.declared.Refused.{Refused}
 use Rattle.rules.specs.declared.State.{State as Raw}
 use Rattle.split_args.proofs.States.{all-zero, empty-raw}
 use Rattle.split_args.specs.declared.Ended.{Ended}
-use Rattle.split_args.specs.Construct.{rawOf, Ends, refusalNumber, refusalPlace}
+use Rattle.split_args.specs.Construct.{startingState, SplitEnds, refusalNumber, refusalPlace}
 use Rattle.split_arg.specs.Clusters.{letters}
 use Rattle.rules.proofs.Acceptance.{accepted-form}
 use Rattle.rules.proofs.CodeLaws.{place-code}
 use Rattle.rules.proofs.GivenLaws.{check-accepted, split-form, split-sheet, split-short, split-goes}
-use Rattle.call_check.specs.Reader.{splittingOf, answerOf, Answers}
+use Rattle.call_check.specs.Reader.{splittingOf, answerOf, SplitAnswers}
 use Rattle.split_line.specs.Input.{Splittable}
 
 pub refused-splitting :
     (l o : List ℕ) (number place : ℕ)
     → o ≡ sets l 0 (replicate (length l) 0)
-    → Answers (ok (splitRefused (length l) number (placeOf place))) o (record { number = number; place = place; count = 0; marker = 0 })
+    → SplitAnswers (ok (splitRefused (length l) number (placeOf place))) o (record { number = number; place = place; count = 0; marker = 0 })
 unfolding splittingOf splitRefused padded
 refused-splitting l o number place e = record {
   same = rw (e ∙ all-zero l (length l) refl, empty-raw, sub-zero (length l)) refl;
@@ -40,27 +40,27 @@ refused-splitting l o number place e = record {
 -- ---- what is refused
 module _ (form sheet : List ℕ) (n : ℕ) (r : Refused) (e : r ≡ checkCode (checkForm form)) (items : List ℕ) (x : Ended) where
   pub form-refused : (r .number ≡ 0 → ⊥)
-      → Answers (ok (splitRefused n (r .number) (placeOf (r .place)))) items x
-      → Answers (callSplit form sheet n) items x
+      → SplitAnswers (ok (splitRefused n (r .number) (placeOf (r .place)))) items x
+      → SplitAnswers (callSplit form sheet n) items x
   form-refused z h = go (checkForm form) refl
     where
-      go : (c : Checked Accepted) → checkForm form ≡ c → Answers (callSplit form sheet n) items x
+      go : (c : Checked Accepted) → checkForm form ≡ c → SplitAnswers (callSplit form sheet n) items x
       go (accepted a) g = absurd (z (ap (λ (y : Refused). y .number) (e ∙ ap checkCode g)))
       go (refusedAt m k) g =
           let same = e ∙ ap checkCode g in
           rw (split-form form sheet n m k g) (rw (same, place-code k) at h)
 
   pub sheet-refused : r .number ≡ 0 → (m : ℕ) → m ≡ sheetFault sheet → (m ≡ 0 → ⊥)
-      → Answers (ok (splitRefused n m (placeOf 0))) items x
-      → Answers (callSplit form sheet n) items x
+      → SplitAnswers (ok (splitRefused n m (placeOf 0))) items x
+      → SplitAnswers (callSplit form sheet n) items x
   unfolding placeOf
   sheet-refused z m f y h =
       let (a, g) = check-accepted form r e z in
       rw (split-sheet form sheet n a g (λ z. y (f ∙ z)), ← f) h
 
   pub slice-refused : r .number ≡ 0 → (m : ℕ) → m ≡ sheetFault sheet → m ≡ 0 → n < 1792
-      → Answers (ok (splitRefused n 7 (placeOf 0))) items x
-      → Answers (callSplit form sheet n) items x
+      → SplitAnswers (ok (splitRefused n 7 (placeOf 0))) items x
+      → SplitAnswers (callSplit form sheet n) items x
   unfolding placeOf
   slice-refused z m f y k h =
       let (a, g) = check-accepted form r e z in
@@ -96,7 +96,7 @@ reports :
     (n : ℕ) (l : Line) (r : Ended) (out : List ℕ)
     → r .number ≡ refusalNumber (l .refusal)
     → r .place ≡ refusalPlace (l .refusal)
-    → rawOf (r .count) (r .marker) ≡ toRaw (l .state)
+    → startingState (r .count) (r .marker) ≡ toRaw (l .state)
     → out ≡ padded n (l .records)
     → splitReport n l ≡ splittingOf (answerOf r) out
 unfolding splitReport splittingOf placeOf if_then_else_
@@ -109,8 +109,8 @@ reports n l r out a b c d = go (l .refusal) refl
 pub split-answers :
     (form sheet items : List ℕ) (out : List ℕ) (r : Ended)
     → Splittable form sheet items
-    → Ends (lettersOf (readForm form)) sheet (length items) out r
-    → Answers (callSplit form sheet (length items)) out r
+    → SplitEnds (lettersOf (readForm form)) sheet (length items) out r
+    → SplitAnswers (callSplit form sheet (length items)) out r
 unfolding split
 split-answers form sheet items out r g c = record {
   same =
@@ -122,7 +122,7 @@ split-answers form sheet items out r g c = record {
 -- the state that the items start in
 pub split-state :
     (o : Outcome Splitting) (items : List ℕ) (r : Ended) (s : Raw)
-    → Answers o items r
-    → s ≡ rawOf (r .count) (r .marker)
+    → SplitAnswers o items r
+    → s ≡ startingState (r .count) (r .marker)
     → o ≡ ok (splittingOf (record { number = r .number; place = r .place; state = s }) items)
 split-state o items r s a e = a .same ∙ rw e

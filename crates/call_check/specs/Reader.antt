@@ -9,7 +9,7 @@ use Rattle.rules.specs.Codes.{placeCode, placeOf}
 use Rattle.rules.specs.Calls.{Splitting}
 use Rattle.rules.specs.declared.Refused.{Refused}
 use Rattle.split_args.specs.declared.Ended.{Ended}
-use Rattle.split_args.specs.Construct.{rawOf, Marked}
+use Rattle.split_args.specs.Construct.{startingState, MarkerWithin}
 use Rattle.call_check.specs.declared.Told.{Told}
 use Rattle.call_check.specs.declared.SplitAnswer.{SplitAnswer}
 
@@ -34,8 +34,8 @@ splittingOf r items = record { number = r .number; place = placeOf (r .place); s
 
 -- how splitting ended, with the state that the items start in
 abbrev pub answerOf : Ended → SplitAnswer
-answerOf r = record { number = r .number; place = r .place; state = rawOf (r .count) (r .marker) }
+answerOf r = record { number = r .number; place = r .place; state = startingState (r .count) (r .marker) }
 
-pub record Answers (o : Outcome Splitting) (items : List ℕ) (r : Ended) : Type 0 where
+pub record SplitAnswers (o : Outcome Splitting) (items : List ℕ) (r : Ended) : Type 0 where
   pub same : o ≡ ok (splittingOf (answerOf r) items)
-  pub marked : Marked (r .count) (r .marker)
+  pub marked : MarkerWithin (r .count) (r .marker)

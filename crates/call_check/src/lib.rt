@@ -7,7 +7,7 @@ ghost use Rattle.rules.specs.Sheet.{sheetFault};
 ghost use Rattle.rules.specs.Accept.{checkForm};
 ghost use Rattle.rules.specs.Codes.{checkCode, kindCode, placeOf};
 ghost use Rattle.rules.specs.Calls.{callKind, callPortable, callSplit, splitRefused};
-ghost use Rattle.call_check.specs.Reader.{sheetCode, told, yesCode, splittingOf, Answers};
+ghost use Rattle.call_check.specs.Reader.{sheetCode, told, yesCode, splittingOf, SplitAnswers};
 use rules::Refused;
 use rules::State;
 use split_args::Ended;
@@ -98,7 +98,7 @@ pub fn portable(form: &[u8]) -> Told
 
 // Refused because of the input: all 0, and no items.
 fn split_refused(number: u32, place: u32, items: &mut [u32]) -> Ended
-    ensures { λ r. ⌜ Answers (ok (splitRefused (length (now (items .entry))) number (placeOf place))) (now (items .exit)) r ⌝ }
+    ensures { λ r. ⌜ SplitAnswers (ok (splitRefused (length (now (items .entry))) number (placeOf place))) (now (items .exit)) r ⌝ }
 {
     wire::fill(items, 0, items.len(), 0);
     Ended {
@@ -111,7 +111,7 @@ fn split_refused(number: u32, place: u32, items: &mut [u32]) -> Ended
 
 // What the input is refused with, or its items.
 fn split_input(form: &[u8], sheet: &[u8], items: &mut [u32]) -> Ended
-    ensures { λ r. ⌜ Answers (callSplit (now (form .entry)) (now (sheet .entry)) (length (now (items .entry)))) (now (items .exit)) r ⌝ }
+    ensures { λ r. ⌜ SplitAnswers (callSplit (now (form .entry)) (now (sheet .entry)) (length (now (items .entry)))) (now (items .exit)) r ⌝ }
 {
     let checked = form_check::check(form);
     if checked.number != 0 {

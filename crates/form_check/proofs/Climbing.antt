@@ -21,7 +21,7 @@ use Rattle.rules.specs.Accept.{refusedAt, treesFrom}
 use Rattle.rules.specs.declared.Refused.{Refused}
 use Rattle.rules.proofs.Acceptance.{Made, flagMade, argumentMade, positionalMade, optionalMade, manyMade, someMade, countMade, lastMade, choiceMade, fallbackMade, guardMade, inside-same}
 use Rattle.rules.proofs.Acceptance.{tree-made, lookup-some}
-use Rattle.form_kinds.specs.Known.{codeBy, codes, codeAt, Sound, Done}
+use Rattle.form_kinds.specs.Known.{codeBy, codes, codeAt, SoundCodes, Done}
 use Rattle.form_names.specs.Names.{faultOr}
 use Rattle.form_names.proofs.Faults.{fault-here, fault-nowhere, fault-same}
 use Rattle.form_kinds.proofs.Steps.{lookup-none, drop-there}
@@ -88,7 +88,7 @@ code-by f k ts b x e = rw (e, codeBy, b) (sym (tree-code f ts x))
 
 -- ---- the loop that fills the table: it is right, and has the codes of the nodes from k on
 pub record Filled (f : Form) (k : ℕ) (m : List ℕ) : Type 0 where
-  pub sound : Sound f m
+  pub sound : SoundCodes f m
   pub all : (j : ℕ) → k ≤ j → getD m j 0 ≡ codeAt f j
 
 pub filled-first : (f : Form) (n : ℕ) (m : List ℕ) → m ≡ replicate 64 0 → length (f .nodes) ≡ n → Filled f n m
@@ -100,7 +100,7 @@ filled-first f n m e l = rw e (record {
 
 module _ (f : Form) (k n : ℕ) (e : k ≡ n + 1) (m : List ℕ) (c : Filled f k m) where
   -- node n has its code, and those above keep theirs
-  down : (m′ : List ℕ) → Sound f m′ → getD m′ n 0 ≡ codeAt f n → ((j : ℕ) → k ≤ j → getD m′ j 0 ≡ codeAt f j) → Filled f n m′
+  down : (m′ : List ℕ) → SoundCodes f m′ → getD m′ n 0 ≡ codeAt f n → ((j : ℕ) → k ≤ j → getD m′ j 0 ≡ codeAt f j) → Filled f n m′
   down m′ s here above = record {
     sound = s;
     all = λ j h. ⊎-elim (λ (z : j ≡ n). ap (λ (j : ℕ). getD m′ j 0) z ∙ here ∙ ap (codeAt f) (sym z)) (λ (z : j ≢ n). above j (omega (arith, e, h, z))) (same-or j n);

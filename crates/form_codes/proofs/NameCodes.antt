@@ -77,17 +77,17 @@ unfolding codesOf
 codes-length b = length-map (readForm b .names) _ ∙ names-length b
 
 -- the loop of `codes`
-abbrev pub Filling : List ℕ → List ℕ → ℕ → List ℕ → ℕ → Type 0
-Filling b out₀ n out k = Stored out₀ 0 (codesOf (readForm b)) n out k
+abbrev pub StoringCodes : List ℕ → List ℕ → ℕ → List ℕ → ℕ → Type 0
+StoringCodes b out₀ n out k = Stored out₀ 0 (codesOf (readForm b)) n out k
 
-pub filling-first : (b out : List ℕ) (n : ℕ) → Filling b out n out 0
+pub filling-first : (b out : List ℕ) (n : ℕ) → StoringCodes b out n out 0
 filling-first b out n = stored-first out 0 (codesOf (readForm b)) n
 
-module _ (b out₀ : List ℕ) (n : ℕ) (out : List ℕ) (k : ℕ) (few : n ≡ nameCount b) (room : nameCount b ≤ length out₀) (z : Filling b out₀ n out k) where
+module _ (b out₀ : List ℕ) (n : ℕ) (out : List ℕ) (k : ℕ) (few : n ≡ nameCount b) (room : nameCount b ≤ length out₀) (z : StoringCodes b out₀ n out k) where
   all-fit : n ≡ min (length (codesOf (readForm b))) (length out₀ - 0)
   all-fit = let l = codes-length b in omega arith
 
-  pub filling-next : (x : ℕ) → getElem? (codesOf (readForm b)) k ≡ some x → k < n → Filling b out₀ n (set out k x) (k + 1)
+  pub filling-next : (x : ℕ) → getElem? (codesOf (readForm b)) k ≡ some x → k < n → StoringCodes b out₀ n (set out k x) (k + 1)
   filling-next x e h =
       let next = stored-next out₀ 0 (codesOf (readForm b)) n out k all-fit z x (sym (getD-of (codesOf (readForm b)) k x e)) h in
       let w : 0 + k ≡ k = zero-add k in

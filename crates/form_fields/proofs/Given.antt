@@ -84,14 +84,14 @@ module _ (b : List ℕ) where
   abbrev ns : List Name
   ns = readForm b .names
 
-  pub record Passing (k : ℕ) : Type 0 where
+  pub record PortableFrom (k : ℕ) : Type 0 where
     pub same : portable (readForm b) ≡ passes (drop k ns)
 
-  pub passing-first : Passing 0
+  pub passing-first : PortableFrom 0
   unfolding portable
   passing-first = record { same = refl }
 
-  module _ (k m : ℕ) (em : m ≡ nameCount b) (p : Passing k) (h : k < m) (g : Bool) (e : (x : Name) → getElem? (readForm b .names) k ≡ some x → g ≡ portableName (readForm b .area) x) where
+  module _ (k m : ℕ) (em : m ≡ nameCount b) (p : PortableFrom k) (h : k < m) (g : Bool) (e : (x : Name) → getElem? (readForm b .names) k ≡ some x → g ≡ portableName (readForm b .area) x) where
     passing-step : portable (readForm b) ≡ (g && passes (drop (k + 1) ns))
     unfolding all
     passing-step =
@@ -101,10 +101,10 @@ module _ (b : List ℕ) where
     pub passing-bad : not g ≡ true → false ≡ portable (readForm b)
     passing-bad z = sym (passing-step ∙ rw (not-true g z))
 
-    pub passing-next : not g ≡ false → Passing (k + 1)
+    pub passing-next : not g ≡ false → PortableFrom (k + 1)
     passing-next z = record { same = passing-step ∙ rw (not-false g z) }
 
-  pub passing-last : (k m : ℕ) → m ≡ nameCount b → Passing k → m ≤ k → true ≡ portable (readForm b)
+  pub passing-last : (k m : ℕ) → m ≡ nameCount b → PortableFrom k → m ≤ k → true ≡ portable (readForm b)
   unfolding all
   passing-last k m e p h = sym (p .same ∙ rw (drop-of-length-le ns {i = k} (omega (arith, names-length b))))
 

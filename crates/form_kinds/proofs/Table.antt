@@ -14,7 +14,7 @@ use borrow.Author.Tests.{eq-eqb, ne-eqb, eqb-true, eqb-false, le-leb, lt-leb}
 use Rattle.utf8.specs.Utf8.{if_then_else_}
 use Rattle.rules.specs.Form.{Node, Form}
 use Rattle.form_kinds.specs.Kinds.{leafCode, innerCode, childQ}
-use Rattle.form_kinds.specs.Known.{ruled, codeBy, codes, codeAt, Sound, Kept, Done}
+use Rattle.form_kinds.specs.Known.{ruled, codeBy, codes, codeAt, SoundCodes, CodesKept, Done}
 
 pub codes-length : (f : Form) (n : ℕ) → length (codes f n) ≡ n
 unfolding codes
@@ -34,26 +34,26 @@ codes-at f (suc n) j h =
     last : (j n : ℕ) → j < suc n → (j ≡ n) ⊎ (j < n)
     last j n h = eq-or-lt-of-le (omega arith)
 
-pub kept-same : (m : List ℕ) → Kept m m
+pub kept-same : (m : List ℕ) → CodesKept m m
 kept-same m = record { known = λ j ne. refl }
 
 -- a child whose code was worked out, or was known
 pub worked : (f : Form) (p : ℕ) (m₀ m m′ : List ℕ) → m ≡ m′ → Done f p m₀ m′ → Done f p m₀ m
 worked f p m₀ m m′ e d = rw e d
 
-pub found : (f : Form) (p : ℕ) (m m′ : List ℕ) → m ≡ m′ → Sound f m′ → (getD m′ p 0 ≡ 0 → ⊥) → Done f p m′ m
+pub found : (f : Form) (p : ℕ) (m m′ : List ℕ) → m ≡ m′ → SoundCodes f m′ → (getD m′ p 0 ≡ 0 → ⊥) → Done f p m′ m
 found f p m m′ e s n = rw e (record { here = s .right p n; sound = s; kept = kept-same m′ })
 
 -- what is known of the table and of a child's code k, which is 0 where there is no child
-pub record Known (f : Form) (i p : ℕ) (m₀ m : List ℕ) (k : ℕ) : Type 0 where
-  pub sound : Sound f m
-  pub kept : Kept m₀ m
+pub record ChildKnown (f : Form) (i p : ℕ) (m₀ m : List ℕ) (k : ℕ) : Type 0 where
+  pub sound : SoundCodes f m
+  pub kept : CodesKept m₀ m
   pub code : k ≡ getD (codes f i) p 0
 
-pub child : (f : Form) (i p : ℕ) (m₀ m m′ : List ℕ) (k : ℕ) → m ≡ m′ → p < i → Done f p m₀ m′ → k ≡ getD m′ p 0 → Known f i p m₀ m k
+pub child : (f : Form) (i p : ℕ) (m₀ m m′ : List ℕ) (k : ℕ) → m ≡ m′ → p < i → Done f p m₀ m′ → k ≡ getD m′ p 0 → ChildKnown f i p m₀ m k
 child f i p m₀ m m′ k em h d e = rw em (record { sound = d .sound; kept = d .kept; code = e ∙ d .here ∙ sym (codes-at f i p h) })
 
-pub no-child : (f : Form) (i p : ℕ) (m m′ : List ℕ) (k : ℕ) → m ≡ m′ → i ≤ p → Sound f m′ → k ≡ 0 → Known f i p m′ m k
+pub no-child : (f : Form) (i p : ℕ) (m m′ : List ℕ) (k : ℕ) → m ≡ m′ → i ≤ p → SoundCodes f m′ → k ≡ 0 → ChildKnown f i p m′ m k
 no-child f i p m m′ k em h s e = rw em (record {
   sound = s;
   kept = kept-same m′;
@@ -62,15 +62,15 @@ no-child f i p m m′ k em h s e = rw em (record {
 
 -- only a choice has a second child
 module _ (f : Form) (i : ℕ) (m m′ : List ℕ) (k : ℕ) (x : Node) where
-  pub second-child : x .kind ≡ 9 → Known f i (x .q) m m′ k → Known f i (childQ x) m m′ k
+  pub second-child : x .kind ≡ 9 → ChildKnown f i (x .q) m m′ k → ChildKnown f i (childQ x) m m′ k
   unfolding childQ if_then_else_
   second-child h z = rw (eq-eqb (x .kind) 9 h) z
 
-  pub no-second : (x .kind ≡ 9 → ⊥) → i ≤ 64 → m′ ≡ m → Sound f m → k ≡ 0 → Known f i (childQ x) m m′ k
+  pub no-second : (x .kind ≡ 9 → ⊥) → i ≤ 64 → m′ ≡ m → SoundCodes f m → k ≡ 0 → ChildKnown f i (childQ x) m m′ k
   unfolding childQ if_then_else_
   no-second h l e s z = rw (ne-eqb (x .kind) 9 h) (no-child f i 64 m′ m k e l s z)
 
-pub kept-twice : (l m n : List ℕ) → Kept l m → Kept m n → Kept l n
+pub kept-twice : (l m n : List ℕ) → CodesKept l m → CodesKept m n → CodesKept l n
 kept-twice l m n a b = record { known = λ j ne. b .known j (λ z. ne (sym (a .known j ne) ∙ z)) ∙ a .known j ne }
 
 -- the code of a leaf, and that of any other node from its children's
@@ -96,7 +96,7 @@ same-or j i = by-test (eqb j i) refl
     by-test true e = inl (eqb-true j i e)
     by-test false e = inr (eqb-false j i e)
 
-pub stored : (f : Form) (m₀ m : List ℕ) (i k : ℕ) → i < 64 → Sound f m₀ → Kept m₀ m → Sound f m → k ≡ codeAt f i → Done f i m₀ (set m i k)
+pub stored : (f : Form) (m₀ m : List ℕ) (i k : ℕ) → i < 64 → SoundCodes f m₀ → CodesKept m₀ m → SoundCodes f m → k ≡ codeAt f i → Done f i m₀ (set m i k)
 stored f m₀ m i k h s₀ a s e = record {
   here = here;
   sound = record {
@@ -121,5 +121,5 @@ all-zero zero j = refl
 all-zero (suc n) zero = refl
 all-zero (suc n) (suc j) = all-zero n j
 
-pub empty-sound : (f : Form) → Sound f (replicate 64 0)
+pub empty-sound : (f : Form) → SoundCodes f (replicate 64 0)
 empty-sound f = record { long = length-replicate {A = ℕ} 64 0; right = λ j ne. absurd (ne (all-zero 64 j)) }

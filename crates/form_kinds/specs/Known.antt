@@ -27,21 +27,21 @@ unfoldable pub codeAt : Form → ℕ → ℕ
 codeAt f i = codeBy f (codes f i) i
 
 -- a table of codes: an entry that is not 0 is the node's code
-pub record Sound (f : Form) (m : List ℕ) : Type 0 where
+pub record SoundCodes (f : Form) (m : List ℕ) : Type 0 where
   pub long : length m ≡ 64
   pub right : (j : ℕ) → (getD m j 0 ≡ 0 → ⊥) → getD m j 0 ≡ codeAt f j
 
 -- no code that was known has changed
-pub record Kept (before m : List ℕ) : Type 0 where
+pub record CodesKept (before m : List ℕ) : Type 0 where
   pub known : (j : ℕ) → (getD before j 0 ≡ 0 → ⊥) → getD m j 0 ≡ getD before j 0
 
 -- the table after node i was asked for. Left open is which nodes beneath it are known as well: whoever needs one asks for it
 pub record Done (f : Form) (i : ℕ) (before m : List ℕ) : Type 0 where
   pub here : getD m i 0 ≡ codeAt f i
-  pub sound : Sound f m
-  pub kept : Kept before m
+  pub sound : SoundCodes f m
+  pub kept : CodesKept before m
 
 pub record Filling (b : List ℕ) (k : ℕ) (m : List ℕ) : Type 0 where
   pub good : lengthGood b ≡ true
   pub below : k < nodeCount b
-  pub sound : Sound (readForm b) m
+  pub sound : SoundCodes (readForm b) m

@@ -23,7 +23,7 @@ use Rattle.form_names.specs.declared.Name as names
 use Rattle.form_layout.specs.declared.Node as declared
 use Rattle.form_layout.specs.Layout.{nodeOf, within, GoodNames, HasName, nameBytesAt}
 
-pub record Counted (b : List ℕ) : Type 0 where
+pub record CountBounds (b : List ℕ) : Type 0 where
   pub long : 8 ≤ length b
   pub nodes : (1 ≤ nodeCount b) × (nodeCount b ≤ 64)
   pub fields : (1 ≤ fieldCount b) × (fieldCount b ≤ 16)
@@ -36,7 +36,7 @@ pub record Counted (b : List ℕ) : Type 0 where
 both-within : (lo n hi : ℕ) → (leb lo n && leb n hi) ≡ true → (lo ≤ n) × (n ≤ hi)
 both-within lo n hi e = let p = and-true (leb lo n) (leb n hi) e in (leb-true lo n (p .0), leb-true n hi (p .1))
 
-pub counted : (b : List ℕ) → countsGood b ≡ true → Counted b
+pub counted : (b : List ℕ) → countsGood b ≡ true → CountBounds b
 unfolding countsGood nodesAt namesAt areaAt
 counted b e =
     let long = leb 8 (length b) in
@@ -62,11 +62,11 @@ pub length-counts : (b : List ℕ) → lengthGood b ≡ true → countsGood b �
 unfolding lengthGood
 length-counts b e = and-true (countsGood b) (eqb (formLength b) (length b)) e .0
 
-pub record Sized (b : List ℕ) : Type 0 where
-  pub counts : Counted b
+pub record FormSized (b : List ℕ) : Type 0 where
+  pub counts : CountBounds b
   pub whole : areaAt b + areaLength b ≡ length b
 
-pub sized : (b : List ℕ) → lengthGood b ≡ true → Sized b
+pub sized : (b : List ℕ) → lengthGood b ≡ true → FormSized b
 unfolding lengthGood formLength
 sized b e = record {
   counts = counted b (length-counts b e);

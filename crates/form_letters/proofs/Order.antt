@@ -17,10 +17,10 @@ use Rattle.rules.specs.Tree.{Named, Tree, zeros, shortOf, namedOf, namedBy, fla
 use Rattle.rules.specs.Accept.{accepted, Accepted, treesFrom, checkForm, shortNames, lettersFor, lettersOf}
 use Rattle.rules.proofs.Acceptance.{if-some, bind-some, trees-step, accepted-passed}
 use Rattle.rules.proofs.LetterLaws.{SameLetters}
-use Rattle.form_codes.specs.Codes.{namesFrom, namedAt as namedFrom}
+use Rattle.form_codes.specs.Codes.{namesFrom, namedAt}
 use Rattle.rules.proofs.ContainsLaws.{contains-append}
 use Rattle.form_codes.proofs.NameCodes.{named-at}
-use Rattle.form_letters.specs.Classes.{namedAt}
+use Rattle.form_letters.specs.Classes.{namesRecord}
 use Rattle.form_letters.specs.Letters.{lettersFrom, lettersByName}
 
 -- ---- the records of one node
@@ -121,7 +121,7 @@ module _ (b : List ℕ) (kind : ℕ) (known : (kind ≡ 1) ⊎ (kind ≡ 2)) (c 
   shorts x = if eqb (x .kind) kind then shortNames f x else []
 
   named-letters : (x : Node) (n : Named) → namedOf f x ≡ some n → concatMap (shortOf (f .area)) (take (x .q) (drop (x .p) (f .names))) ≡ shortNames f x
-  unfolding shortNames namedFrom namesFrom namedBy
+  unfolding shortNames namedAt namesFrom namedBy
   named-letters x n e = rw (e, shortNames) (ap (λ (m : Named). m .shorts) (sym (named-at b x n e .0)))
 
   -- the records of one node, and its short names
@@ -139,12 +139,12 @@ module _ (b : List ℕ) (kind : ℕ) (known : (kind ≡ 1) ⊎ (kind ≡ 2)) (c 
   nodes-letters :
       (below : List Tree) (xs : List Node) (ts : List Tree)
       → treesFrom f below xs ≡ accepted ts
-      → contains (lettersFrom (f .area) (namedAt xs kind) 0 (f .names)) c ≡ contains (concatMap shorts xs) c
-  unfolding namedAt concatMap
+      → contains (lettersFrom (f .area) (namesRecord xs kind) 0 (f .names)) c ≡ contains (concatMap shorts xs) c
+  unfolding namesRecord concatMap
   nodes-letters below [] ts e = rw (nothing-wanted (f .area) 0 (f .names))
   nodes-letters below (x ∷ xs) ts e =
       let (t, h, g) = trees-step f below x xs ts e in
-      wanted-by-either (f .area) c (own x) (namedAt xs kind) 0 (f .names)
+      wanted-by-either (f .area) c (own x) (namesRecord xs kind) 0 (f .names)
       ∙ rw (node-letters below x t h, nodes-letters (below ++ (t ∷ [])) xs ts g) (sym (contains-append (shorts x) (concatMap shorts xs) c))
 
 pub same-letters :

@@ -18,14 +18,14 @@ use Rattle.rules.specs.Accept.{lengthGood}
 use Rattle.form_layout.specs.declared.Node as layout
 use Rattle.form_layout.specs.Layout.{nodeOf}
 use Rattle.form_layout.proofs.Sizes.{nodes-length, sized}
-use Rattle.form_letters.specs.Classes.{namedAt, bits, classOf, Classed, Marked}
+use Rattle.form_letters.specs.Classes.{namesRecord, bits, classOf, Classed, MarkedBits}
 
 -- ---- the loop of `mark`
 
 pub record Marking (bit first end : ℕ) (t₀ t : List ℕ) (k : ℕ) : Type 0 where
   pub low : first ≤ k
   pub high : k ≤ max first end
-  pub done : Marked bit first k t₀ t
+  pub done : MarkedBits bit first k t₀ t
 
 pub marking-first : (bit first end : ℕ) (t : List ℕ) → Marking bit first end t t first
 marking-first bit first end t = record {
@@ -57,7 +57,7 @@ module _ (bit first end : ℕ) (t₀ t : List ℕ) (k : ℕ) (z : Marking bit fi
         };
       }
 
-  pub marking-last : end ≤ k → Marked bit first end t₀ t
+  pub marking-last : end ≤ k → MarkedBits bit first end t₀ t
   marking-last h =
       let high = z .high in
       record {
@@ -72,11 +72,11 @@ module _ (bit first end : ℕ) (t₀ t : List ℕ) (k : ℕ) (z : Marking bit fi
 abbrev namedBy : Node → ℕ → ℕ → Bool
 namedBy x kind k = eqb (x .kind) kind && leb (x .p) k && ltb k (x .p + x .q)
 
-named-more : (xs : List Node) (x : Node) (kind k : ℕ) → namedAt (xs ++ (x ∷ [])) kind k ≡ (namedAt xs kind k || namedBy x kind k)
-unfolding namedAt
+named-more : (xs : List Node) (x : Node) (kind k : ℕ) → namesRecord (xs ++ (x ∷ [])) kind k ≡ (namesRecord xs kind k || namedBy x kind k)
+unfolding namesRecord
 named-more [] x kind k = or-false (namedBy x kind k)
 named-more (y ∷ xs) x kind k =
-    rw (named-more xs x kind k) (sym (or-assoc (namedBy y kind k) (namedAt xs kind k) (namedBy x kind k)))
+    rw (named-more xs x kind k) (sym (or-assoc (namedBy y kind k) (namesRecord xs kind k) (namedBy x kind k)))
 
 flag-bit : (a b : Bool) → bits (a || true) (b || false) ≡ bitOr (bits a b) 1
 unfolding bits
@@ -93,13 +93,13 @@ argument-bit false true = refl
 argument-bit false false = refl
 
 module _ (xs : List Node) (x : Node) (k : ℕ) where
-  class-more : classOf (xs ++ (x ∷ [])) k ≡ bits (namedAt xs 1 k || namedBy x 1 k) (namedAt xs 2 k || namedBy x 2 k)
+  class-more : classOf (xs ++ (x ∷ [])) k ≡ bits (namesRecord xs 1 k || namedBy x 1 k) (namesRecord xs 2 k || namedBy x 2 k)
   unfolding classOf
   class-more = ap₂ bits (named-more xs x 1 k) (named-more xs x 2 k)
 
   class-same : namedBy x 1 k ≡ false → namedBy x 2 k ≡ false → classOf (xs ++ (x ∷ [])) k ≡ classOf xs k
   unfolding classOf
-  class-same f g = class-more ∙ rw (f, g, or-false (namedAt xs 1 k), or-false (namedAt xs 2 k))
+  class-same f g = class-more ∙ rw (f, g, or-false (namesRecord xs 1 k), or-false (namesRecord xs 2 k))
 
   class-other : (x .kind ≡ 1 → ⊥) → (x .kind ≡ 2 → ⊥) → classOf (xs ++ (x ∷ [])) k ≡ classOf xs k
   class-other f g = class-same (rw (ne-eqb (x .kind) 1 f)) (rw (ne-eqb (x .kind) 2 g))
@@ -113,8 +113,8 @@ module _ (xs : List Node) (x : Node) (k : ℕ) where
   class-inside : (x .kind ≡ 1) ⊎ (x .kind ≡ 2) → leb (x .p) k ≡ true → ltb k (x .p + x .q) ≡ true
       → classOf (xs ++ (x ∷ [])) k ≡ bitOr (classOf xs k) (x .kind)
   unfolding classOf
-  class-inside (inl e) f g = class-more ∙ rw (e, f, g) (flag-bit (namedAt xs 1 k) (namedAt xs 2 k))
-  class-inside (inr e) f g = class-more ∙ rw (e, f, g) (argument-bit (namedAt xs 1 k) (namedAt xs 2 k))
+  class-inside (inl e) f g = class-more ∙ rw (e, f, g) (flag-bit (namesRecord xs 1 k) (namesRecord xs 2 k))
+  class-inside (inr e) f g = class-more ∙ rw (e, f, g) (argument-bit (namesRecord xs 1 k) (namesRecord xs 2 k))
 
 flag-or-argument : (kind : ℕ) → (kind ≡ 0 → ⊥) → kind ≤ 2 → (kind ≡ 1) ⊎ (kind ≡ 2)
 flag-or-argument kind f h = ⊎-elim (λ e. inr e) (λ l. inl (omega arith)) (eq-or-lt-of-le h)
@@ -137,7 +137,7 @@ module _ (x : layout.Node) (count : ℕ) (t : List ℕ) where
   no-names e = unnoted (λ f. omega arith) (λ f. omega arith)
 
   pub noted : (x .kind ≡ 0 → ⊥) → x .kind ≤ 2 → (end : ℕ) → end ≡ min (x .p + x .q) count → (t′ : List ℕ)
-      → Marked (x .kind) (x .p) end t t′ → Noted t′
+      → MarkedBits (x .kind) (x .p) end t t′ → Noted t′
   noted f g end e t′ m xs z = record { few = z .few; long = m .long ∙ z .long; at = at }
     where
       kind : (x .kind ≡ 1) ⊎ (x .kind ≡ 2)
@@ -177,7 +177,7 @@ pub record Noting (b : List ℕ) (count : ℕ) (t : List ℕ) (i : ℕ) : Type 0
 
 module _ (b : List ℕ) (good : lengthGood b ≡ true) (count : ℕ) (ec : count ≡ nameCount b) where
   pub noting-first : (t : List ℕ) → t ≡ replicate 128 0 → Noting b count t 0
-  unfolding classOf namedAt bits
+  unfolding classOf namesRecord bits
   noting-first t e =
       let few = sized b good .counts .names in
       record {

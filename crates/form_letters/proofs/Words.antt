@@ -22,8 +22,8 @@ use Rattle.form_layout.specs.Layout.{GoodNames}
 use Rattle.form_layout.proofs.Sizes.{names-length, names-few}
 use Rattle.form_codes.specs.Codes.{codeOf, CodedNames}
 use Rattle.form_codes.proofs.NameCodes.{code-at}
-use Rattle.form_letters.specs.Letters.{lettersFrom, lettersByName, Wrote, WroteLetters, letterList, letterIf, Appended}
-use Rattle.form_letters.specs.Classes.{namedAt, bits, classOf, Classed}
+use Rattle.form_letters.specs.Letters.{lettersFrom, lettersByName, WroteWords, WroteLetters, letterList, letterIf, Appended}
+use Rattle.form_letters.specs.Classes.{namesRecord, bits, classOf, Classed}
 
 -- ---- one letter
 
@@ -66,13 +66,13 @@ argument-known false true = refl
 argument-known false false = refl
 
 module _ (xs : List Node) (count : ℕ) (t : List ℕ) (z : Classed xs count t) (k : ℕ) (h : k < count) (class : ℕ) (e : class ≡ getD t k 0) (r : Bool) where
-  pub flag-wanted : r ≡ not (eqb (bitAnd class 1) 0) → r ≡ namedAt xs 1 k
+  pub flag-wanted : r ≡ not (eqb (bitAnd class 1) 0) → r ≡ namesRecord xs 1 k
   unfolding classOf
-  flag-wanted s = s ∙ rw (e, z .at k h) (flag-known (namedAt xs 1 k) (namedAt xs 2 k))
+  flag-wanted s = s ∙ rw (e, z .at k h) (flag-known (namesRecord xs 1 k) (namesRecord xs 2 k))
 
-  pub argument-wanted : r ≡ not (eqb (bitAnd class 2) 0) → r ≡ namedAt xs 2 k
+  pub argument-wanted : r ≡ not (eqb (bitAnd class 2) 0) → r ≡ namesRecord xs 2 k
   unfolding classOf
-  argument-wanted s = s ∙ rw (e, z .at k h) (argument-known (namedAt xs 1 k) (namedAt xs 2 k))
+  argument-wanted s = s ∙ rw (e, z .at k h) (argument-known (namesRecord xs 1 k) (namesRecord xs 2 k))
 
 -- ---- a record's code
 
@@ -98,16 +98,16 @@ pub record Written (b : List ℕ) (kind : ℕ) (o₀ o : List ℕ) (n k : ℕ) :
   pub words : o ≡ sets o₀ 0 done
   pub count : n ≡ length done
   pub few : n ≤ k
-  pub same : done ++ lettersFrom (readForm b .area) (namedAt (readForm b .nodes) kind) k (drop k (readForm b .names)) ≡ lettersByName (readForm b) kind
+  pub same : done ++ lettersFrom (readForm b .area) (namesRecord (readForm b .nodes) kind) k (drop k (readForm b .names)) ≡ lettersByName (readForm b) kind
 
 module _ (b : List ℕ) (kind : ℕ) (o₀ : List ℕ) where
   pub written-first : Written b kind o₀ o₀ 0 0
   written-first = record { done = []; words = refl; count = refl; few = omega arith; same = refl }
 
   module _ (o : List ℕ) (n k m : ℕ) (z : Written b kind o₀ o n k) (em : m ≡ nameCount b) where
-    module _ (h : k < m) (codes : List ℕ) (coded : CodedNames b codes) (code : ℕ) (ec : code ≡ getD codes k 0) (wanted : Bool) (ew : wanted ≡ namedAt (readForm b .nodes) kind k) where
+    module _ (h : k < m) (codes : List ℕ) (coded : CodedNames b codes) (code : ℕ) (ec : code ≡ getD codes k 0) (wanted : Bool) (ew : wanted ≡ namesRecord (readForm b .nodes) kind k) where
       letters-step :
-          z .done ++ (letterIf wanted code ++ lettersFrom (readForm b .area) (namedAt (readForm b .nodes) kind) (suc k) (drop (suc k) (readForm b .names)))
+          z .done ++ (letterIf wanted code ++ lettersFrom (readForm b .area) (namesRecord (readForm b .nodes) kind) (suc k) (drop (suc k) (readForm b .names)))
           ≡ lettersByName (readForm b) kind
       unfolding lettersFrom letterIf
       letters-step =
@@ -128,7 +128,7 @@ module _ (b : List ℕ) (kind : ℕ) (o₀ : List ℕ) where
             same = rw (add-one k, append-assoc (z .done) v _) letters-step;
           }
 
-    pub written-last : m ≤ k → Wrote o₀ (lettersByName (readForm b) kind) o n
+    pub written-last : m ≤ k → WroteWords o₀ (lettersByName (readForm b) kind) o n
     unfolding lettersFrom
     written-last h =
         let all : z .done ≡ lettersByName (readForm b) kind =
@@ -168,7 +168,7 @@ module _ (b : List ℕ) (kind : ℕ) (o p : List ℕ) (n : ℕ) (g : GoodNames b
   long = ap length z ∙ length-replicate {A = ℕ} 128 0
 
   few : length (lettersByName (readForm b) kind) ≤ 128
-  few = omega (arith, letters-few (readForm b .area) (namedAt (readForm b .nodes) kind) 0 (readForm b .names), names-length b, names-few b g)
+  few = omega (arith, letters-few (readForm b .area) (namesRecord (readForm b .nodes) kind) 0 (readForm b .names), names-length b, names-few b g)
 
   pub letters-fit : n ≤ length p
   letters-fit =

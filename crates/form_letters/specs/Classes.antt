@@ -9,9 +9,9 @@ use lib.ListN.{length, getD}
 use Rattle.rules.specs.Form.{Node}
 
 -- whether some node of a kind has name record k among its names
-unfoldable pub namedAt : List Node → ℕ → ℕ → Bool
-namedAt [] kind k = false
-namedAt (x ∷ xs) kind k = (eqb (x .kind) kind && leb (x .p) k && ltb k (x .p + x .q)) || namedAt xs kind k
+unfoldable pub namesRecord : List Node → ℕ → ℕ → Bool
+namesRecord [] kind k = false
+namesRecord (x ∷ xs) kind k = (eqb (x .kind) kind && leb (x .p) k && ltb k (x .p + x .q)) || namesRecord xs kind k
 
 unfoldable pub bits : Bool → Bool → ℕ
 bits false false = 0
@@ -21,7 +21,7 @@ bits true true = 3
 
 -- the bits of name record k by these nodes
 unfoldable pub classOf : List Node → ℕ → ℕ
-classOf xs k = bits (namedAt xs 1 k) (namedAt xs 2 k)
+classOf xs k = bits (namesRecord xs 1 k) (namesRecord xs 2 k)
 
 -- the classes of the first `count` records
 pub record Classed (xs : List Node) (count : ℕ) (table : List ℕ) : Type 0 where
@@ -30,7 +30,7 @@ pub record Classed (xs : List Node) (count : ℕ) (table : List ℕ) : Type 0 wh
   pub at : (k : ℕ) → k < count → getD table k 0 ≡ classOf xs k
 
 -- a bit is set from `first` on, up to `end`
-pub record Marked (bit first end : ℕ) (table table′ : List ℕ) : Type 0 where
+pub record MarkedBits (bit first end : ℕ) (table table′ : List ℕ) : Type 0 where
   pub long : length table′ ≡ length table
   pub inside : (k : ℕ) → first ≤ k → k < end → getD table′ k 0 ≡ bitOr (getD table k 0) bit
   pub outside : (k : ℕ) → (first ≤ k → k < end → ⊥) → getD table′ k 0 ≡ getD table k 0

@@ -8,7 +8,7 @@ use lib.Seq.{sets}
 use Rattle.utf8.specs.Utf8.{if_then_else_}
 use Rattle.rules.specs.Form.{Name, Form, readForm}
 use Rattle.rules.specs.Tree.{shortOf}
-use Rattle.form_letters.specs.Classes.{namedAt}
+use Rattle.form_letters.specs.Classes.{namesRecord}
 
 -- the short names of the records that are wanted, in their order; the first record has number k
 unfoldable pub lettersFrom : List ℕ → (ℕ → Bool) → ℕ → List Name → List ℕ
@@ -17,15 +17,15 @@ lettersFrom area wanted k (m ∷ ms) = (if wanted k then shortOf area m else [])
 
 -- the letters of the nodes of a kind, 1 for flags and 2 for arguments, in the order of the name records
 abbrev pub lettersByName : Form → ℕ → List ℕ
-lettersByName f kind = lettersFrom (f .area) (namedAt (f .nodes) kind) 0 (f .names)
+lettersByName f kind = lettersFrom (f .area) (namesRecord (f .nodes) kind) 0 (f .names)
 
 -- words at the start of o, the rest unchanged, and their number
-pub record Wrote (o w o′ : List ℕ) (n : ℕ) : Type 0 where
+pub record WroteWords (o w o′ : List ℕ) (n : ℕ) : Type 0 where
   pub words : o′ ≡ sets o 0 w
   pub count : n ≡ length w
 
 abbrev pub WroteLetters : List ℕ → ℕ → List ℕ → List ℕ → ℕ → Type 0
-WroteLetters b kind o o′ n = Wrote o (lettersByName (readForm b) kind) o′ n
+WroteLetters b kind o o′ n = WroteWords o (lettersByName (readForm b) kind) o′ n
 
 -- 0 is no letter, else the letter plus 1
 unfoldable pub letterList : ℕ → List ℕ

@@ -11,7 +11,7 @@ ghost use Rattle.rules.specs.Accept.{lengthGood};
 ghost use Rattle.form_layout.specs.Layout.{nodeOf, GoodNames};
 ghost use Rattle.form_codes.specs.Codes.{CodedNames};
 ghost use Rattle.form_letters.specs.Letters.{WroteLetters, letterIf, Appended};
-ghost use Rattle.form_letters.specs.Classes.{Classed, Marked};
+ghost use Rattle.form_letters.specs.Classes.{Classed, MarkedBits};
 
 // How many letters the flags and the arguments have.
 pub struct Counts {
@@ -43,7 +43,7 @@ pub fn names_end(first: usize, size: usize, count: usize) -> usize
 // The records from `first` on, below `end`, get a bit.
 fn mark(classes: &mut [u8; 128], bit: u8, first: usize, end: usize)
     requires { ⌜ (end ≤ 128) × (length (now classes) ≡ 128) ⌝ }
-    ensures { λ _. ⌜ Marked bit first end (now (classes .entry)) (now (classes .exit)) ⌝ }
+    ensures { λ _. ⌜ MarkedBits bit first end (now (classes .entry)) (now (classes .exit)) ⌝ }
 {
     let mut k = first;
     while k < end {

@@ -36,7 +36,7 @@ use Rattle.take_table.specs.Known.{Matchable, Known}
 use Rattle.eval_told.specs.Told.{Told}
 use Rattle.split_args.proofs.States.{padded-words, all-zero, fill-long}
 use Rattle.split_args.specs.declared.Ended.{Ended as Split}
-use Rattle.split_args.specs.Construct.{rawOf as begun, Unmarked, Ends, refusalNumber, refusalPlace}
+use Rattle.split_args.specs.Construct.{startingState as begun, Unmarked, SplitEnds, refusalNumber, refusalPlace}
 use Rattle.rules.proofs.GivenLaws.{check-accepted}
 use Rattle.run_fields.specs.Line.{Starts, toldAll, Reaches, refusedWith}
 use Rattle.run_fields.specs.declared.Reached.{Reached}
@@ -189,7 +189,7 @@ reported-told ni na l r x h = go (r .outcome) h
 
 -- ---- a checked input, its answer slice cleared, its sheet split
 module _ (form sheet i a : List ℕ) (c : Checked form sheet i a) (a′ : List ℕ) (z : a′ ≡ sets a 0 (replicate (length a) 0)) (i′ : List ℕ) (x : Split)
-    (w : Ends (lettersOf (readForm form)) sheet (length i) i′ x) (m : List ℕ) (p : Numbers) (q : rawOf m p ≡ begun (x .count) (x .marker)) where
+    (w : SplitEnds (lettersOf (readForm form)) sheet (length i) i′ x) (m : List ℕ) (p : Numbers) (q : rawOf m p ≡ begun (x .count) (x .marker)) where
   cleared : a′ ≡ replicate (length a) 0
   cleared = z ∙ all-zero a (length a) refl
 

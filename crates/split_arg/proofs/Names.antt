@@ -19,7 +19,7 @@ use Rattle.rules.specs.Split.{Parts as Meaning}
 use Rattle.rules.proofs.SplitLaws.{short-body}
 use Rattle.split_arg.specs.declared.Parts.{Parts}
 use Rattle.split_arg.specs.declared.Parts.the-variants.{None, Short, ShortBody, Long, LongBody}
-use Rattle.split_arg.specs.Parts.{equalsFrom, Tells}
+use Rattle.split_arg.specs.Parts.{equalsFrom, TellsParts}
 use Rattle.split_arg.proofs.Equals.{before-few, before-part, no-equals, has-equals}
 
 pub null-false : {A : Type 0} (l : List A) → (length l ≡ 0 → ⊥) → null l ≡ false
@@ -32,13 +32,13 @@ unfolding null
 null-true [] h = refl
 null-true (x ∷ l) h = absurd (omega arith)
 
-pub told-none : (os : List ℕ) (o : Outcome (Option Meaning)) → ok none ≡ o → Tells os None o
+pub told-none : (os : List ℕ) (o : Outcome (Option Meaning)) → ok none ≡ o → TellsParts os None o
 unfolding wellFormed wellFormedAfter
 told-none os o e = record { same = e; sized = tt; good = refl }
 
 module _ (os : List ℕ) (two : 2 ≤ length os) where
   -- `--`
-  pub no-long-name : length os ≡ 2 → Tells os None (ok (splitLong (drop 2 os)))
+  pub no-long-name : length os ≡ 2 → TellsParts os None (ok (splitLong (drop 2 os)))
   unfolding splitLong behindEquals null if_then_else_
   no-long-name h = told-none os _ (let few : length os ≤ 2 = omega arith in rw (drop-of-length-le os few))
 
@@ -76,7 +76,7 @@ module _ (os : List ℕ) (two : 2 ≤ length os) where
       named : null (drop 2 os) ≡ false
       named = null-false (drop 2 os) (λ z. some-name (omega (arith, length-drop 2 os)))
 
-      pub long-bad : wellFormed (take (e - 2) (drop 2 os)) ≡ false → Tells os None (ok (splitLong (drop 2 os)))
+      pub long-bad : wellFormed (take (e - 2) (drop 2 os)) ≡ false → TellsParts os None (ok (splitLong (drop 2 os)))
       unfolding splitLong parts if_then_else_
       long-bad w =
           told-none os _
@@ -85,7 +85,7 @@ module _ (os : List ℕ) (two : 2 ≤ length os) where
           (λ h. rw (value (λ z. omega arith), splitLong, before, w))
           (eq-or-lt-of-le equals-most))
 
-      pub long-whole : e ≡ length os → wellFormed (take (e - 2) (drop 2 os)) ≡ true → Tells os (Long (e - 2)) (ok (splitLong (drop 2 os)))
+      pub long-whole : e ≡ length os → wellFormed (take (e - 2) (drop 2 os)) ≡ true → TellsParts os (Long (e - 2)) (ok (splitLong (drop 2 os)))
       unfolding splitLong parts if_then_else_
       long-whole h w = record {
         same = rw (without h, splitLong, named, whole h, rw (whole h) at w);
@@ -96,7 +96,7 @@ module _ (os : List ℕ) (two : 2 ≤ length os) where
       pub long-value :
           (e ≡ length os → ⊥)
           → wellFormed (take (e - 2) (drop 2 os)) ≡ true
-          → Tells os (LongBody (e - 2) (e + 1)) (ok (splitLong (drop 2 os)))
+          → TellsParts os (LongBody (e - 2) (e + 1)) (ok (splitLong (drop 2 os)))
       unfolding splitLong parts if_then_else_
       long-value h w = record {
         same = rw (value h, splitLong, before, w);
@@ -114,14 +114,14 @@ module _ (os : List ℕ) (two : 2 ≤ length os) where
     pub short-bad :
         e ≡ length os
         → wellFormed (take (length os - 1) (drop 1 os)) ≡ false
-        → Tells os None (splitShort (getD os 1 0) (drop 2 os))
+        → TellsParts os None (splitShort (getD os 1 0) (drop 2 os))
     unfolding splitShort parts if_then_else_
     short-bad h w = told-none os _ (rw (without h, splitShort, rw (rest, letter) at w))
 
     pub short-whole :
         e ≡ length os
         → wellFormed (take (length os - 1) (drop 1 os)) ≡ true
-        → Tells os (Short (e - 1)) (splitShort (getD os 1 0) (drop 2 os))
+        → TellsParts os (Short (e - 1)) (splitShort (getD os 1 0) (drop 2 os))
     unfolding splitShort parts if_then_else_
     short-whole h w = record {
       same = rw (without h, splitShort, h, rest, letter, rw (rest, letter) at w);
@@ -135,12 +135,12 @@ module _ (os : List ℕ) (two : 2 ≤ length os) where
           ≡ ok (if null (beforeEquals (drop 2 os)) then drop (e + 1) os else drop 2 os)
       body = short-body (getD os 1 0) (drop 2 os) (drop (e + 1) os) (value h)
 
-      pub letter-bad : wellFormed (take 1 (drop 1 os)) ≡ false → Tells os None (splitShort (getD os 1 0) (drop 2 os))
+      pub letter-bad : wellFormed (take 1 (drop 1 os)) ≡ false → TellsParts os None (splitShort (getD os 1 0) (drop 2 os))
       unfolding splitShort parts if_then_else_ _>>=_
       letter-bad w = told-none os _ (rw (value h, splitShort, body, rw letter at w))
 
       module _ (w : wellFormed (take 1 (drop 1 os)) ≡ true) where
-        pub short-value : e ≡ 2 → Tells os (ShortBody 1 3) (splitShort (getD os 1 0) (drop 2 os))
+        pub short-value : e ≡ 2 → TellsParts os (ShortBody 1 3) (splitShort (getD os 1 0) (drop 2 os))
         unfolding splitShort parts if_then_else_ _>>=_
         short-value t =
             let three : e + 1 ≡ 3 = omega arith in
@@ -151,14 +151,14 @@ module _ (os : List ℕ) (two : 2 ≤ length os) where
               good = w;
             }
 
-        pub short-rest : (e ≡ 2 → ⊥) → Tells os (ShortBody 1 2) (splitShort (getD os 1 0) (drop 2 os))
+        pub short-rest : (e ≡ 2 → ⊥) → TellsParts os (ShortBody 1 2) (splitShort (getD os 1 0) (drop 2 os))
         unfolding splitShort parts if_then_else_ _>>=_
         short-rest t =
             let later = null-false (beforeEquals (drop 2 os)) (λ z. t (omega (arith, size))) in
             record { same = rw (value h, splitShort, body, later, letter, rw letter at w); sized = (refl, omega arith, two); good = w }
 
 -- ---- `split_os_argument`
-pub too-short : (os : List ℕ) → length os < 2 → Tells os None (splitOsArgument os)
+pub too-short : (os : List ℕ) → length os < 2 → TellsParts os None (splitOsArgument os)
 unfolding splitOsArgument behindDash if_then_else_
 too-short [] h = told-none [] _ refl
 too-short (b ∷ []) h = told-none (b ∷ []) _ (go (eqb b dash))
@@ -168,7 +168,7 @@ too-short (b ∷ []) h = told-none (b ∷ []) _ (go (eqb b dash))
     go false = refl
 too-short (b ∷ c ∷ os) h = absurd (omega arith)
 
-pub no-dash : (os : List ℕ) → 2 ≤ length os → (getD os 0 0 ≡ 45 → ⊥) → Tells os None (splitOsArgument os)
+pub no-dash : (os : List ℕ) → 2 ≤ length os → (getD os 0 0 ≡ 45 → ⊥) → TellsParts os None (splitOsArgument os)
 unfolding splitOsArgument dash if_then_else_
 no-dash [] h e = absurd (omega arith)
 no-dash (b ∷ os) h e = told-none (b ∷ os) _ (rw (ne-eqb b 45 e))
@@ -178,8 +178,8 @@ pub two-dashes :
     → 2 ≤ length os
     → getD os 0 0 ≡ 45
     → getD os 1 0 ≡ 45
-    → Tells os r (ok (splitLong (drop 2 os)))
-    → Tells os r (splitOsArgument os)
+    → TellsParts os r (ok (splitLong (drop 2 os)))
+    → TellsParts os r (splitOsArgument os)
 unfolding splitOsArgument behindDash dash if_then_else_
 two-dashes [] r h e f t = absurd (omega arith)
 two-dashes (b ∷ []) r h e f t = absurd (omega arith)
@@ -190,8 +190,8 @@ pub one-dash :
     → 2 ≤ length os
     → getD os 0 0 ≡ 45
     → (getD os 1 0 ≡ 45 → ⊥)
-    → Tells os r (splitShort (getD os 1 0) (drop 2 os))
-    → Tells os r (splitOsArgument os)
+    → TellsParts os r (splitShort (getD os 1 0) (drop 2 os))
+    → TellsParts os r (splitOsArgument os)
 unfolding splitOsArgument behindDash dash if_then_else_
 one-dash [] r h e f t = absurd (omega arith)
 one-dash (b ∷ []) r h e f t = absurd (omega arith)

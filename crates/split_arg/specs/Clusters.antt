@@ -23,19 +23,19 @@ clusterOf name ls (Withdrawn k) = withdrawn k
 clusterOf name ls (Ambiguous n) = ambiguous (take n (characters ls))
 
 -- the letters counted are there, and the rest lies in the name
-abbrev pub Counted : List ℕ → List Letter → Outcome → Type 0
-Counted name ls (Single c) = length ls ≡ 1
-Counted name ls (AllFlags n) = n ≡ length ls
-Counted name ls (Argument n c k) = (n < length ls) × (k ≤ length name)
-Counted name ls (Withdrawn k) = k < length name
-Counted name ls (Ambiguous n) = n < length ls
+abbrev pub CountedLetters : List ℕ → List Letter → Outcome → Type 0
+CountedLetters name ls (Single c) = length ls ≡ 1
+CountedLetters name ls (AllFlags n) = n ≡ length ls
+CountedLetters name ls (Argument n c k) = (n < length ls) × (k ≤ length name)
+CountedLetters name ls (Withdrawn k) = k < length name
+CountedLetters name ls (Ambiguous n) = n < length ls
 
 -- an outcome of the letters of a name
 pub record Outcomes (name : List ℕ) (r : Outcome) (o : List Letter → Cluster) : Type 0 where
   pub all : List Letter
   pub these : clusterFrom 0 0 name ≡ ok all
   pub same : clusterOf name all r ≡ o all
-  pub counted : Counted name all r
+  pub counted : CountedLetters name all r
 
 abbrev pub LooksUp : Letters → List ℕ → Outcome → Type 0
 LooksUp l name r = Outcomes name r (lookUp l [])

@@ -40,7 +40,7 @@ Sized os (Long n) = (1 ≤ n) × (2 + n ≡ length os)
 Sized os (LongBody n k) = (3 + n ≡ k) × (k ≤ length os)
 
 -- what is found, how many bytes it has, and that the name is UTF-8
-pub record Tells (os : List ℕ) (r : Parts) (o : Outcome (Option Meaning)) : Type 0 where
+pub record TellsParts (os : List ℕ) (r : Parts) (o : Outcome (Option Meaning)) : Type 0 where
   pub same : ok (partsOf os r) ≡ o
   pub sized : Sized os r
   pub good : wellFormed (nameOf os r) ≡ true

@@ -8,7 +8,7 @@ ghost use Rattle.utf8.specs.Utf8.{decodeAt, wellFormed};
 ghost use Rattle.rules.specs.Base.{contains as has};
 ghost use Rattle.rules.specs.Outcome.{ok};
 ghost use Rattle.rules.specs.Split.{splitLong, splitShort, splitOsArgument};
-ghost use Rattle.split_arg.specs.Parts.{equalsFrom, Tells};
+ghost use Rattle.split_arg.specs.Parts.{equalsFrom, TellsParts};
 ghost use Rattle.split_arg.specs.Clusters.{letters, LooksUp, Disambiguates};
 ghost use Rattle.split_arg.specs.Items.{bitOf, partOf, recordOf, recordAt, itemOf};
 use utf8::Decoded;
@@ -41,7 +41,7 @@ fn find_equals(os: &[u8], from: usize) -> usize
 // `--NAME` and `--NAME=V`: the name may be empty only with `=`.
 fn split_long(os: &[u8]) -> Parts
     requires { ⌜ 2 ≤ length (now os) ⌝ }
-    ensures { λ r. ⌜ Tells (now (os .entry)) r (ok (splitLong (drop 2 (now (os .entry))))) ⌝ }
+    ensures { λ r. ⌜ TellsParts (now (os .entry)) r (ok (splitLong (drop 2 (now (os .entry))))) ⌝ }
 {
     if os.len() == 2 {
         return Parts::None;
@@ -62,7 +62,7 @@ fn split_long(os: &[u8]) -> Parts
 // `-NAME`, and `-N` with a value: where an `=` follows more than one byte, the value is all behind the first.
 fn split_short(os: &[u8]) -> Parts
     requires { ⌜ 2 ≤ length (now os) ⌝ }
-    ensures { λ r. ⌜ Tells (now (os .entry)) r (splitShort (getD (now (os .entry)) 1 0) (drop 2 (now (os .entry)))) ⌝ }
+    ensures { λ r. ⌜ TellsParts (now (os .entry)) r (splitShort (getD (now (os .entry)) 1 0) (drop 2 (now (os .entry)))) ⌝ }
 {
     let equals = find_equals(os, 2);
     if equals == os.len() {
@@ -81,7 +81,7 @@ fn split_short(os: &[u8]) -> Parts
 }
 
 pub fn split_os_argument(os: &[u8]) -> Parts
-    ensures { λ r. ⌜ Tells (now (os .entry)) r (splitOsArgument (now (os .entry))) ⌝ }
+    ensures { λ r. ⌜ TellsParts (now (os .entry)) r (splitOsArgument (now (os .entry))) ⌝ }
 {
     if os.len() < 2 {
         return Parts::None;

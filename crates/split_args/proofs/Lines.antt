@@ -24,10 +24,10 @@ use Rattle.rules.specs.Demands.{hasMarker}
 use Rattle.rules.proofs.SplitLaws.{split-ok, flatten-append, records-from-length, MarkerAt, marker-law, ambiguous-law}
 use Rattle.split_arg.proofs.LookUp.{ok-same}
 use Rattle.split_group.specs.declared.Group.{Group as Made}
-use Rattle.split_group.specs.Groups.{stored, Fits, Makes}
+use Rattle.split_group.specs.Groups.{stored, ArgumentFits, Makes}
 use Rattle.split_group.proofs.Stores.{sets-append, no-room, has-room}
-use Rattle.split_args.specs.Construct.{groupAt, markerAfter, lineFor, refusalNumber, refusalPlace, Cleared, Ends}
-use Rattle.split_args.proofs.Sheets.{Checked, checked, arguments-length, has-entry, argument-next, argument-end, argument-fits, offset-there}
+use Rattle.split_args.specs.Construct.{groupAt, markerAfter, lineFor, refusalNumber, refusalPlace, SheetAndZeros, SplitEnds}
+use Rattle.split_args.proofs.Sheets.{GoodSheet, good-sheet, arguments-length, has-entry, argument-next, argument-end, argument-fits, offset-there}
 use Rattle.split_args.proofs.States.{markerOf, starts, empty-raw, zeroed, padded-words}
 
 -- the others, where the first `--` was seen at a place (plus 1) or not
@@ -64,14 +64,14 @@ records-fit n h = omega arith
 abbrev pub front : List (List Item) → ℕ → Split → Split
 front gs m y = record { groups = gs ++ y .groups; marker = markerFirst m (y .marker); ambiguous = y .ambiguous }
 
-pub two-bytes : (s o : List ℕ) → Cleared s o → 2 ≤ length s
-two-bytes s o g = checked s (g .given .checked) .two
+pub two-bytes : (s o : List ℕ) → SheetAndZeros s o → 2 ≤ length s
+two-bytes s o g = good-sheet s (g .given .checked) .two
 
 pub count-is : (s : List ℕ) (n : ℕ) → n ≡ numberAt 2 s 0 → n ≡ argumentCount s
 unfolding argumentCount
 count-is s n e = e
 
-pub record Going (l : Letters) (s : List ℕ) (n : ℕ) (o : List ℕ) (k at m : ℕ) : Type 0 where
+pub record SplitSoFar (l : Letters) (s : List ℕ) (n : ℕ) (o : List ℕ) (k at m : ℕ) : Type 0 where
   pub done : List (List Item)
   pub words : List ℕ
   pub whole : Split
@@ -89,10 +89,10 @@ pub record Going (l : Letters) (s : List ℕ) (n : ℕ) (o : List ℕ) (k at m :
   pub within : k ≤ argumentCount s
   pub long : length o ≡ n
 
-pub going-first : (l : Letters) (s o : List ℕ) → Cleared s o → Going l s (length o) o 0 0 0
+pub going-first : (l : Letters) (s o : List ℕ) → SheetAndZeros s o → SplitSoFar l s (length o) o 0 0 0
 unfolding restFrom markerFirst flatten
 going-first l s o g =
-    let h = checked s (g .given .checked) in
+    let h = good-sheet s (g .given .checked) in
     let x = split-ok l 0 (arguments s) in
     let first = good-table 2 (argumentCount s) s (h .good) .first in
     record {
@@ -240,7 +240,7 @@ module _ (l : Letters) (s : List ℕ) (n : ℕ) (o : List ℕ) (x : Split) (c m 
       → (number place : ℕ)
       → number ≡ refusalNumber (ambiguity (x .ambiguous))
       → place ≡ refusalPlace (ambiguity (x .ambiguous))
-      → Ends l s n o (record { number = number; place = place; count = c; marker = m })
+      → SplitEnds l s n o (record { number = number; place = place; count = c; marker = m })
   unfolding lineOf if_then_else_ _>>=_
   ends e size few within marker put room number place nu pl =
       let st = starts c m few within in
@@ -260,13 +260,13 @@ module _ (l : Letters) (s : List ℕ) (n : ℕ) (o : List ℕ) (x : Split) (c m 
       }
 
 -- ---- a turn of the loop
-module _ (l : Letters) (s items : List ℕ) (given : Cleared s items) (o : List ℕ) (k at m : ℕ) (z : Going l s (length items) o k at m)
+module _ (l : Letters) (s items : List ℕ) (given : SheetAndZeros s items) (o : List ℕ) (k at m : ℕ) (z : SplitSoFar l s (length items) o k at m)
     (c : ℕ) (f : c ≡ argumentCount s) (t : k < c) where
   abbrev n : ℕ
   n = length items
 
-  h : Checked s
-  h = checked s (given .given .checked)
+  h : GoodSheet s
+  h = good-sheet s (given .given .checked)
 
   inside : k < argumentCount s
   inside = omega arith
@@ -282,7 +282,7 @@ module _ (l : Letters) (s items : List ℕ) (given : Cleared s items) (o : List 
 
   -- what the code calls the argument and its offset
   module _ (os : List ℕ) (begin : ℕ) (e : os ≡ entryOf 2 c s k) (b : begin ≡ offset 2 s k) where
-    pub fits-here : Fits os begin at
+    pub fits-here : ArgumentFits os begin at
     fits-here = rw (e, f, b) (argument-fits s h k inside at (z .few))
 
     module _ (p : List ℕ) (r : Made) (made : Makes os begin at o p r (groupAt l m os)) where
@@ -355,7 +355,7 @@ module _ (l : Letters) (s items : List ℕ) (given : Cleared s items) (o : List 
           sym (ap length (append-nil recs)) ∙ e ∙ omega (arith, length-append (w .group .items) [])
 
       -- ---- 8
-      pub too-many : 256 - at < r .count → (q : List ℕ) → q ≡ sets p 0 (replicate (7 * at) 0) → Ends l s n q (record { number = 8; place = 0; count = 0; marker = 0 })
+      pub too-many : 256 - at < r .count → (q : List ℕ) → q ≡ sets p 0 (replicate (7 * at) 0) → SplitEnds l s n q (record { number = 8; place = 0; count = 0; marker = 0 })
       unfolding tooMany padded
       too-many c q e =
           let same : p ≡ o = w .words ∙ sym (no-room o at (length (w .group .items)) _ (omega (arith, count, z .few))) in
@@ -380,7 +380,7 @@ module _ (l : Letters) (s items : List ℕ) (given : Cleared s items) (o : List 
           → r .ambiguous ≤ 0
           → (m′ : ℕ)
           → m′ ≡ markerAfter m (r .marker) at
-          → Going l s n p (k + 1) (at + r .count) m′
+          → SplitSoFar l s n p (k + 1) (at + r .count) m′
       unfolding flatten
       goes-on c a m′ e =
           let none-left = code-none (w .group .ambiguous) (λ i. omega (arith, ap (λ (x : Made). x .ambiguous) (w .told≡))) in
@@ -441,7 +441,7 @@ module _ (l : Letters) (s items : List ℕ) (given : Cleared s items) (o : List 
         ambiguous-few =
             omega (arith, last-total, place-code, ambiguous-law l (arguments s) (z .whole) (at + place .0) (z .all) whole-ambiguous .1, z .few)
 
-        pub ambiguous-letter : Ends l s n p (record { number = 9; place = at + r .ambiguous; count = at + r .count; marker = 0 })
+        pub ambiguous-letter : SplitEnds l s n p (record { number = 9; place = at + r .ambiguous; count = at + r .count; marker = 0 })
         unfolding ambiguity recordsFrom
         ambiguous-letter =
             let records : recordsFrom 0 (arguments s) (z .whole .groups) ≡ z .words ++ recs =
@@ -456,7 +456,7 @@ module _ (l : Letters) (s items : List ℕ) (given : Cleared s items) (o : List 
             ∙ sym (ap (λ (a : Option ℕ). refusalPlace (ambiguity a)) whole-ambiguous))
 
 -- ---- the last argument is done
-module _ (l : Letters) (s items : List ℕ) (given : Cleared s items) (o : List ℕ) (k at m : ℕ) (z : Going l s (length items) o k at m)
+module _ (l : Letters) (s items : List ℕ) (given : SheetAndZeros s items) (o : List ℕ) (k at m : ℕ) (z : SplitSoFar l s (length items) o k at m)
     (c : ℕ) (f : c ≡ argumentCount s) (t : c ≤ k) where
   no-more : drop k (arguments s) ≡ []
   no-more = let h : length (arguments s) ≤ k = omega (arith, arguments-length s) in drop-of-length-le (arguments s) h
@@ -503,7 +503,7 @@ module _ (l : Letters) (s items : List ℕ) (given : Cleared s items) (o : List 
   pub marker-small : m ≤ 256
   marker-small = omega (arith, marker-few, z .few)
 
-  pub all-done : Ends l s (length items) o (record { number = 0; place = 0; count = at; marker = m })
+  pub all-done : SplitEnds l s (length items) o (record { number = 0; place = 0; count = at; marker = m })
   unfolding ambiguity recordsFrom
   all-done =
       let records : recordsFrom 0 (arguments s) (z .whole .groups) ≡ z .words =

@@ -23,8 +23,8 @@ use Rattle.rules.specs.Run.{lineOf}
 use Rattle.rules.specs.Demands.{All}
 use Rattle.rules.proofs.LetterLaws.{split-alike}
 use Rattle.split_args.specs.declared.Ended.{Ended}
-use Rattle.split_args.specs.Construct.{plainArgument, Ends}
-use Rattle.split_args.proofs.Sheets.{Checked, arguments-length, has-entry, argument-next}
+use Rattle.split_args.specs.Construct.{plainArgument, SplitEnds}
+use Rattle.split_args.proofs.Sheets.{GoodSheet, arguments-length, has-entry, argument-next}
 
 -- the group of an argument, from its parts
 abbrev grouped : Letters → List ℕ → Outcome (Option Parts) → Outcome Group
@@ -115,8 +115,8 @@ module _ (l m : Letters) where
   pub alike-ends :
       (s : List ℕ) (n : ℕ) (out : List ℕ) (r : Ended)
       → splitFrom l 0 (arguments s) ≡ splitFrom m 0 (arguments s)
-      → Ends l s n out r
-      → Ends m s n out r
+      → SplitEnds l s n out r
+      → SplitEnds m s n out r
   alike-ends s n out r e z = record {
     line = z .line;
     same = ap (λ (o : Outcome Split). o >>= lineOf (arguments s)) (sym e) ∙ z .same;
@@ -131,8 +131,8 @@ module _ (l m : Letters) where
       (s : List ℕ) (n : ℕ) (out : List ℕ) (r : Ended) (t : Bool)
       → t ≡ all plainArgument (arguments s)
       → t ≡ true
-      → Ends l s n out r
-      → Ends m s n out r
+      → SplitEnds l s n out r
+      → SplitEnds m s n out r
   plain-ends s n out r t e p = alike-ends s n out r (split-alike l m 0 (arguments s) (all-same (arguments s) (sym e ∙ p)))
 
 -- ---- `is_plain`
@@ -163,7 +163,7 @@ pub record Plain (s : List ℕ) (n k : ℕ) : Type 0 where
   pub same : all plainArgument (arguments s) ≡ all plainArgument (drop k (arguments s))
   pub count : n ≡ argumentCount s
 
-module _ (s : List ℕ) (n k : ℕ) (h : Checked s) (z : Plain s n k) where
+module _ (s : List ℕ) (n k : ℕ) (h : GoodSheet s) (z : Plain s n k) where
   pub plain-entry : k < n → HasEntry 2 n s k
   plain-entry t = rw (z .count) (has-entry s h k (omega (arith, z .count)))
 

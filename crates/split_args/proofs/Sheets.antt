@@ -1,4 +1,4 @@
--- The arguments of a checked sheet, one after the other.
+-- The arguments of a good-sheet sheet, one after the other.
 use mathlib.Core.Path.{_≡_, refl, _∙_, ap}
 use mathlib.Core.Bool.{Bool, true, false, and-eq-true-iff}
 use mathlib.Core.Logic.{inl}
@@ -15,17 +15,17 @@ use Rattle.wire.specs.Wire.{area, areaStart, offset, tableGood, entryOf, HasEnt
 use Rattle.wire.specs.Laws.{good-table, offset-rises, placed, entry-length}
 use Rattle.rules.specs.Base.{numbers}
 use Rattle.rules.specs.Sheet.{argumentCount, sheetArea, sheetGood, sheetFault, arguments}
-use Rattle.split_group.specs.Groups.{Fits}
+use Rattle.split_group.specs.Groups.{ArgumentFits}
 
-pub record Checked (s : List ℕ) : Type 0 where
+pub record GoodSheet (s : List ℕ) : Type 0 where
   pub two : 2 ≤ length s
   pub few : argumentCount s ≤ 256
   pub good : tableGood 2 (argumentCount s) s ≡ true
   pub small : length (sheetArea s) ≤ 32768
 
-pub checked : (s : List ℕ) → sheetFault s ≡ 0 → Checked s
+pub good-sheet : (s : List ℕ) → sheetFault s ≡ 0 → GoodSheet s
 unfolding sheetFault sheetGood if_then_else_
-checked s e = go (ltb (length s) 2) refl (ltb 256 (argumentCount s)) refl (sheetGood s) refl e
+good-sheet s e = go (ltb (length s) 2) refl (ltb 256 (argumentCount s)) refl (sheetGood s) refl e
   where
     go :
         (a : Bool)
@@ -35,7 +35,7 @@ checked s e = go (ltb (length s) 2) refl (ltb 256 (argumentCount s)) refl (sheet
         → (c : Bool)
         → sheetGood s ≡ c
         → _≡_ {A = ℕ} (if a then 5 else (if b then 6 else (if c then 0 else 5))) 0
-        → Checked s
+        → GoodSheet s
     go true p b q c r e = absurd (omega arith)
     go false p true q c r e = absurd (omega arith)
     go false p false q false r e = absurd (omega arith)
@@ -64,7 +64,7 @@ pub arguments-length : (s : List ℕ) → length (arguments s) ≡ argumentCount
 unfolding arguments
 arguments-length s = length-map (numbers (argumentCount s) 0) (entryOf 2 (argumentCount s) s) ∙ numbers-length (argumentCount s) 0
 
-module _ (s : List ℕ) (h : Checked s) (k : ℕ) (l : k < argumentCount s) where
+module _ (s : List ℕ) (h : GoodSheet s) (k : ℕ) (l : k < argumentCount s) where
   pub has-entry : HasEntry 2 (argumentCount s) s k
   has-entry = record { width = inl refl; good = h .good; below = l }
 
@@ -79,7 +79,7 @@ module _ (s : List ℕ) (h : Checked s) (k : ℕ) (l : k < argumentCount s) wher
       let rising = placed has-entry .rising in
       omega (arith, entry-length has-entry)
 
-  pub argument-fits : (at : ℕ) → at ≤ 256 → Fits (entryOf 2 (argumentCount s) s k) (offset 2 s k) at
+  pub argument-fits : (at : ℕ) → at ≤ 256 → ArgumentFits (entryOf 2 (argumentCount s) s k) (offset 2 s k) at
   unfolding sheetArea area
   argument-fits at few =
       let g = good-table 2 (argumentCount s) s (h .good) in

@@ -17,7 +17,7 @@ use Rattle.rules.specs.Run.{parsedMark, padded}
 use Rattle.rules.specs.Calls.{toRaw}
 use Rattle.rules.specs.declared.State.{State as Raw}
 use Rattle.split_args.specs.declared.Ended.{Ended}
-use Rattle.split_args.specs.Construct.{rawOf, Unmarked, Given, Cleared, Ends}
+use Rattle.split_args.specs.Construct.{startingState, Unmarked, SheetAndRoom, SheetAndZeros, SplitEnds}
 
 write-set : (l : List ℕ) (i x : ℕ) → i < length l → write l i x ≡ some (set l i x)
 unfolding write
@@ -55,13 +55,13 @@ one-padded n j h l =
     (sym (set-append-left (replicate n 0) _ j 1 (omega (arith, length-replicate {A = ℕ} n 0)))
     ∙ ap (λ (z : List ℕ). set z j 1) (zeros-padded n h))
 
-pub record Starts (n m : ℕ) : Type 0 where
+pub record StartState (n m : ℕ) : Type 0 where
   pub state : State
   pub same : construct parsedMark n (markerOf m) ≡ ok state
-  pub raw : rawOf n m ≡ toRaw state
+  pub raw : startingState n m ≡ toRaw state
 
-pub starts : (n m : ℕ) → n ≤ 256 → m ≤ n → Starts n m
-unfolding construct rawOf toRaw
+pub starts : (n m : ℕ) → n ≤ 256 → m ≤ n → StartState n m
+unfolding construct startingState toRaw
 starts n zero h l = record {
   state = record { marks = replicate n 0; remaining = n; current = none; start = 0; end = n };
   same = refl;
@@ -87,8 +87,8 @@ starts n (suc j) h l = record {
   };
 }
 
-pub empty-raw : rawOf 0 0 ≡ toRaw emptyState
-unfolding rawOf toRaw emptyState padded
+pub empty-raw : startingState 0 0 ≡ toRaw emptyState
+unfolding startingState toRaw emptyState padded
 empty-raw = refl
 
 -- ---- words over zeros
@@ -138,22 +138,22 @@ fill-long q p i k e = ap length e ∙ length-sets p i (replicate k 0)
 
 -- ---- `begin`
 module _ (n m : ℕ) (marks : List ℕ) (u : Unmarked marks) where
-  pub no-marker : m ≡ 0 → _≡_ {A = Raw} (record { marks = marks; count = n; remaining = n; current = 0; start = 0; end = n }) (rawOf n m)
-  unfolding rawOf
+  pub no-marker : m ≡ 0 → _≡_ {A = Raw} (record { marks = marks; count = n; remaining = n; current = 0; start = 0; end = n }) (startingState n m)
+  unfolding startingState
   no-marker h = rw (h, u .zeros)
 
   pub one-marker :
       (m ≡ 0 → ⊥)
-      → _≡_ {A = Raw} (record { marks = set marks (m - 1) 1; count = n; remaining = n - 1; current = 0; start = 0; end = n }) (rawOf n m)
-  unfolding rawOf
+      → _≡_ {A = Raw} (record { marks = set marks (m - 1) 1; count = n; remaining = n - 1; current = 0; start = 0; end = n }) (startingState n m)
+  unfolding startingState
   one-marker h = go m h
     where
-      go : (m : ℕ) → (m ≡ 0 → ⊥) → _≡_ {A = Raw} (record { marks = set marks (m - 1) 1; count = n; remaining = n - 1; current = 0; start = 0; end = n }) (rawOf n m)
+      go : (m : ℕ) → (m ≡ 0 → ⊥) → _≡_ {A = Raw} (record { marks = set marks (m - 1) 1; count = n; remaining = n - 1; current = 0; start = 0; end = n }) (startingState n m)
       go zero h = absurd (h refl)
       go (suc i) h = let back : suc i - 1 ≡ i = omega arith in rw (u .zeros, back)
 
 -- ---- `construct`
-pub cleared : (s o p : List ℕ) → Given s o → p ≡ sets o 0 (replicate (length o) 0) → Cleared s p
+pub cleared : (s o p : List ℕ) → SheetAndRoom s o → p ≡ sets o 0 (replicate (length o) 0) → SheetAndZeros s p
 cleared s o p g e =
     let long = fill-long p o 0 (length o) e in
     let room = g .room in
@@ -165,8 +165,8 @@ cleared s o p g e =
 pub constructs :
     (l : Letters) (s o p q : List ℕ) (r : Ended)
     → p ≡ sets o 0 (replicate (length o) 0)
-    → Ends l s (length p) q r
-    → Ends l s (length o) q r
+    → SplitEnds l s (length p) q r
+    → SplitEnds l s (length o) q r
 constructs l s o p q r f z = record {
   line = z .line;
   same = z .same;

@@ -15,6 +15,7 @@ use Rattle.rules.specs.Run.{Line, lineOf, padded}
 use Rattle.rules.specs.Calls.{toRaw}
 use Rattle.rules.specs.Codes.{placeCode}
 use Rattle.rules.specs.declared.State.{State}
+use Rattle.state_marks.specs.Written.{markerMark}
 use Rattle.split_args.specs.declared.Ended.{Ended}
 
 -- the group of an argument, where the first `--` was seen at a place (plus 1) or not
@@ -33,12 +34,12 @@ plainArgument (a ∷ b ∷ []) = true
 plainArgument (a ∷ b ∷ c ∷ s) = not (eqb a dash) || eqb b dash
 
 -- the state of n items, all unparsed but for the first `--`
-unfoldable pub rawOf : ℕ → ℕ → State
-rawOf n zero = record { marks = replicate 256 0; count = n; remaining = n; current = 0; start = 0; end = n }
-rawOf n (suc i) = record { marks = set (replicate 256 0) i 1; count = n; remaining = n - 1; current = 0; start = 0; end = n }
+unfoldable pub startingState : ℕ → ℕ → State
+startingState n zero = record { marks = replicate 256 0; count = n; remaining = n; current = 0; start = 0; end = n }
+startingState n (suc i) = record { marks = set (replicate 256 0) i markerMark; count = n; remaining = n - 1; current = 0; start = 0; end = n }
 
 -- the place of the first `--` is one of the items
-pub record Marked (n marker : ℕ) : Type 0 where
+pub record MarkerWithin (n marker : ℕ) : Type 0 where
   pub few : n ≤ 256
   pub within : marker ≤ n
 
@@ -47,12 +48,12 @@ pub record Unmarked (m : List ℕ) : Type 0 where
   pub zeros : m ≡ replicate 256 0
 
 -- a sheet that was checked, and room for 256 records
-pub record Given (sheet items : List ℕ) : Type 0 where
+pub record SheetAndRoom (sheet items : List ℕ) : Type 0 where
   pub checked : sheetFault sheet ≡ 0
   pub room : 1792 ≤ length items
 
-pub record Cleared (sheet items : List ℕ) : Type 0 where
-  pub given : Given sheet items
+pub record SheetAndZeros (sheet items : List ℕ) : Type 0 where
+  pub given : SheetAndRoom sheet items
   pub zeros : items ≡ replicate (length items) 0
 
 -- the line of a sheet, for any letters: `split` is this for those of a form
@@ -67,11 +68,11 @@ abbrev pub refusalPlace : Option Refusal → ℕ
 refusalPlace none = 0
 refusalPlace (some e) = placeCode (e .place)
 
-pub record Ends (l : Letters) (sheet : List ℕ) (n : ℕ) (items : List ℕ) (r : Ended) : Type 0 where
+pub record SplitEnds (l : Letters) (sheet : List ℕ) (n : ℕ) (items : List ℕ) (r : Ended) : Type 0 where
   pub line : Line
   pub same : lineFor l sheet ≡ ok line
   pub number : r .number ≡ refusalNumber (line .refusal)
   pub place : r .place ≡ refusalPlace (line .refusal)
   pub words : items ≡ padded n (line .records)
-  pub marked : Marked (r .count) (r .marker)
-  pub state : rawOf (r .count) (r .marker) ≡ toRaw (line .state)
+  pub marked : MarkerWithin (r .count) (r .marker)
+  pub state : startingState (r .count) (r .marker) ≡ toRaw (line .state)

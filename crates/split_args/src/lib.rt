@@ -5,12 +5,13 @@ ghost use lib.ListN.{length};
 ghost use Rattle.rules.specs.Base.{all};
 ghost use Rattle.rules.specs.Sheet.{sheetFault, arguments};
 ghost use Rattle.split_arg.specs.Clusters.{letters};
-ghost use Rattle.split_group.specs.Groups.{Fits, Makes};
-ghost use Rattle.state_marks.specs.Lent.{rawOf as joined};
-ghost use Rattle.split_args.specs.Construct.{groupAt, markerAfter, plainArgument, rawOf};
-ghost use Rattle.split_args.specs.Construct.{Marked, Unmarked, Given, Cleared, Ends};
+ghost use Rattle.split_group.specs.Groups.{ArgumentFits, Makes};
+ghost use Rattle.state_marks.specs.Lent.{rawOf};
+ghost use Rattle.split_args.specs.Construct.{groupAt, markerAfter, plainArgument, startingState};
+ghost use Rattle.split_args.specs.Construct.{MarkerWithin, Unmarked, SheetAndRoom, SheetAndZeros, SplitEnds};
 use rules::State;
 use split_group::Group;
+use state_marks::MARKER;
 use state_marks::Numbers;
 
 // How splitting ended: 0, 8 or 9; the place of 9 plus 1; how many items there are; the place of the first `--` plus 1. A place
@@ -32,7 +33,7 @@ fn next_group(
     items: &mut [u32],
     at: usize,
 ) -> Group
-    requires { ⌜ Fits (now os) begin at ⌝ }
+    requires { ⌜ ArgumentFits (now os) begin at ⌝ }
     ensures { λ r. ⌜ Makes (now (os .entry)) begin at (now (items .entry)) (now (items .exit)) r (groupAt (letters (now (flags .entry)) (now (arguments .entry))) marker (now (os .entry))) ⌝ }
 {
     if marker == 0 {
@@ -50,8 +51,8 @@ fn marker_after(marker: usize, first: bool, at: usize) -> usize
 
 // The loop over the arguments, over a slice that is 0. `at` is the place of the next item.
 fn split_arguments(sheet: &[u8], flags: &[u32], arguments: &[u32], items: &mut [u32]) -> Ended
-    requires { ⌜ Cleared (now sheet) (now items) ⌝ }
-    ensures { λ r. ⌜ Ends (letters (now (flags .entry)) (now (arguments .entry))) (now (sheet .entry)) (length (now (items .entry))) (now (items .exit)) r ⌝ }
+    requires { ⌜ SheetAndZeros (now sheet) (now items) ⌝ }
+    ensures { λ r. ⌜ SplitEnds (letters (now (flags .entry)) (now (arguments .entry))) (now (sheet .entry)) (length (now (items .entry))) (now (items .exit)) r ⌝ }
 {
     let n = wire::u16_at(sheet, 0) as usize;
     let mut k = 0;
@@ -94,8 +95,8 @@ fn split_arguments(sheet: &[u8], flags: &[u32], arguments: &[u32], items: &mut [
 
 // The items of a sheet. What the state starts as is told by their count and by the place of the first `--`.
 pub fn construct(sheet: &[u8], flags: &[u32], arguments: &[u32], items: &mut [u32]) -> Ended
-    requires { ⌜ Given (now sheet) (now items) ⌝ }
-    ensures { λ r. ⌜ Ends (letters (now (flags .entry)) (now (arguments .entry))) (now (sheet .entry)) (length (now (items .entry))) (now (items .exit)) r ⌝ }
+    requires { ⌜ SheetAndRoom (now sheet) (now items) ⌝ }
+    ensures { λ r. ⌜ SplitEnds (letters (now (flags .entry)) (now (arguments .entry))) (now (sheet .entry)) (length (now (items .entry))) (now (items .exit)) r ⌝ }
 {
     wire::fill(items, 0, items.len(), 0);
     split_arguments(sheet, flags, arguments, items)
@@ -133,8 +134,8 @@ pub fn all_plain(sheet: &[u8]) -> bool
 
 // The state after splitting, over marks that are 0: all unparsed but for the first `--`.
 pub fn begin(count: u32, marker: u32, marks: &mut [u16; 256]) -> Numbers
-    requires { ⌜ Marked count marker × Unmarked (now marks) ⌝ }
-    ensures { λ r. ⌜ joined (now (marks .exit)) r ≡ rawOf count marker ⌝ }
+    requires { ⌜ MarkerWithin count marker × Unmarked (now marks) ⌝ }
+    ensures { λ r. ⌜ rawOf (now (marks .exit)) r ≡ startingState count marker ⌝ }
 {
     if marker == 0 {
         return Numbers {
@@ -145,7 +146,7 @@ pub fn begin(count: u32, marker: u32, marks: &mut [u16; 256]) -> Numbers
             end: count,
         };
     }
-    marks[(marker - 1) as usize] = 1;
+    marks[(marker - 1) as usize] = MARKER;
     Numbers {
         count,
         remaining: count - 1,
@@ -163,17 +164,10 @@ pub fn unmarked() -> [u16; 256]
 
 // The same state by value.
 pub fn state_of(count: u32, marker: u32) -> State
-    requires { ⌜ Marked count marker ⌝ }
-    ensures { λ r. ⌜ r ≡ rawOf count marker ⌝ }
+    requires { ⌜ MarkerWithin count marker ⌝ }
+    ensures { λ r. ⌜ r ≡ startingState count marker ⌝ }
 {
     let mut marks = unmarked();
     let p = begin(count, marker, &mut marks);
-    State {
-        marks,
-        count: p.count,
-        remaining: p.remaining,
-        current: p.current,
-        start: p.start,
-        end: p.end,
-    }
+    state_marks::joined(marks, p)
 }

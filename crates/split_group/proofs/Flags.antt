@@ -26,7 +26,7 @@ unfolding lettersIn
 letters-in name ls e = rw (e, lettersIn)
 
 -- k letters are written, and the others begin at byte `place`
-pub record Wrote (name : List ℕ) (count : ℕ) (whole : Part) (o₀ : List ℕ) (at : ℕ) (o : List ℕ) (text : Part) (place k : ℕ) : Type 0 where
+pub record WroteFlags (name : List ℕ) (count : ℕ) (whole : Part) (o₀ : List ℕ) (at : ℕ) (o : List ℕ) (text : Part) (place k : ℕ) : Type 0 where
   pub words : List ℕ
   pub left : List Letter
   pub further : lettersFrom name place ≡ ok left
@@ -39,7 +39,7 @@ pub record Wrote (name : List ℕ) (count : ℕ) (whole : Part) (o₀ : List ℕ
   pub few : k ≤ count
   pub long : length o ≡ length o₀
 
-pub wrote-none : (name : List ℕ) (count : ℕ) (whole : Part) (o : List ℕ) (at : ℕ) → Flags name count at → Wrote name count whole o at o whole 0 0
+pub wrote-none : (name : List ℕ) (count : ℕ) (whole : Part) (o : List ℕ) (at : ℕ) → Flags name count at → WroteFlags name count whole o at o whole 0 0
 unfolding wellFormed
 wrote-none name count whole o at f =
     let ls = cluster-ok 0 0 name (f .good) in
@@ -59,13 +59,13 @@ wrote-none name count whole o at f =
     }
 
 module _ (name : List ℕ) (count : ℕ) (whole : Part) (o₀ : List ℕ) (at : ℕ) (o : List ℕ) (text : Part) (place k : ℕ)
-    (z : Wrote name count whole o₀ at o text place k) where
+    (z : WroteFlags name count whole o₀ at o text place k) where
   pub wrote-more :
       (c n : ℕ) (p : List ℕ)
       → decodeAt name place ≡ Char c n
       → k < count
       → p ≡ sets o (7 * (at + k)) (recordOf (Short c false text))
-      → Wrote name count whole o₀ at p nothing (place + n) (k + 1)
+      → WroteFlags name count whole o₀ at p nothing (place + n) (k + 1)
   unfolding flagWords characters
   wrote-more c n p e h q =
       let x = next name (z .left) place (z .further) (z .good) c n e in

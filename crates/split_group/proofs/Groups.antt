@@ -27,13 +27,13 @@ use Rattle.split_arg.specs.declared.Parts.{Parts}
 use Rattle.split_arg.specs.declared.Parts.the-variants as P
 use Rattle.split_arg.specs.declared.Outcome.{Outcome as Found}
 use Rattle.split_arg.specs.declared.Outcome.the-variants.{Single, AllFlags, Argument, Withdrawn, Ambiguous}
-use Rattle.split_arg.specs.Parts.{partsOf, nameOf, Sized, Tells}
-use Rattle.split_arg.specs.Clusters.{letters, characters, clusterOf, Counted, Disambiguates}
+use Rattle.split_arg.specs.Parts.{partsOf, nameOf, Sized, TellsParts}
+use Rattle.split_arg.specs.Clusters.{letters, characters, clusterOf, CountedLetters, Disambiguates}
 use Rattle.split_arg.specs.Items.{partOf, recordOf}
 use Rattle.split_arg.proofs.LookUp.{ok-same}
 use Rattle.split_arg.proofs.Names.{null-false, null-true}
 use Rattle.split_group.specs.declared.Group.{Group}
-use Rattle.split_group.specs.Groups.{lettersIn, firstLetters, flagWords, stored, Fits, ClusterIn, ValueIn, Flags, Puts, told, Makes}
+use Rattle.split_group.specs.Groups.{lettersIn, firstLetters, flagWords, stored, ArgumentFits, ClusterIn, ValueIn, Flags, Puts, told, Makes}
 use Rattle.split_group.proofs.Flags.{letters-in}
 use Rattle.split_group.proofs.Records.{concat-append, TextIs, text-from, name-from, short-record, long-record, arg-word-record, word-record, pos-word-record, flag-records}
 use Rattle.split_group.proofs.Records.{flags-count}
@@ -116,7 +116,7 @@ second-dash (a ∷ b ∷ []) h e = rw (eq-eqb a 45 e) (go (eqb b 45))
 second-dash (a ∷ b ∷ c ∷ os) h e = absurd (omega arith)
 
 -- what the code found is what splitting gives
-found : (os : List ℕ) (q : Parts) → Tells os q (splitOsArgument os) → (u : Parts) → q ≡ u → splitOsArgument os ≡ ok (partsOf os u)
+found : (os : List ℕ) (q : Parts) → TellsParts os q (splitOsArgument os) → (u : Parts) → q ≡ u → splitOsArgument os ≡ ok (partsOf os u)
 found os q t u f = sym (t .same) ∙ ap (λ (v : Parts). ok (partsOf os v)) f
 
 module _ (os : List ℕ) (begin at : ℕ) (o p : List ℕ) (g : Group) (whole : Part) (e : whole ≡ partOf (begin + 0) (length os - 0)) where
@@ -165,7 +165,7 @@ module _ (os : List ℕ) (begin at : ℕ) (o p : List ℕ) (g : Group) (whole : 
       (arg-word-record begin (begin + length os) (drop body os) value (text-from os begin body value h f))
 
   -- ---- a long name
-  module _ (l : Letters) (q : Parts) (t : Tells os q (splitOsArgument os)) where
+  module _ (l : Letters) (q : Parts) (t : TellsParts os q (splitOsArgument os)) where
     pub a-long :
         (n : ℕ) (name : Part)
         → q ≡ P.Long n
@@ -196,7 +196,7 @@ module _ (os : List ℕ) (begin at : ℕ) (o p : List ℕ) (g : Group) (whole : 
         (arg-word-record begin (begin + length os) (drop body os) value (text-from os begin body value (s .1) v))
 
 -- ---- the other kinds of argument, from the functions that split them
-module _ (os : List ℕ) (begin at : ℕ) (o p : List ℕ) (g : Group) (l : Letters) (q : Parts) (t : Tells os q (splitOsArgument os)) where
+module _ (os : List ℕ) (begin at : ℕ) (o p : List ℕ) (g : Group) (l : Letters) (q : Parts) (t : TellsParts os q (splitOsArgument os)) where
   pub no-name : q ≡ P.None → Makes os begin at o p g (ok (wordGroup os)) → Makes os begin at o p g (splitArgument l os)
   unfolding splitArgument _>>=_
   no-name f z = makes-same os begin at o p g _ _ z (rw (found os q t P.None f, splitArgument))
@@ -222,7 +222,7 @@ module _ (os : List ℕ) (begin at : ℕ) (o p : List ℕ) (g : Group) (l : Lett
       let s : Sized os (P.ShortBody n body) = subst (Sized os) f (t .sized) in
       makes-same os begin at o p g _ _ (z l) (rw (found os q t (P.ShortBody n body) f, splitArgument, s .0))
 
-module _ (os : List ℕ) (begin at : ℕ) (q : Parts) (t : Tells os q (splitOsArgument os)) (h : Fits os begin at) where
+module _ (os : List ℕ) (begin at : ℕ) (q : Parts) (t : TellsParts os q (splitOsArgument os)) (h : ArgumentFits os begin at) where
   pub cluster-in : (n : ℕ) → q ≡ P.Short n → ClusterIn os begin at
   cluster-in n f =
       let s : Sized os (P.Short n) = subst (Sized os) f (t .sized) in
@@ -322,8 +322,8 @@ module _
         rw (← tail, d .these)
         (ap (λ (c : Cluster). ok (clusterGroup os c)) (sym (d .same) ∙ ap (λ (v : Found). clusterOf name (d .all) v) e))
 
-    counted : (u : Found) → r ≡ u → Counted name (d .all) u
-    counted u e = subst (λ (v : Found). Counted name (d .all) v) e (d .counted)
+    counted : (u : Found) → r ≡ u → CountedLetters name (d .all) u
+    counted u e = subst (λ (v : Found). CountedLetters name (d .all) v) e (d .counted)
 
     flags-in : (n : ℕ) → n ≤ length (d .all) → Flags name n at
     flags-in n f = record {

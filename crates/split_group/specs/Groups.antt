@@ -36,17 +36,17 @@ unfoldable pub stored : List ℕ → ℕ → ℕ → List ℕ → List ℕ
 stored items at n words = if leb (at + n) 256 then sets items (7 * at) words else items
 
 -- ---- what the functions are given
-pub record Fits (os : List ℕ) (begin at : ℕ) : Type 0 where
+pub record ArgumentFits (os : List ℕ) (begin at : ℕ) : Type 0 where
   pub small : begin + length os < 2 ^ 32
   pub places : at ≤ 256
 
 pub record ClusterIn (os : List ℕ) (begin at : ℕ) : Type 0 where
-  pub fits : Fits os begin at
+  pub fits : ArgumentFits os begin at
   pub some : 1 ≤ length os
   pub good : wellFormed (drop 1 os) ≡ true
 
 pub record ValueIn (os : List ℕ) (begin body at : ℕ) : Type 0 where
-  pub fits : Fits os begin at
+  pub fits : ArgumentFits os begin at
   pub two : 2 ≤ length os
   pub within : body ≤ length os
   pub good : wellFormed (take 1 (drop 1 os)) ≡ true

@@ -10,7 +10,7 @@ ghost use Rattle.rules.specs.Outcome.{ok};
 ghost use Rattle.rules.specs.Split.{PosWord, plain, dash, wordGroup, shortGroup, splitArgument};
 ghost use Rattle.split_arg.specs.Items.{partOf, recordOf};
 ghost use Rattle.split_arg.specs.Clusters.{letters};
-ghost use Rattle.split_group.specs.Groups.{firstLetters, flagWords, Fits, ClusterIn, ValueIn, Flags, Puts, Makes, MakesValue};
+ghost use Rattle.split_group.specs.Groups.{firstLetters, flagWords, ArgumentFits, ClusterIn, ValueIn, Flags, Puts, Makes, MakesValue};
 use split_arg::Item;
 use split_arg::Outcome;
 use split_arg::Part;
@@ -210,7 +210,7 @@ fn is_marker(os: &[u8]) -> bool
 
 // What has no name: a Word, or the first `--`.
 fn split_word(os: &[u8], begin: usize, items: &mut [u32], at: usize) -> Group
-    requires { ⌜ Fits (now os) begin at ⌝ }
+    requires { ⌜ ArgumentFits (now os) begin at ⌝ }
     ensures { λ r. ⌜ Makes (now (os .entry)) begin at (now (items .entry)) (now (items .exit)) r (ok (wordGroup (now (os .entry)))) ⌝ }
 {
     let whole = text(begin, os.len(), 0);
@@ -227,7 +227,7 @@ fn split_word(os: &[u8], begin: usize, items: &mut [u32], at: usize) -> Group
 
 // An argument behind the first `--`.
 pub fn split_positional(os: &[u8], begin: usize, items: &mut [u32], at: usize) -> Group
-    requires { ⌜ Fits (now os) begin at ⌝ }
+    requires { ⌜ ArgumentFits (now os) begin at ⌝ }
     ensures { λ r. ⌜ Makes (now (os .entry)) begin at (now (items .entry)) (now (items .exit)) r (ok (plain (PosWord (now (os .entry)) ∷ []))) ⌝ }
 {
     let whole = text(begin, os.len(), 0);
@@ -261,7 +261,7 @@ pub fn split_argument(
     items: &mut [u32],
     at: usize,
 ) -> Group
-    requires { ⌜ Fits (now os) begin at ⌝ }
+    requires { ⌜ ArgumentFits (now os) begin at ⌝ }
     ensures { λ r. ⌜ Makes (now (os .entry)) begin at (now (items .entry)) (now (items .exit)) r (splitArgument (letters (now (flags .entry)) (now (arguments .entry))) (now (os .entry))) ⌝ }
 {
     let len = os.len();

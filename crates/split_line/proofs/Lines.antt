@@ -10,7 +10,7 @@ use Rattle.rules.specs.Accept.{accepted, Letters, lettersOf}
 use Rattle.rules.specs.Run.{split}
 use Rattle.form_layout.specs.Layout.{GoodNames}
 use Rattle.split_args.specs.declared.Ended.{Ended}
-use Rattle.split_args.specs.Construct.{Ends}
+use Rattle.split_args.specs.Construct.{SplitEnds}
 use Rattle.split_arg.specs.Clusters.{letters}
 use Rattle.form_letters.specs.Letters.{lettersByName, WroteLetters}
 use Rattle.form_letters.proofs.Order.{same-letters}
@@ -31,8 +31,8 @@ pub split-letters :
     → q ≡ replicate 128 0
     → WroteLetters form 1 o p n
     → WroteLetters form 2 q s m
-    → Ends (letters (take (n - 0) p) (take (m - 0) s)) sheet k out r
-    → Ends (lettersOf (readForm form)) sheet k out r
+    → SplitEnds (letters (take (n - 0) p) (take (m - 0) s)) sheet k out r
+    → SplitEnds (lettersOf (readForm form)) sheet k out r
 split-letters form sheet items o p n q s m k out r g zo zq wo wq c =
     let names = splittable-names form sheet items g in
     let l : Letters = letters (lettersByName (readForm form) 1) (lettersByName (readForm form) 2) in

@@ -59,11 +59,11 @@ lies {s} {k} h =
     }
 
 -- the first argument begins where the area does, and the last offset is the area's length
-pub record Ends (s : List ℕ) : Type 0 where
+pub record EndsWithin (s : List ℕ) : Type 0 where
   pub first : offset 2 s 0 ≡ 0
   pub last : offset 2 s (argumentCount s) ≡ length (sheetArea s)
 
-pub ends : (s : List ℕ) → sheetFault s ≡ 0 → Ends s
+pub ends : (s : List ℕ) → sheetFault s ≡ 0 → EndsWithin s
 unfolding sheetArea area
 ends s e =
     let n = argumentCount s in

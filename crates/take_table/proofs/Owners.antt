@@ -16,7 +16,7 @@ use Rattle.rules.proofs.Acceptance.{lookup-inside}
 use Rattle.form_layout.specs.declared.Node as layout
 use Rattle.form_layout.specs.Layout.{nodeOf}
 use Rattle.form_layout.proofs.Sizes.{nodes-length, sized}
-use Rattle.form_letters.specs.Classes.{Marked}
+use Rattle.form_letters.specs.Classes.{MarkedBits}
 use Rattle.take_table.specs.Bits.{bitAt}
 use Rattle.take_table.specs.Known.{isNamed, isAdjacent, SetOf}
 use Rattle.take_table.specs.Owners.{owns, Owners, Added, isLoose}
@@ -45,7 +45,7 @@ module _ (x : layout.Node) (n count : ℕ) (t : List ℕ) where
   no-names e = unmarked (λ f. omega arith) (λ f. omega arith)
 
   pub marked : (x .kind ≡ 0 → ⊥) → x .kind ≤ 2 → (set : ℕ) → ((m : ℕ) → bitAt set m ≡ eqb m n)
-      → (end : ℕ) → end ≡ min (x .p + x .q) count → (t′ : List ℕ) → Marked set (x .p) end t t′ → Added (nodeOf x) n count t t′
+      → (end : ℕ) → end ≡ min (x .p + x .q) count → (t′ : List ℕ) → MarkedBits set (x .p) end t t′ → Added (nodeOf x) n count t t′
   unfolding owns isNamed
   marked f g set s end e t′ z = record { long = z .long; at = λ k h m. go k h m (leb (x .p) k) (ltb k (x .p + x .q)) refl refl }
     where

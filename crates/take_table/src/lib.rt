@@ -11,7 +11,7 @@ ghost use Rattle.rules.specs.Sheet.{sheetArea};
 ghost use Rattle.rules.specs.Split.{Item as RulesItem};
 ghost use Rattle.form_layout.specs.Layout.{nodeOf, GoodNames};
 ghost use Rattle.take_search.specs.Search.{HasItem, Sought};
-ghost use Rattle.form_letters.specs.Classes.{Marked};
+ghost use Rattle.form_letters.specs.Classes.{MarkedBits};
 ghost use Rattle.take_table.specs.Bits.{bitAt};
 ghost use Rattle.take_table.specs.Known.{isAdjacent, SetOf, Matchable, MatchSet, Known, Says};
 ghost use Rattle.take_table.specs.Owners.{Owners, Added, isLoose, Lookup, hasShort, hasLong};
@@ -54,7 +54,7 @@ fn no_owners() -> [u64; 128]
 // The records from `first` on, below `end`, get the nodes of a set as owners.
 fn mark(owners: &mut [u64; 128], set: u64, first: usize, end: usize)
     requires { ⌜ (end ≤ 128) × (length (now owners) ≡ 128) ⌝ }
-    ensures { λ _. ⌜ Marked set first end (now (owners .entry)) (now (owners .exit)) ⌝ }
+    ensures { λ _. ⌜ MarkedBits set first end (now (owners .entry)) (now (owners .exit)) ⌝ }
 {
     let mut k = first;
     while k < end {

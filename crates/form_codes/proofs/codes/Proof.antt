@@ -2,12 +2,12 @@
 use Prim.Native.Nat.{_-_}
 use borrow.Author.Needs.{needs}
 use Rattle.form_layout.proofs.Sizes.{names-long}
-use Rattle.form_codes.proofs.NameCodes.{Filling, filling-first, filling-next, filling-last}
+use Rattle.form_codes.proofs.NameCodes.{StoringCodes, filling-first, filling-next, filling-last}
 use Rattle.form_codes.proofs.codes.Statement.{statement}
 use Rattle.form_codes.proofs.codes.Tie as tie
 
 abbrev Inv-loop : tie.InvT-loop
-Inv-loop form out₀ count k₀ out k = Filling form out₀ count out k
+Inv-loop form out₀ count k₀ out k = StoringCodes form out₀ count out k
 
 abbrev μ-loop : tie.MeasureT-loop
 μ-loop form out₀ count k₀ out k = count - k

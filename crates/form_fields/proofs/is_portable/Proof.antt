@@ -1,13 +1,13 @@
 -- Invariant: the names from k on are as portable as all. Assumes nothing.
 use native.Mathlib.Omega.{arith}
 use Prim.Native.Nat.{_-_}
-use Rattle.form_fields.proofs.Given.{Passing, passing-first, passing-bad, passing-next, passing-last}
+use Rattle.form_fields.proofs.Given.{PortableFrom, passing-first, passing-bad, passing-next, passing-last}
 use Rattle.form_layout.proofs.Sizes.{sized, has-name}
 use Rattle.form_fields.proofs.is_portable.Statement.{statement}
 use Rattle.form_fields.proofs.is_portable.Tie as tie
 
 abbrev Inv-loop : tie.InvT-loop
-Inv-loop b m k₀ k = Passing b k
+Inv-loop b m k₀ k = PortableFrom b k
 
 abbrev μ-loop : tie.MeasureT-loop
 μ-loop b m k₀ k = m - k

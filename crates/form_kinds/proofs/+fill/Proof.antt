@@ -8,7 +8,7 @@ use Rattle.form_layout.specs.Layout.{nodeOf}
 use Rattle.form_kinds.specs.Kinds.{childQ}
 use Rattle.form_kinds.specs.Known.{Done}
 use Rattle.form_layout.proofs.Sizes.{sized}
-use Rattle.form_kinds.proofs.Table.{Known, worked, found, child, no-child, second-child, no-second, kept-same, kept-twice, leaf-is, inner-is, stored}
+use Rattle.form_kinds.proofs.Table.{ChildKnown, worked, found, child, no-child, second-child, no-second, kept-same, kept-twice, leaf-is, inner-is, stored}
 use Prim.Native.Nat.{ℕ, _<_}
 use borrow.Fn.Kinds.{In}
 use borrow.Fn.PlainCycle.{Measures, is, falls, and}
@@ -48,7 +48,7 @@ joined3 t c =
 
 joined2 :
     (t : ℕ) (c : fill-lts.Joined2 (calls t) (fill-at t) fill.Post)
-    → Known (readForm (c .before .before .before .before .before .args .b .now)) (c .before .before .before .before .before .args .k)
+    → ChildKnown (readForm (c .before .before .before .before .before .args .b .now)) (c .before .before .before .before .before .args .k)
     (c .before .before .before .node-at .result .p) (c .before .before .before .before .before .args .codes .now) (c .if2 .codes) (c .if2 .c)
 joined2 t c =
     let pre = c .before .before .before .before .before .pre in
@@ -71,7 +71,7 @@ joined6 t c =
 
 joined4 :
     (t : ℕ) (c : fill-lts.Joined4 (calls t) (fill-at t) fill.Post)
-    → Known (readForm (c .before .before .before .before .before .before .before .args .b .now))
+    → ChildKnown (readForm (c .before .before .before .before .before .before .before .args .b .now))
     (c .before .before .before .before .before .before .before .args .k)
     (childQ (nodeOf (c .before .before .before .before .before .node-at .result)))
     (c .before .before .if2 .codes) (c .if4 .codes) (c .if4 .d)

@@ -6,13 +6,13 @@ use lib.ListN.{length}
 use borrow.Author.Needs.{needs}
 use Rattle.rules.specs.Sheet.{argumentCount}
 use Rattle.split_arg.specs.Clusters.{letters}
-use Rattle.split_args.proofs.Lines.{Going, two-bytes, count-is, going-first, has-offset, has-argument, fits-here, made-long, filled-long}
+use Rattle.split_args.proofs.Lines.{SplitSoFar, two-bytes, count-is, going-first, has-offset, has-argument, fits-here, made-long, filled-long}
 use Rattle.split_args.proofs.Lines.{too-many, goes-on, count-few, ambiguous-few, ambiguous-letter, marker-small, all-done, fits-32, fits-64, records-fit}
 use Rattle.split_args.proofs.split_arguments.Statement.{statement}
 use Rattle.split_args.proofs.split_arguments.Tie as tie
 
 abbrev Inv-loop : tie.InvT-loop
-Inv-loop sheet flags arguments items₀ n k₀ at₀ marker₀ items k at marker = Going (letters flags arguments) sheet (length items₀) items k at marker × (n ≡ argumentCount sheet)
+Inv-loop sheet flags arguments items₀ n k₀ at₀ marker₀ items k at marker = SplitSoFar (letters flags arguments) sheet (length items₀) items k at marker × (n ≡ argumentCount sheet)
 
 abbrev μ-loop : tie.MeasureT-loop
 μ-loop sheet flags arguments items₀ n k₀ at₀ marker₀ items k at marker = n - k

@@ -4,12 +4,12 @@ use Prim.Native.Nat.{_-_}
 use native.Mathlib.Omega.{arith}
 use borrow.Author.Needs.{needs}
 use Rattle.utf8.specs.Laws.{character}
-use Rattle.split_group.proofs.Flags.{Wrote, wrote-none, wrote-more, wrote-all, letter-there}
+use Rattle.split_group.proofs.Flags.{WroteFlags, wrote-none, wrote-more, wrote-all, letter-there}
 use Rattle.split_group.proofs.write_flags.Statement.{statement}
 use Rattle.split_group.proofs.write_flags.Tie as tie
 
 abbrev Inv-loop : tie.InvT-loop
-Inv-loop name count items₀ at text₀ place₀ k₀ items text place k = Wrote name count text₀ items₀ at items text place k
+Inv-loop name count items₀ at text₀ place₀ k₀ items text place k = WroteFlags name count text₀ items₀ at items text place k
 
 abbrev μ-loop : tie.MeasureT-loop
 μ-loop name count items₀ at text₀ place₀ k₀ items text place k = count - k
