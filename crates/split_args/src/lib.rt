@@ -11,6 +11,7 @@ ghost use Rattle.split_args.specs.Construct.{groupAt, markerAfter, plain
 ghost use Rattle.split_args.specs.Construct.{Marked, Unmarked, Given, Cleared, Ends};
 use rules::State;
 use split_group::Group;
+use state_marks::MARKER;
 use state_marks::Numbers;
 
 // How splitting ended: 0, 8 or 9; the place of 9 plus 1; how many items there are; the place of the first `--` plus 1. A place
@@ -145,7 +146,7 @@ pub fn begin(count: u32, marker: u32, marks: &mut [u16; 256]) -> Numbers
             end: count,
         };
     }
-    marks[(marker - 1) as usize] = 1;
+    marks[(marker - 1) as usize] = MARKER;
     Numbers {
         count,
         remaining: count - 1,
