@@ -4,6 +4,20 @@ ghost use Prim.Native.Nat.{_≤_};
 ghost use Rattle.call_answers.specs.Answers.{coded, yesNo, answerWith, stateWith};
 use rules::State;
 
+// The refusals of single calls: a slice is too short; no word is left for a positional, a key has no value; there is no such
+// node, name, place or scope; a state, or an item record, breaks its rule.
+pub const SHORT_SLICE: u32 = 7;
+
+pub const MISSING: u32 = 20;
+
+pub const NO_ARGUMENT: u32 = 22;
+
+pub const NOT_THERE: u32 = 28;
+
+pub const BAD_STATE: u32 = 29;
+
+pub const BAD_ITEM: u32 = 30;
+
 // From a call that leaves the state as it was. A place is itself plus 1, or 0 for none.
 #[repr(C)]
 pub struct Answer {

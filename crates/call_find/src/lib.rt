@@ -8,6 +8,9 @@ ghost use Rattle.call_answers.specs.Answers.{placeOrNone, plainAnswer};
 ghost use Rattle.call_find.specs.Records.{wordsOf, callFind};
 ghost use Rattle.call_find.specs.Scan.{stoppedAt, Started, ReachedAt, Able, judged, unseen, turned, Finishes};
 use call_answers::Answer;
+use call_answers::BAD_ITEM;
+use call_answers::BAD_STATE;
+use call_answers::NOT_THERE;
 use call_answers::answered;
 use call_answers::narrow;
 use call_answers::refused;
@@ -191,13 +194,13 @@ fn finish(s: State, search: Search, seen: Seen) -> Answer
         return refused(search.number, search.place);
     }
     if seen.found == 1 {
-        return refused(30, 0);
+        return refused(BAD_ITEM, 0);
     }
     if !state_marks::good(s, seen.count) {
-        return refused(29, 0);
+        return refused(BAD_STATE, 0);
     }
     if search.key.kind == 0 {
-        return refused(28, 0);
+        return refused(NOT_THERE, 0);
     }
     if seen.found == 0 {
         return answered(0, 0, 0);

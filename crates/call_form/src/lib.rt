@@ -17,6 +17,8 @@ ghost use Rattle.call_form.specs.Given.{HasForm, Tests};
 ghost use Rattle.call_form.specs.Keys.{keyNames, noKey, Keyed, commandAt};
 ghost use Rattle.call_form.specs.Answered.{SmallValue, valueAnswer, TakeAnswer, TestAnswer};
 use call_answers::Answer;
+use call_answers::NO_ARGUMENT;
+use call_answers::NOT_THERE;
 use call_answers::StateAnswer;
 use call_answers::answered;
 use call_answers::changed;
@@ -155,7 +157,7 @@ fn value_answer(value: Value, left: State, s: State) -> StateAnswer
     match value {
         Value::Missing => changed(0, 0, 0, left),
         Value::Taken(place, _) => changed(1, narrow(place), 0, left),
-        Value::NoArgument(place) => unchanged(22, place_code(place), s),
+        Value::NoArgument(place) => unchanged(NO_ARGUMENT, place_code(place), s),
     }
 }
 
@@ -207,10 +209,10 @@ pub fn matches_arg(
     }
     let key = key_at(form, node);
     if key.kind == 0 {
-        return refused(28, 0);
+        return refused(NOT_THERE, 0);
     }
     if wide(s.count) <= place {
-        return refused(28, 0);
+        return refused(NOT_THERE, 0);
     }
     matched(form, sheet, items, place, key)
 }
@@ -225,7 +227,7 @@ pub fn take_flag(form: &[u8], sheet: &[u8], items: &[u32], s: State, node: usize
     }
     let key = key_at(form, node);
     if key.kind != 1 {
-        return unchanged(28, 0, s);
+        return unchanged(NOT_THERE, 0, s);
     }
     flag_taken(form, sheet, items, s, key)
 }
@@ -240,7 +242,7 @@ pub fn take_arg(form: &[u8], sheet: &[u8], items: &[u32], s: State, node: usize)
     }
     let key = key_at(form, node);
     if key.kind != 2 {
-        return unchanged(28, 0, s);
+        return unchanged(NOT_THERE, 0, s);
     }
     arg_taken(form, sheet, items, s, key)
 }
@@ -254,7 +256,7 @@ pub fn take_cmd(form: &[u8], sheet: &[u8], items: &[u32], s: State, record: usiz
         return unchanged(checked.number, checked.place, s);
     }
     if !is_command(form, record) {
-        return unchanged(28, 0, s);
+        return unchanged(NOT_THERE, 0, s);
     }
     cmd_taken(sheet, items, s, form_layout::name_bytes(form, record))
 }

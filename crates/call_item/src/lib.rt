@@ -14,6 +14,8 @@ ghost use Rattle.take_search.specs.Search.{HasItem};
 ghost use Rattle.call_answers.specs.Answers.{answerOf, stateAnswerOf, plainAnswer, conflictCode, operandCode, placeOrNone};
 ghost use Rattle.call_item.specs.Calls.{sameNamed, HasPlace, Earlier, freeAt, Gets, nothingGot};
 use call_answers::Answer;
+use call_answers::MISSING;
+use call_answers::NOT_THERE;
 use call_answers::StateAnswer;
 use call_answers::answered;
 use call_answers::changed;
@@ -66,7 +68,7 @@ pub fn take_positional_word(sheet: &[u8], items: &[u32], s: State) -> StateAnswe
     let taken = take::take_positional_word(items, &mut marks, numbers_of(s), FIELD);
     let operand = taken.operand;
     let Operand::Taken(place, strict, _) = operand else {
-        return unchanged(20, 0, s);
+        return unchanged(MISSING, 0, s);
     };
     changed(
         1,
@@ -140,10 +142,10 @@ pub fn only_once(sheet: &[u8], items: &[u32], place: usize) -> Answer
         return refused(g.number, 0);
     }
     if g.count <= place {
-        return refused(28, 0);
+        return refused(NOT_THERE, 0);
     }
     if 0xffff_ffff < place {
-        return refused(28, 0);
+        return refused(NOT_THERE, 0);
     }
     let found = earlier(sheet, items, place);
     if found == 0 {

@@ -9,6 +9,8 @@ ghost use Rattle.rules.specs.Calls.{callRemove, callPickWinner, callSaveConflic
 ghost use Rattle.call_answers.specs.Answers.{yesCode, pickCode, scopeCode, scopeOrNone, answerOf, stateAnswerOf};
 ghost use Rattle.call_state.specs.Entries.{bothIn};
 use call_answers::Answer;
+use call_answers::BAD_STATE;
+use call_answers::NOT_THERE;
 use call_answers::StateAnswer;
 use call_answers::answered;
 use call_answers::changed;
@@ -35,10 +37,10 @@ pub fn remove(s: State, place: usize) -> StateAnswer
     ensures { λ r. ⌜ stateAnswerOf yesCode (callRemove s place) ≡ some r ⌝ }
 {
     if !state_marks::good(s, wide(s.count)) {
-        return unchanged(29, 0, s);
+        return unchanged(BAD_STATE, 0, s);
     }
     if wide(s.count) <= place {
-        return unchanged(28, 0, s);
+        return unchanged(NOT_THERE, 0, s);
     }
     changed(1, 0, 0, state_value::remove(s, place))
 }
@@ -48,7 +50,7 @@ pub fn pick_winner(s: State, t: State) -> Answer
     ensures { λ r. ⌜ answerOf pickCode (callPickWinner s t) ≡ some r ⌝ }
 {
     if !both_good(s, t) {
-        return refused(29, 0);
+        return refused(BAD_STATE, 0);
     }
     let picked = state_value::pick_winner(s, t);
     answered(yes_no(picked.first), picked.place, 0)
@@ -59,10 +61,10 @@ pub fn save_conflicts(s: State, loser: State, winner: usize) -> StateAnswer
     ensures { λ r. ⌜ stateAnswerOf yesCode (callSaveConflicts s loser winner) ≡ some r ⌝ }
 {
     if !both_good(s, loser) {
-        return unchanged(29, 0, s);
+        return unchanged(BAD_STATE, 0, s);
     }
     if wide(s.count) <= winner {
-        return unchanged(28, 0, s);
+        return unchanged(NOT_THERE, 0, s);
     }
     changed(1, 0, 0, state_value::save_conflicts(s, loser, winner))
 }
@@ -73,10 +75,10 @@ pub fn set_scope(s: State, from: usize, to: usize) -> StateAnswer
 {
     let count = wide(s.count);
     if !state_marks::good(s, count) {
-        return unchanged(29, 0, s);
+        return unchanged(BAD_STATE, 0, s);
     }
     if to < from || count < to {
-        return unchanged(28, 0, s);
+        return unchanged(NOT_THERE, 0, s);
     }
     changed(1, 0, 0, state_value::set_scope(s, from, to))
 }
@@ -86,7 +88,7 @@ pub fn adjacent_scope(s: State, original: State) -> Answer
     ensures { λ r. ⌜ answerOf scopeOrNone (callAdjacentScope s original) ≡ some r ⌝ }
 {
     if !both_good(s, original) {
-        return refused(29, 0);
+        return refused(BAD_STATE, 0);
     }
     let scope = state_value::adjacent_scope(s, original);
     match scope {
@@ -101,10 +103,10 @@ pub fn adjacently_available_from(s: State, from: usize) -> Answer
 {
     let count = wide(s.count);
     if !state_marks::good(s, count) {
-        return refused(29, 0);
+        return refused(BAD_STATE, 0);
     }
     if count < from {
-        return refused(28, 0);
+        return refused(NOT_THERE, 0);
     }
     let scope = state_value::adjacently_available_from(s, from);
     answered(1, scope.start, scope.end)
