@@ -24,7 +24,7 @@ fn build() -> PathBuf {
     println!("cargo::rerun-if-changed={}", root.join("crates").display());
     println!("cargo::rerun-if-changed={}", root.join("crates.txt").display());
     // what `exports` rests on is proved side by side: `staticlib` by itself would prove one crate after the other
-    rt(root, &["check", "runner", "text"]);
+    rt(root, &["check", "run", "call_text"]);
     rt(root, &["staticlib", "exports"]);
     root.join("target/staticlib")
 }

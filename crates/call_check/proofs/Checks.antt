@@ -1,4 +1,4 @@
--- What the form check's answer says, and how a call goes on from it.
+-- The answers of the calls that ask about a form.
 use mathlib.Core.Bool.{Bool, true, false}
 use mathlib.Core.List.{List, [], _∷_}
 use mathlib.Core.Option.{some, none}
@@ -6,61 +6,20 @@ use mathlib.Core.Path.{_≡_, refl, sym, ap, _∙_}
 use Prim.Native.Nat.{ℕ, zero, suc, _≤_, _<_}
 use native.Mathlib.Omega.{arith}
 use lib.ListN.{length, getElem?}
-use Rattle.utf8.specs.Utf8.{if_then_else_}
-use Rattle.rules.specs.Base.{firstFault, _>>?_}
-use Rattle.rules.specs.Outcome.{Outcome, ok, _>>=_, refuse}
+use Rattle.rules.specs.Base.{_>>?_}
+use Rattle.rules.specs.Outcome.{Outcome, ok, _>>=_}
 use Rattle.rules.specs.Value.{Kind}
 use Rattle.rules.specs.Form.{Form, nodeCount, readForm, portable}
 use Rattle.rules.specs.Tree.{Tree, kindOf}
-use Rattle.rules.specs.Accept.{Checked, accepted, refusedAt, Accepted, checkForm, lengthGood}
+use Rattle.rules.specs.Accept.{Checked, accepted, refusedAt, Accepted, checkForm}
 use Rattle.rules.specs.Codes.{checkCode, kindCode}
 use Rattle.rules.specs.Calls.{formIn, asked, callKind, callPortable}
 use Rattle.rules.specs.declared.Refused.{Refused}
-use Rattle.rules.specs.Demands.{All}
 use Rattle.rules.specs.Sound.{Sound}
-use Rattle.rules.proofs.Acceptance.{All-at, is-some, lookup-some, accepted-form, accepted-trees, accepted-trees-sound, accepted-length, accepted-passed}
-use Rattle.rules.proofs.WellMadeLaws.{check-numbers, well-made}
+use Rattle.rules.proofs.Acceptance.{All-at, is-some, lookup-some, accepted-form, accepted-trees, accepted-trees-sound}
+use Rattle.rules.proofs.GivenLaws.{check-accepted, form-passed}
 use Rattle.form_layout.proofs.Sizes.{nodes-length}
-use Rattle.form_fields.specs.Names.{GoodNames}
 use Rattle.call_check.specs.Reader.{told, yesCode}
-
-positive : (n : ℕ) → 1 ≤ n → n ≡ 0 → ⊥
-positive n h e = omega arith
-
--- number 0 is acceptance
-pub check-accepted : (b : List ℕ) (r : Refused) → r ≡ checkCode (checkForm b) → r .number ≡ 0 → (a : Accepted) × (checkForm b ≡ accepted a)
-check-accepted b r e z = go (checkForm b) refl
-  where
-    go : (c : Checked Accepted) → checkForm b ≡ c → (a : Accepted) × (checkForm b ≡ accepted a)
-    go (accepted a) h = (a, h)
-    go (refusedAt n k) h =
-        let m : r .number ≡ n = ap (λ (x : Refused). x .number) (e ∙ ap checkCode h) in
-        absurd (positive n (check-numbers b n k h .0) (sym m ∙ z))
-
-pub check-long : (b : List ℕ) (r : Refused) → r ≡ checkCode (checkForm b) → r .number ≡ 0 → lengthGood b ≡ true
-check-long b r e z = let (a, h) = check-accepted b r e z in accepted-length b a h
-
-pub check-eight : (b : List ℕ) (r : Refused) → r ≡ checkCode (checkForm b) → r .number ≡ 0 → 8 ≤ length b
-check-eight b r e z = let (a, h) = check-accepted b r e z in omega (arith, well-made b a h .counts .exact)
-
-pub node-below : (b : List ℕ) (k n : ℕ) → n ≡ nodeCount b → k < n → k < nodeCount b
-node-below b k n m h = omega (arith, m, h)
-
-all-no-fault : {A : Type 0} (p : A → Bool) (k : ℕ) (l : List A) → All (λ (a : A). p a ≡ true) l → firstFault p k l ≡ none
-unfolding firstFault if_then_else_
-all-no-fault p k [] h = refl
-all-no-fault p k (x ∷ l) h = rw (h .0) (all-no-fault p (suc k) l (h .1))
-
-pub names-good : (b : List ℕ) (a : Accepted) → checkForm b ≡ accepted a → GoodNames b
-names-good b a h = record { good = accepted-length b a h; names = all-no-fault _ 0 _ (accepted-passed b a h .names) }
-
-pub check-names : (b : List ℕ) (r : Refused) → r ≡ checkCode (checkForm b) → r .number ≡ 0 → GoodNames b
-check-names b r e z = let (a, h) = check-accepted b r e z in names-good b a h
-
--- ---- how a call goes on
-pub form-passed : {A : Type 0} (b : List ℕ) (a : Accepted) (f : Accepted → Outcome A) → checkForm b ≡ accepted a → (formIn b >>= f) ≡ f a
-unfolding formIn _>>=_
-form-passed b a f h = rw (h, formIn)
 
 pub told-refused :
     {A : Type 0} (code : A → ℕ) (b : List ℕ) (f : Accepted → Outcome A) (r : Refused)

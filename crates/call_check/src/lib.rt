@@ -1,17 +1,13 @@
 // The entry points. None asks anything of its input: what is not well made is refused under its number.
 ghost use mathlib.Core.Path.{_≡_};
 ghost use mathlib.Core.Option.{some};
-ghost use lib.ListN.{length, replicate};
+ghost use lib.ListN.{length};
 ghost use Rattle.rules.specs.Outcome.{ok};
 ghost use Rattle.rules.specs.Sheet.{sheetFault};
-ghost use Rattle.rules.specs.Form.{readForm};
-ghost use Rattle.rules.specs.Accept.{checkForm, lettersOf};
+ghost use Rattle.rules.specs.Accept.{checkForm};
 ghost use Rattle.rules.specs.Codes.{checkCode, kindCode, placeOf};
 ghost use Rattle.rules.specs.Calls.{callKind, callPortable, callSplit, splitRefused};
-ghost use Rattle.take_search.specs.Codes.{Coded};
-ghost use Rattle.split_args.specs.Construct.{Ends};
 ghost use Rattle.call_check.specs.Reader.{sheetCode, told, yesCode, splittingOf, Answers};
-ghost use Rattle.call_check.specs.Ready.{Ready};
 use rules::Refused;
 use rules::State;
 use split_args::Ended;
@@ -113,47 +109,6 @@ fn split_refused(number: u32, place: u32, items: &mut [u32]) -> Ended
     }
 }
 
-fn zeros() -> [u32; 128]
-    ensures { λ r. ⌜ r ≡ replicate 128 0 ⌝ }
-{
-    [0u32; 128]
-}
-
-// The same as `split_accepted`, with the letters of the form worked out.
-fn split_clusters(form: &[u8], codes: &[u32], sheet: &[u8], items: &mut [u32]) -> Ended
-    requires { ⌜ Ready (now form) (now sheet) (now items) × Coded (now form) (now codes) ⌝ }
-    ensures { λ r. ⌜ Ends (lettersOf (readForm (now (form .entry)))) (now (sheet .entry)) (length (now (items .entry))) (now (items .exit)) r ⌝ }
-{
-    let mut flags = zeros();
-    let mut arguments = zeros();
-    let counts = form_letters::letters(form, codes, &mut flags, &mut arguments);
-    let n = counts.flags;
-    let m = counts.arguments;
-    split_args::construct(sheet, &flags[0..n], &arguments[0..m], items)
-}
-
-// An accepted form with its short names as numbers, a checked sheet, and room for the items. The letters are worked out only
-// where one can be looked up.
-pub fn split_accepted(form: &[u8], codes: &[u32], sheet: &[u8], items: &mut [u32]) -> Ended
-    requires { ⌜ Ready (now form) (now sheet) (now items) × Coded (now form) (now codes) ⌝ }
-    ensures { λ r. ⌜ Ends (lettersOf (readForm (now (form .entry)))) (now (sheet .entry)) (length (now (items .entry))) (now (items .exit)) r ⌝ }
-{
-    if split_args::all_plain(sheet) {
-        return split_args::construct(sheet, &codes[0..0], &codes[0..0], items);
-    }
-    split_clusters(form, codes, sheet, items)
-}
-
-// An accepted form, a checked sheet, and room for the items.
-fn split_ready(form: &[u8], sheet: &[u8], items: &mut [u32]) -> Ended
-    requires { ⌜ Ready (now form) (now sheet) (now items) ⌝ }
-    ensures { λ r. ⌜ Answers (callSplit (now (form .entry)) (now (sheet .entry)) (length (now (items .entry)))) (now (items .exit)) r ⌝ }
-{
-    let mut codes = zeros();
-    take_search::codes(form, &mut codes);
-    split_accepted(form, &codes, sheet, items)
-}
-
 // What the input is refused with, or its items.
 fn split_input(form: &[u8], sheet: &[u8], items: &mut [u32]) -> Ended
     ensures { λ r. ⌜ Answers (callSplit (now (form .entry)) (now (sheet .entry)) (length (now (items .entry)))) (now (items .exit)) r ⌝ }
@@ -169,7 +124,8 @@ fn split_input(form: &[u8], sheet: &[u8], items: &mut [u32]) -> Ended
     if items.len() < 1792 {
         return split_refused(7, 0, items);
     }
-    split_ready(form, sheet, items)
+    let codes = form_codes::codes_of(form);
+    split_line::split(form, &codes, sheet, items)
 }
 
 // From a form and a sheet to items and a state.

@@ -27,7 +27,8 @@ use Rattle.form_layout.proofs.Sizes.{sized}
 use Rattle.state_marks.specs.declared.Numbers.{Numbers}
 use Rattle.state_marks.specs.Lent.{rawOf, numbersOf, stateOf}
 use Rattle.state_marks.proofs.Laws.{raw-back, in-kept, kept-fine}
-use Rattle.take_search.specs.Codes.{Checked, Coded}
+use Rattle.form_layout.specs.Layout.{GoodNames}
+use Rattle.form_codes.specs.Codes.{CodedNames}
 use Rattle.take_table.specs.Known.{Matchable, Known}
 use Rattle.take.specs.Takes as takes
 use Rattle.call_table.specs.Given.{Holds}
@@ -68,7 +69,7 @@ all-zero o =
     ∙ rw (zero-add (length (replicate {A = ℕ} (length o) 0)), length-replicate {A = ℕ} (length o) 0, drop-length o, append-nil (replicate {A = ℕ} (length o) 0))
 
 -- ---- the codes of the short names
-pub codes-room : (b l : List ℕ) → Checked b → l ≡ replicate 128 0 → nameCount b ≤ length l
+pub codes-room : (b l : List ℕ) → GoodNames b → l ≡ replicate 128 0 → nameCount b ≤ length l
 codes-room b l c e =
     let few = sized b (c .good) .counts .names in
     let long : length l ≡ 128 = ap length e ∙ length-replicate {A = ℕ} 128 0 in
@@ -77,7 +78,7 @@ codes-room b l c e =
 pub known-long : (l : List ℕ) → l ≡ replicate 257 0 → length l ≡ 257
 known-long l e = ap length e ∙ length-replicate {A = ℕ} 257 0
 
-pub known-matchable : (b codes s words : List ℕ) (n : ℕ) → Checked b → Coded b codes → sheetFault s ≡ 0 → Holds (sheetArea s) words n
+pub known-matchable : (b codes s words : List ℕ) (n : ℕ) → GoodNames b → CodedNames b codes → sheetFault s ≡ 0 → Holds (sheetArea s) words n
     → Matchable b codes s words n
 known-matchable b codes s words n c w made h = record {
   checked = c;
@@ -98,7 +99,7 @@ cleared-few b s words o x k c n e = omega (arith, in-kept (x .count) x (c .input
 pub cleared-made : (b s words o : List ℕ) (x : Raw) (k : ℕ) → Cleared b s words o x k → sheetFault s ≡ 0
 cleared-made b s words o x k c = c .input .made
 
-pub cleared-checked : (b s words o : List ℕ) (x : Raw) (k : ℕ) → Cleared b s words o x k → Checked b
+pub cleared-checked : (b s words o : List ℕ) (x : Raw) (k : ℕ) → Cleared b s words o x k → GoodNames b
 cleared-checked b s words o x k c =
     let a = c .input .accepts in
     record {

@@ -6,7 +6,8 @@ ghost use lib.ListN.{length, replicate};
 ghost use Rattle.rules.specs.Sheet.{sheetArea, sheetFault};
 ghost use Rattle.rules.specs.Calls.{callEval};
 ghost use Rattle.state_marks.specs.Lent.{rawOf, numbersOf};
-ghost use Rattle.take_search.specs.Codes.{Checked, Coded};
+ghost use Rattle.form_layout.specs.Layout.{GoodNames};
+ghost use Rattle.form_codes.specs.Codes.{CodedNames};
 ghost use Rattle.take_table.specs.Known.{Known};
 ghost use Rattle.call_table.specs.Given.{Holds};
 ghost use Rattle.call_node.specs.Node.{evaluatedAnswer, unchangedBy, answerOf, Admits, Cleared, Runs};
@@ -61,11 +62,11 @@ fn no_codes() -> [u32; 128]
 
 // The codes of the form's short names.
 fn codes_of(form: &[u8]) -> [u32; 128]
-    requires { ⌜ Checked (now form) ⌝ }
-    ensures { λ r. ⌜ Coded (now (form .entry)) r ⌝ }
+    requires { ⌜ GoodNames (now form) ⌝ }
+    ensures { λ r. ⌜ CodedNames (now (form .entry)) r ⌝ }
 {
     let mut codes = no_codes();
-    take_search::codes(form, &mut codes);
+    form_codes::codes(form, &mut codes);
     codes
 }
 
@@ -77,7 +78,7 @@ fn nothing_known() -> [u64; 257]
 
 // Which nodes each of the items matches.
 fn known_of(form: &[u8], sheet: &[u8], items: &[u32], count: usize) -> [u64; 257]
-    requires { ⌜ Checked (now form) × (sheetFault (now sheet) ≡ 0) × Holds (sheetArea (now sheet)) (now items) count × (count ≤ 256) ⌝ }
+    requires { ⌜ GoodNames (now form) × (sheetFault (now sheet) ≡ 0) × Holds (sheetArea (now sheet)) (now items) count × (count ≤ 256) ⌝ }
     ensures { λ r. ⌜ Known (now (form .entry)) (sheetArea (now (sheet .entry))) (now (items .entry)) count r ⌝ }
 {
     let codes = codes_of(form);

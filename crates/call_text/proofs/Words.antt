@@ -24,12 +24,13 @@ use Rattle.split_arg.specs.Items.{recordAt}
 use Rattle.form_layout.specs.Layout.{HasName}
 use Rattle.form_layout.proofs.Sizes.{names-length}
 use Rattle.form_kinds.proofs.Steps.{lookup-none}
-use Rattle.form_fields.proofs.Given.{has-name}
+use Rattle.form_layout.proofs.Sizes.{has-name}
 use Rattle.take_search.specs.Search.{HasItem}
 use Rattle.call_table.specs.Given.{HasTable, Gives}
 use Rattle.call_table.specs.declared.Input.{Input}
 use Rattle.call_table.proofs.Laws.{onTable, table-refused, table-given}
-use Rattle.call_check.proofs.Checks.{check-accepted, check-names, form-passed}
+use Rattle.rules.proofs.GivenLaws.{check-accepted, form-passed}
+use Rattle.form_layout.proofs.Sizes.{check-names}
 use Rattle.call_text.specs.declared.TextPart.{TextPart}
 use Rattle.call_text.specs.Text.{textSays, TextOf, sourceOf, partText, refusedPart, itemPart, recordPart, callPart, partTold, PartOf, Finds, Tells}
 
@@ -205,7 +206,7 @@ module _ (b s words : List ℕ) (w : ℕ) where
                     from-form x (subst (λ (o : Option (List ℕ)). Tells b 1 o (recordPart b (passed .0) (n - 256)) x) (sym none-there) (rw gone, q))
 
                 pub has-record : n - 256 < m → HasName b (n - 256)
-                has-record h = has-name b (n - 256) m (check-names b r e z) em h
+                has-record h = has-name b (check-names b r e z) (n - 256) m em h
 
                 pub record-part : (x : TextPart)
                     → ((a : Accepted) → a .form ≡ readForm b → Tells b 1 (recordText a (n - 256)) (recordPart b a (n - 256)) x)

@@ -26,7 +26,7 @@ use Rattle.form_layout.specs.declared.Node.{Node}
 use Rattle.form_layout.proofs.Sizes.{sized}
 use Rattle.state_marks.specs.declared.Numbers.{Numbers}
 use Rattle.state_marks.specs.Lent.{Fine}
-use Rattle.take_search.specs.Codes.{namedAt}
+use Rattle.form_codes.specs.Codes.{namedAt}
 use Rattle.take_table.specs.Known.{Says as Tells, isNamed as isNamedNode, isAdjacent, nodeMatches}
 use Rattle.take.specs.Takes as takes
 use Rattle.take.specs.Takes.{Skips}

@@ -18,8 +18,8 @@ use Rattle.rules.specs.Accept.{Accepted, accepted, lengthGood, checkForm}
 use Rattle.rules.specs.Sound.{Sound}
 use Rattle.rules.proofs.Acceptance.{if-some, if-not-some, bind-some, branch, lookup-inside, accepted-length, accepted-form, accepted-trees}
 use Rattle.form_layout.proofs.Sizes.{nodes-length}
-use Rattle.take_search.specs.Codes.{namedAt}
-use Rattle.take_search.proofs.Tables.{named-at}
+use Rattle.form_codes.specs.Codes.{namedAt}
+use Rattle.form_codes.proofs.NameCodes.{named-at}
 use Rattle.eval_told.specs.Nodes.{treeAt, isScalar}
 use Rattle.eval_told.proofs.NodeLaw.{node-tree, tree-sound, at-tree, tree-accepted}
 

@@ -17,14 +17,12 @@ use Rattle.rules.specs.Accept.{Accepted, accepted, treesFrom, checkForm}
 use Rattle.rules.proofs.Acceptance.{lookup-some, trees-step, lookup-inside, accepted-passed}
 use Rattle.form_names.specs.declared.Name as names
 use Rattle.form_names.specs.Names.{nameOf}
-use Rattle.form_layout.specs.Layout.{HasName}
 use Rattle.form_layout.proofs.Sizes.{from, from-drop, names-length}
 use Rattle.form_kinds.specs.Known.{codes, codeAt, Done}
 use Rattle.form_kinds.proofs.Steps.{drop-there}
 use Rattle.form_kinds.proofs.Table.{codes-at}
 use Rattle.form_kinds.proofs.Trees.{codeWith, treeCode, code-part}
 use Rattle.form_check.proofs.Climbing.{tree-some, grown, code-by}
-use Rattle.form_fields.specs.Names.{GoodNames}
 
 -- ---- lists
 drop-first : {A : Type 0} (l : List A) (k : ℕ) (x : A) (xs : List A) → drop k l ≡ x ∷ xs → getElem? l k ≡ some x
@@ -79,9 +77,6 @@ module _ (b : List ℕ) (k : ℕ) (m₀ m : List ℕ) (d : Done (readForm b) k m
       ap (λ (x : ℕ). x % 16) (en ∙ code ∙ ap (λ (o : Option Kind). codeWith o (hasRepeat t)) s) ∙ code-part κ (hasRepeat t)
 
 -- ---- the portable mark
-pub has-name : (b : List ℕ) (k m : ℕ) → GoodNames b → m ≡ nameCount b → k < m → HasName b k
-has-name b k m g e h = record { good = g .good; names = g .names; below = omega arith }
-
 module _ (b : List ℕ) where
   abbrev passes : List Name → Bool
   passes l = all (portableName (readForm b .area)) l

@@ -10,7 +10,7 @@ ghost use Rattle.rules.specs.Tree.{Tree, kindOf};
 ghost use Rattle.rules.specs.Value.{Kind};
 ghost use Rattle.rules.specs.Accept.{Accepted, accepted, lengthGood, checkForm};
 ghost use Rattle.form_layout.specs.Layout.{HasName};
-ghost use Rattle.form_fields.specs.Names.{GoodNames};
+ghost use Rattle.form_layout.specs.Layout.{GoodNames};
 
 // The kind of node k, by number.
 pub fn kind(b: &[u8], k: usize) -> u32

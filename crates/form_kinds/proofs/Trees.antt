@@ -4,11 +4,11 @@ use mathlib.Core.Bool.{Bool, true, false, not, _&&_, _||_}
 use mathlib.Core.List.{List, [], _∷_, map}
 use mathlib.Core.Option.{Option, some, none}
 use mathlib.Core.Path.{_≡_, refl, sym, _∙_, ap}
-use Prim.Native.Nat.{ℕ, zero, suc, _+_, _*_, _%_, _<_}
+use Prim.Native.Nat.{ℕ, zero, suc, _+_, _%_, _<_}
 use native.Mathlib.Omega.{arith}
 use lib.Dec.{leb, ltb, eqb}
 use lib.ListN.{length, getD, getElem?}
-use borrow.Author.Tests.{eq-eqb, ne-eqb, lt-leb, lt-ltb, le-ltb, eqb-true, eqb-false, leb-true, leb-false}
+use borrow.Author.Tests.{eq-eqb, ne-eqb, le-leb, lt-leb, lt-ltb, le-ltb, eqb-true, eqb-false, leb-true, leb-false}
 use Rattle.utf8.specs.Utf8.{if_then_else_}
 use Rattle.rules.specs.Base.{all, contains, isSome, _>>?_}
 use Rattle.rules.specs.Value.{Base, yesNo, text, number, baseNumber, sameBase, Kind, one, optional, list, listOfOptional, optionalList, BaseValue, isYes, isText, isNumber, baseOf, name}
@@ -18,7 +18,7 @@ use Rattle.rules.specs.Tree.{Named, Tree, Flag, Argument, Positional, Optional,
 use Rattle.rules.specs.Tree.{innerBase, sameKind, choiceKind, baseKind, kindOf, hasRepeat, zeros, namesOf, namedBy, namedOf, flagOf, argumentOf, positionOf, positionalOf, fitting, repeatOf}
 use Rattle.rules.specs.Tree.{fallbackValue, fallbackOf, guardOf, childOf, caughtOf, choiceOf, treeOf}
 use Rattle.rules.proofs.Acceptance.{is-some}
-use Rattle.rules.proofs.KindLaws.{same-kind}
+use Rattle.rules.proofs.KindLaws.{kinds-equal, same-kind, kind-some, kind-same, kind-few, base-code, same-base-kind}
 use Rattle.form_kinds.specs.Kinds.{namedGood, flagCode, argumentCode, positionalCode, leafCode, childGood, optionalCode, repeatCode, wrapCode, bothCode, choiceCode, textName}
 use Rattle.form_kinds.specs.Kinds.{fallbackBy, fallbackCode, guardBy, guardCode, innerCode, childQ}
 use Rattle.form_kinds.specs.Known.{ruled}
@@ -36,288 +36,72 @@ unfoldable pub codeOf : Option Tree → ℕ
 codeOf none = 32
 codeOf (some t) = treeCode t
 
--- ---- kinds, each in turn
-optional-with : (o : Option Kind) (r : Bool) → codeWith (o >>? optionalKind) r ≡ optionalCode (codeWith o r)
-unfolding codeWith kindCode baseCode _>>?_ if_then_else_ optionalKind optionalCode
-optional-with none r = refl
-optional-with (some (one yesNo)) true = refl
-optional-with (some (one yesNo)) false = refl
-optional-with (some (one text)) true = refl
-optional-with (some (one text)) false = refl
-optional-with (some (one number)) true = refl
-optional-with (some (one number)) false = refl
-optional-with (some (optional yesNo)) true = refl
-optional-with (some (optional yesNo)) false = refl
-optional-with (some (optional text)) true = refl
-optional-with (some (optional text)) false = refl
-optional-with (some (optional number)) true = refl
-optional-with (some (optional number)) false = refl
-optional-with (some (list yesNo)) true = refl
-optional-with (some (list yesNo)) false = refl
-optional-with (some (list text)) true = refl
-optional-with (some (list text)) false = refl
-optional-with (some (list number)) true = refl
-optional-with (some (list number)) false = refl
-optional-with (some (listOfOptional yesNo)) true = refl
-optional-with (some (listOfOptional yesNo)) false = refl
-optional-with (some (listOfOptional text)) true = refl
-optional-with (some (listOfOptional text)) false = refl
-optional-with (some (listOfOptional number)) true = refl
-optional-with (some (listOfOptional number)) false = refl
-optional-with (some (optionalList yesNo)) true = refl
-optional-with (some (optionalList yesNo)) false = refl
-optional-with (some (optionalList text)) true = refl
-optional-with (some (optionalList text)) false = refl
-optional-with (some (optionalList number)) true = refl
-optional-with (some (optionalList number)) false = refl
+-- ---- each kind, by computing
+optional-code : (κ : Kind) (r : Bool) → codeWith (optionalKind κ) r ≡ optionalCode (codeWith (some κ) r)
+unfolding codeWith kindCode baseCode if_then_else_ optionalKind optionalCode
+optional-code = kinds-equal (λ κ r. codeWith (optionalKind κ) r) (λ κ r. optionalCode (codeWith (some κ) r)) refl
 
-list-with : (n : ℕ) → leb n 6 ≡ true → (o : Option Kind) (r : Bool) → (if r then 32 else codeWith (o >>? listKind) true) ≡ repeatCode n (codeWith o r)
-unfolding codeWith kindCode baseCode _>>?_ if_then_else_ listKind repeatCode
-list-with n e none true = refl
-list-with n e none false = refl
-list-with n e (some (one yesNo)) true = refl
-list-with n e (some (one yesNo)) false = rw e
-list-with n e (some (one text)) true = refl
-list-with n e (some (one text)) false = rw e
-list-with n e (some (one number)) true = refl
-list-with n e (some (one number)) false = rw e
-list-with n e (some (optional yesNo)) true = refl
-list-with n e (some (optional yesNo)) false = rw e
-list-with n e (some (optional text)) true = refl
-list-with n e (some (optional text)) false = rw e
-list-with n e (some (optional number)) true = refl
-list-with n e (some (optional number)) false = rw e
-list-with n e (some (list yesNo)) true = refl
-list-with n e (some (list yesNo)) false = refl
-list-with n e (some (list text)) true = refl
-list-with n e (some (list text)) false = refl
-list-with n e (some (list number)) true = refl
-list-with n e (some (list number)) false = refl
-list-with n e (some (listOfOptional yesNo)) true = refl
-list-with n e (some (listOfOptional yesNo)) false = refl
-list-with n e (some (listOfOptional text)) true = refl
-list-with n e (some (listOfOptional text)) false = refl
-list-with n e (some (listOfOptional number)) true = refl
-list-with n e (some (listOfOptional number)) false = refl
-list-with n e (some (optionalList yesNo)) true = refl
-list-with n e (some (optionalList yesNo)) false = refl
-list-with n e (some (optionalList text)) true = refl
-list-with n e (some (optionalList text)) false = refl
-list-with n e (some (optionalList number)) true = refl
-list-with n e (some (optionalList number)) false = refl
+list-code : (κ : Kind) (r : Bool) → (if r then 32 else codeWith (listKind κ) true) ≡ repeatCode 6 (codeWith (some κ) r)
+unfolding codeWith kindCode baseCode if_then_else_ listKind repeatCode
+list-code = kinds-equal (λ κ r. if r then 32 else codeWith (listKind κ) true) (λ κ r. repeatCode 6 (codeWith (some κ) r)) refl
 
-count-with : (o : Option Kind) (r : Bool) → (if r then 32 else codeWith (o >>? countKind) true) ≡ repeatCode 7 (codeWith o r)
+count-code : (κ : Kind) (r : Bool) → (if r then 32 else codeWith (countKind κ) true) ≡ repeatCode 7 (codeWith (some κ) r)
 unfolding codeWith kindCode baseCode _>>?_ if_then_else_ listKind countKind repeatCode
-count-with none true = refl
-count-with none false = refl
-count-with (some (one yesNo)) true = refl
-count-with (some (one yesNo)) false = refl
-count-with (some (one text)) true = refl
-count-with (some (one text)) false = refl
-count-with (some (one number)) true = refl
-count-with (some (one number)) false = refl
-count-with (some (optional yesNo)) true = refl
-count-with (some (optional yesNo)) false = refl
-count-with (some (optional text)) true = refl
-count-with (some (optional text)) false = refl
-count-with (some (optional number)) true = refl
-count-with (some (optional number)) false = refl
-count-with (some (list yesNo)) true = refl
-count-with (some (list yesNo)) false = refl
-count-with (some (list text)) true = refl
-count-with (some (list text)) false = refl
-count-with (some (list number)) true = refl
-count-with (some (list number)) false = refl
-count-with (some (listOfOptional yesNo)) true = refl
-count-with (some (listOfOptional yesNo)) false = refl
-count-with (some (listOfOptional text)) true = refl
-count-with (some (listOfOptional text)) false = refl
-count-with (some (listOfOptional number)) true = refl
-count-with (some (listOfOptional number)) false = refl
-count-with (some (optionalList yesNo)) true = refl
-count-with (some (optionalList yesNo)) false = refl
-count-with (some (optionalList text)) true = refl
-count-with (some (optionalList text)) false = refl
-count-with (some (optionalList number)) true = refl
-count-with (some (optionalList number)) false = refl
+count-code = kinds-equal (λ κ r. if r then 32 else codeWith (countKind κ) true) (λ κ r. repeatCode 7 (codeWith (some κ) r)) refl
 
-last-with : (o : Option Kind) (r : Bool) → (if r then 32 else codeWith (o >>? lastKind) true) ≡ repeatCode 8 (codeWith o r)
+last-code : (κ : Kind) (r : Bool) → (if r then 32 else codeWith (lastKind κ) true) ≡ repeatCode 8 (codeWith (some κ) r)
 unfolding codeWith kindCode baseCode _>>?_ if_then_else_ listKind lastKind repeatCode
-last-with none true = refl
-last-with none false = refl
-last-with (some (one yesNo)) true = refl
-last-with (some (one yesNo)) false = refl
-last-with (some (one text)) true = refl
-last-with (some (one text)) false = refl
-last-with (some (one number)) true = refl
-last-with (some (one number)) false = refl
-last-with (some (optional yesNo)) true = refl
-last-with (some (optional yesNo)) false = refl
-last-with (some (optional text)) true = refl
-last-with (some (optional text)) false = refl
-last-with (some (optional number)) true = refl
-last-with (some (optional number)) false = refl
-last-with (some (list yesNo)) true = refl
-last-with (some (list yesNo)) false = refl
-last-with (some (list text)) true = refl
-last-with (some (list text)) false = refl
-last-with (some (list number)) true = refl
-last-with (some (list number)) false = refl
-last-with (some (listOfOptional yesNo)) true = refl
-last-with (some (listOfOptional yesNo)) false = refl
-last-with (some (listOfOptional text)) true = refl
-last-with (some (listOfOptional text)) false = refl
-last-with (some (listOfOptional number)) true = refl
-last-with (some (listOfOptional number)) false = refl
-last-with (some (optionalList yesNo)) true = refl
-last-with (some (optionalList yesNo)) false = refl
-last-with (some (optionalList text)) true = refl
-last-with (some (optionalList text)) false = refl
-last-with (some (optionalList number)) true = refl
-last-with (some (optionalList number)) false = refl
+last-code = kinds-equal (λ κ r. if r then 32 else codeWith (lastKind κ) true) (λ κ r. repeatCode 8 (codeWith (some κ) r)) refl
 
-number-with : (o : Option Kind) (r : Bool) → codeWith (o >>? baseKind number) r ≡ (if eqb (codeWith o r % 16) 3 then codeWith o r else 32)
-unfolding codeWith kindCode baseCode shapeOf innerBase baseNumber _>>?_ if_then_else_ baseKind sameKind sameBase
-number-with none r = refl
-number-with (some (one yesNo)) true = refl
-number-with (some (one yesNo)) false = refl
-number-with (some (one text)) true = refl
-number-with (some (one text)) false = refl
-number-with (some (one number)) true = refl
-number-with (some (one number)) false = refl
-number-with (some (optional yesNo)) true = refl
-number-with (some (optional yesNo)) false = refl
-number-with (some (optional text)) true = refl
-number-with (some (optional text)) false = refl
-number-with (some (optional number)) true = refl
-number-with (some (optional number)) false = refl
-number-with (some (list yesNo)) true = refl
-number-with (some (list yesNo)) false = refl
-number-with (some (list text)) true = refl
-number-with (some (list text)) false = refl
-number-with (some (list number)) true = refl
-number-with (some (list number)) false = refl
-number-with (some (listOfOptional yesNo)) true = refl
-number-with (some (listOfOptional yesNo)) false = refl
-number-with (some (listOfOptional text)) true = refl
-number-with (some (listOfOptional text)) false = refl
-number-with (some (listOfOptional number)) true = refl
-number-with (some (listOfOptional number)) false = refl
-number-with (some (optionalList yesNo)) true = refl
-number-with (some (optionalList yesNo)) false = refl
-number-with (some (optionalList text)) true = refl
-number-with (some (optionalList text)) false = refl
-number-with (some (optionalList number)) true = refl
-number-with (some (optionalList number)) false = refl
+number-code : (κ : Kind) (r : Bool) → codeWith (baseKind number κ) r ≡ (if eqb (codeWith (some κ) r % 16) 3 then codeWith (some κ) r else 32)
+unfolding codeWith kindCode baseCode shapeOf innerBase baseNumber if_then_else_ baseKind sameKind sameBase
+number-code =
+    kinds-equal
+    (λ κ r. codeWith (baseKind number κ) r)
+    (λ κ r. if eqb (codeWith (some κ) r % 16) 3 then codeWith (some κ) r else 32)
+    refl
 
 pub code-part : (κ : Kind) (r : Bool) → codeWith (some κ) r % 16 ≡ kindCode κ
 unfolding codeWith kindCode baseCode if_then_else_
-code-part (one yesNo) true = refl
-code-part (one yesNo) false = refl
-code-part (one text) true = refl
-code-part (one text) false = refl
-code-part (one number) true = refl
-code-part (one number) false = refl
-code-part (optional yesNo) true = refl
-code-part (optional yesNo) false = refl
-code-part (optional text) true = refl
-code-part (optional text) false = refl
-code-part (optional number) true = refl
-code-part (optional number) false = refl
-code-part (list yesNo) true = refl
-code-part (list yesNo) false = refl
-code-part (list text) true = refl
-code-part (list text) false = refl
-code-part (list number) true = refl
-code-part (list number) false = refl
-code-part (listOfOptional yesNo) true = refl
-code-part (listOfOptional yesNo) false = refl
-code-part (listOfOptional text) true = refl
-code-part (listOfOptional text) false = refl
-code-part (listOfOptional number) true = refl
-code-part (listOfOptional number) false = refl
-code-part (optionalList yesNo) true = refl
-code-part (optionalList yesNo) false = refl
-code-part (optionalList text) true = refl
-code-part (optionalList text) false = refl
-code-part (optionalList number) true = refl
-code-part (optionalList number) false = refl
+code-part = kinds-equal (λ κ r. codeWith (some κ) r % 16) (λ κ r. kindCode κ) refl
 
 code-repeat : (κ : Kind) (r : Bool) → leb 16 (codeWith (some κ) r) ≡ r
-unfolding codeWith kindCode baseCode if_then_else_
-code-repeat (one yesNo) true = refl
-code-repeat (one yesNo) false = refl
-code-repeat (one text) true = refl
-code-repeat (one text) false = refl
-code-repeat (one number) true = refl
-code-repeat (one number) false = refl
-code-repeat (optional yesNo) true = refl
-code-repeat (optional yesNo) false = refl
-code-repeat (optional text) true = refl
-code-repeat (optional text) false = refl
-code-repeat (optional number) true = refl
-code-repeat (optional number) false = refl
-code-repeat (list yesNo) true = refl
-code-repeat (list yesNo) false = refl
-code-repeat (list text) true = refl
-code-repeat (list text) false = refl
-code-repeat (list number) true = refl
-code-repeat (list number) false = refl
-code-repeat (listOfOptional yesNo) true = refl
-code-repeat (listOfOptional yesNo) false = refl
-code-repeat (listOfOptional text) true = refl
-code-repeat (listOfOptional text) false = refl
-code-repeat (listOfOptional number) true = refl
-code-repeat (listOfOptional number) false = refl
-code-repeat (optionalList yesNo) true = refl
-code-repeat (optionalList yesNo) false = refl
-code-repeat (optionalList text) true = refl
-code-repeat (optionalList text) false = refl
-code-repeat (optionalList number) true = refl
-code-repeat (optionalList number) false = refl
+unfolding codeWith if_then_else_
+code-repeat κ true = le-leb 16 (16 + kindCode κ) (omega arith)
+code-repeat κ false = lt-leb 16 (kindCode κ) (omega (arith, kind-few κ))
 
-base-small : (b : Base) → baseNumber b < 3
-unfolding baseNumber
-base-small yesNo = omega arith
-base-small text = omega arith
-base-small number = omega arith
+-- ---- a child's kind, or none
+optional-with : (o : Option Kind) (r : Bool) → codeWith (o >>? optionalKind) r ≡ optionalCode (codeWith o r)
+unfolding codeWith _>>?_ if_then_else_ optionalCode
+optional-with none r = refl
+optional-with (some κ) r = optional-code κ r
 
-base-code : (b : Base) → baseCode b ≡ 1 + baseNumber b
-unfolding baseCode baseNumber
-base-code yesNo = refl
-base-code text = refl
-base-code number = refl
+many-same : (n : ℕ) → leb n 6 ≡ true → (c : ℕ) → repeatCode 6 c ≡ repeatCode n c
+unfolding repeatCode if_then_else_
+many-same n e c = rw e
 
--- the code of a kind from its shape and its base
-kind-code : (κ : Kind) → kindCode κ ≡ 1 + (3 * shapeOf κ + baseNumber (innerBase κ))
-unfolding kindCode shapeOf innerBase
-kind-code (one b) = omega (arith, base-code b)
-kind-code (optional b) = omega (arith, base-code b)
-kind-code (list b) = omega (arith, base-code b)
-kind-code (listOfOptional b) = omega (arith, base-code b)
-kind-code (optionalList b) = omega (arith, base-code b)
+list-with : (n : ℕ) → leb n 6 ≡ true → (o : Option Kind) (r : Bool) → (if r then 32 else codeWith (o >>? listKind) true) ≡ repeatCode n (codeWith o r)
+unfolding codeWith _>>?_ if_then_else_ repeatCode
+list-with n e none true = refl
+list-with n e none false = refl
+list-with n e (some κ) r = list-code κ r ∙ many-same n e (codeWith (some κ) r)
 
-kind-some : (κ : Kind) → eqb (kindCode κ) 0 ≡ false
-kind-some κ = ne-eqb (kindCode κ) 0 (λ e. omega (arith, kind-code κ))
+count-with : (o : Option Kind) (r : Bool) → (if r then 32 else codeWith (o >>? countKind) true) ≡ repeatCode 7 (codeWith o r)
+unfolding codeWith _>>?_ if_then_else_ repeatCode
+count-with none true = refl
+count-with none false = refl
+count-with (some κ) r = count-code κ r
 
-kind-other : (a b : Kind) → (kindCode a ≡ kindCode b → ⊥) → sameKind a b ≡ false
-kind-other a b e = go (sameKind a b) refl
-  where
-    go : (t : Bool) → sameKind a b ≡ t → t ≡ false
-    go false k = refl
-    go true k = absurd (e (ap kindCode (same-kind a b k)))
+last-with : (o : Option Kind) (r : Bool) → (if r then 32 else codeWith (o >>? lastKind) true) ≡ repeatCode 8 (codeWith o r)
+unfolding codeWith _>>?_ if_then_else_ repeatCode
+last-with none true = refl
+last-with none false = refl
+last-with (some κ) r = last-code κ r
 
-kind-same : (a b : Kind) → eqb (kindCode a) (kindCode b) ≡ sameKind a b
-unfolding sameKind sameBase
-kind-same a b = go (eqb (kindCode a) (kindCode b)) refl
-  where
-    go : (t : Bool) → eqb (kindCode a) (kindCode b) ≡ t → t ≡ sameKind a b
-    go true e =
-        let s = sym (kind-code a) ∙ eqb-true (kindCode a) (kindCode b) e ∙ kind-code b in
-        let x : shapeOf a ≡ shapeOf b = omega (arith, s, base-small (innerBase a), base-small (innerBase b)) in
-        let y : baseNumber (innerBase a) ≡ baseNumber (innerBase b) = omega (arith, s, base-small (innerBase a), base-small (innerBase b)) in
-        rw (eq-eqb (shapeOf a) (shapeOf b) x, eq-eqb (baseNumber (innerBase a)) (baseNumber (innerBase b)) y)
-    go false e = sym (kind-other a b (eqb-false (kindCode a) (kindCode b) e))
+number-with : (o : Option Kind) (r : Bool) → codeWith (o >>? baseKind number) r ≡ (if eqb (codeWith o r % 16) 3 then codeWith o r else 32)
+unfolding codeWith _>>?_ if_then_else_
+number-with none r = refl
+number-with (some κ) r = number-code κ r
 
 both-with :
     (o p : Option Kind) (r s : Bool)
@@ -485,47 +269,33 @@ module _ (f : Form) (x : Node) (make : BaseValue → Option Tree) where
   text-by none e c m = rw (e, textName, _>>?_) (none-case (zeros (x .lo ∷ x .hi ∷ [])) c)
   text-by (some k) e c m = rw (e, textName, _>>?_) (text-case make (isText (name (x .r))) c m (eqb (k .type) 2) (zeros (x .lo ∷ x .hi ∷ [])))
 
+  -- no base value
+  other-code : (c : ℕ) → 3 < c % 16 → 32 ≡ fallbackBy f x c
+  unfolding fallbackBy if_then_else_
+  other-code c h =
+      rw (ne-eqb (c % 16) 1 (λ e. omega arith), ne-eqb (c % 16) 2 (λ e. omega arith), ne-eqb (c % 16) 3 (λ e. omega arith))
+      (same-if (zeros (x .r ∷ x .hi ∷ [])) 32)
+
+  above : (κ : Kind) (r : Bool) → 3 < kindCode κ → 32 ≡ fallbackBy f x (codeWith (some κ) r)
+  above κ r h = other-code (codeWith (some κ) r) (rw (code-part κ r) h)
+
   value-code :
       (κ : Kind) (r : Bool)
       → ((v : BaseValue) → κ ≡ one (baseOf v) → codeOf (make v) ≡ codeWith (some κ) r)
       → codeOf (fallbackValue f x κ >>? make) ≡ fallbackBy f x (codeWith (some κ) r)
-  unfolding fallbackValue fallbackBy codeOf codeWith kindCode baseCode baseOf _>>?_ if_then_else_
-  value-code (one yesNo) true m = rw (ltb-not 1 (x .lo)) (yes-case make (isYes (eqb (x .lo) 1)) 17 (m (isYes (eqb (x .lo) 1)) refl) (leb (x .lo) 1) (zeros (x .r ∷ x .hi ∷ [])))
-  value-code (one yesNo) false m = rw (ltb-not 1 (x .lo)) (yes-case make (isYes (eqb (x .lo) 1)) 1 (m (isYes (eqb (x .lo) 1)) refl) (leb (x .lo) 1) (zeros (x .r ∷ x .hi ∷ [])))
-  value-code (one text) true m = text-by (getElem? (f .names) (x .r)) refl 18 (m (isText (name (x .r))) refl)
-  value-code (one text) false m = text-by (getElem? (f .names) (x .r)) refl 2 (m (isText (name (x .r))) refl)
-  value-code (one number) true m = number-case make (isNumber (x .lo)) 19 (m (isNumber (x .lo)) refl) (zeros (x .r ∷ x .hi ∷ []))
-  value-code (one number) false m = number-case make (isNumber (x .lo)) 3 (m (isNumber (x .lo)) refl) (zeros (x .r ∷ x .hi ∷ []))
-  value-code (optional yesNo) true m = same-if (zeros (x .r ∷ x .hi ∷ [])) 32
-  value-code (optional yesNo) false m = same-if (zeros (x .r ∷ x .hi ∷ [])) 32
-  value-code (optional text) true m = same-if (zeros (x .r ∷ x .hi ∷ [])) 32
-  value-code (optional text) false m = same-if (zeros (x .r ∷ x .hi ∷ [])) 32
-  value-code (optional number) true m = same-if (zeros (x .r ∷ x .hi ∷ [])) 32
-  value-code (optional number) false m = same-if (zeros (x .r ∷ x .hi ∷ [])) 32
-  value-code (list yesNo) true m = same-if (zeros (x .r ∷ x .hi ∷ [])) 32
-  value-code (list yesNo) false m = same-if (zeros (x .r ∷ x .hi ∷ [])) 32
-  value-code (list text) true m = same-if (zeros (x .r ∷ x .hi ∷ [])) 32
-  value-code (list text) false m = same-if (zeros (x .r ∷ x .hi ∷ [])) 32
-  value-code (list number) true m = same-if (zeros (x .r ∷ x .hi ∷ [])) 32
-  value-code (list number) false m = same-if (zeros (x .r ∷ x .hi ∷ [])) 32
-  value-code (listOfOptional yesNo) true m = same-if (zeros (x .r ∷ x .hi ∷ [])) 32
-  value-code (listOfOptional yesNo) false m = same-if (zeros (x .r ∷ x .hi ∷ [])) 32
-  value-code (listOfOptional text) true m = same-if (zeros (x .r ∷ x .hi ∷ [])) 32
-  value-code (listOfOptional text) false m = same-if (zeros (x .r ∷ x .hi ∷ [])) 32
-  value-code (listOfOptional number) true m = same-if (zeros (x .r ∷ x .hi ∷ [])) 32
-  value-code (listOfOptional number) false m = same-if (zeros (x .r ∷ x .hi ∷ [])) 32
-  value-code (optionalList yesNo) true m = same-if (zeros (x .r ∷ x .hi ∷ [])) 32
-  value-code (optionalList yesNo) false m = same-if (zeros (x .r ∷ x .hi ∷ [])) 32
-  value-code (optionalList text) true m = same-if (zeros (x .r ∷ x .hi ∷ [])) 32
-  value-code (optionalList text) false m = same-if (zeros (x .r ∷ x .hi ∷ [])) 32
-  value-code (optionalList number) true m = same-if (zeros (x .r ∷ x .hi ∷ [])) 32
-  value-code (optionalList number) false m = same-if (zeros (x .r ∷ x .hi ∷ [])) 32
-
-same-base-kind : (b : Base) → baseKind b (one b) ≡ some (one b)
-unfolding baseKind sameKind sameBase shapeOf innerBase baseNumber if_then_else_
-same-base-kind yesNo = refl
-same-base-kind text = refl
-same-base-kind number = refl
+  unfolding fallbackValue fallbackBy codeOf kindCode baseCode baseOf _>>?_ if_then_else_
+  value-code (one yesNo) r m =
+      let v = isYes (eqb (x .lo) 1) in
+      rw (code-part (one yesNo) r, ltb-not 1 (x .lo)) (yes-case make v _ (m v refl) (leb (x .lo) 1) (zeros (x .r ∷ x .hi ∷ [])))
+  value-code (one text) r m =
+      rw (code-part (one text) r) (text-by (getElem? (f .names) (x .r)) refl _ (m (isText (name (x .r))) refl))
+  value-code (one number) r m =
+      let v = isNumber (x .lo) in
+      rw (code-part (one number) r) (number-case make v _ (m v refl) (zeros (x .r ∷ x .hi ∷ [])))
+  value-code (optional b) r m = above (optional b) r (omega (arith, base-code b))
+  value-code (list b) r m = above (list b) r (omega (arith, base-code b))
+  value-code (listOfOptional b) r m = above (listOfOptional b) r (omega (arith, base-code b))
+  value-code (optionalList b) r m = above (optionalList b) r (omega (arith, base-code b))
 
 fallback-made : (v : BaseValue) (t : Tree) → kindOf t ≡ some (one (baseOf v)) → codeOf (fitting (Fallback v t)) ≡ codeWith (some (one (baseOf v))) (hasRepeat t)
 unfolding treeCode kindOf hasRepeat _>>?_

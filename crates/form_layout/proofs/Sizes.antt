@@ -13,12 +13,15 @@ use borrow.Author.Tests.{le-leb, lt-leb, leb-true, eqb-true, not-true, not-false
 use Rattle.wire.specs.Wire.{numberAt}
 use Rattle.rules.specs.Base.{numbers}
 use Rattle.rules.specs.Form.{Name, nodeCount, fieldCount, nameCount, areaLength, countsGood, nodesAt, namesAt, areaAt, formLength, readNode, readName, readForm, nameBytes, nameGood}
-use Rattle.rules.specs.Accept.{lengthGood}
-use Rattle.rules.proofs.Acceptance.{and-true, numbers-length, no-fault, All-at}
+use Rattle.rules.specs.Accept.{lengthGood, Accepted, accepted, checkForm}
+use Rattle.rules.specs.Codes.{checkCode}
+use Rattle.rules.specs.declared.Refused.{Refused}
+use Rattle.rules.proofs.Acceptance.{and-true, numbers-length, no-fault, good-no-fault, All-at, accepted-length, accepted-passed}
+use Rattle.rules.proofs.GivenLaws.{check-accepted}
 use Rattle.form_names.specs.Names.{nameOf}
 use Rattle.form_names.specs.declared.Name as names
 use Rattle.form_layout.specs.declared.Node as declared
-use Rattle.form_layout.specs.Layout.{nodeOf, within, HasName, nameBytesAt}
+use Rattle.form_layout.specs.Layout.{nodeOf, within, GoodNames, HasName, nameBytesAt}
 
 pub record Counted (b : List ℕ) : Type 0 where
   pub long : 8 ≤ length b
@@ -195,6 +198,27 @@ module _ (b : List ℕ) where
   pub names-length : length (readForm b .names) ≡ nameCount b
   unfolding readForm
   names-length = length-map (numbers (nameCount b) 0) _ ∙ numbers-length (nameCount b) 0
+
+-- ---- nodes
+pub node-below : (b : List ℕ) (k n : ℕ) → n ≡ nodeCount b → k < n → k < nodeCount b
+node-below b k n e h = omega arith
+
+-- ---- good names
+pub accepted-names : (b : List ℕ) (a : Accepted) → checkForm b ≡ accepted a → GoodNames b
+accepted-names b a e = record { good = accepted-length b a e; names = good-no-fault _ 0 _ (accepted-passed b a e .names) }
+
+pub check-names : (b : List ℕ) (r : Refused) → r ≡ checkCode (checkForm b) → r .number ≡ 0 → GoodNames b
+check-names b r e z = let (a, h) = check-accepted b r e z in accepted-names b a h
+
+module _ (b : List ℕ) (g : GoodNames b) where
+  pub names-long : 8 ≤ length b
+  names-long = sized b (g .good) .counts .long
+
+  pub names-few : nameCount b ≤ 128
+  names-few = sized b (g .good) .counts .names
+
+  pub has-name : (k m : ℕ) → m ≡ nameCount b → k < m → HasName b k
+  has-name k m e h = record { good = g .good; names = g .names; below = omega arith }
 
 -- ---- the bytes of a good name
 module _ (b : List ℕ) (k : ℕ) (h : HasName b k) (x : names.Name) (e : getElem? (readForm b .names) k ≡ some (nameOf x)) (at : ℕ) (a : at ≡ areaAt b) where

@@ -22,7 +22,12 @@ within lo n hi = leb lo n && leb n hi
 unfoldable pub nameBytesAt : Form → ℕ → Option (List ℕ)
 nameBytesAt f k = elim (getElem? (f .names) k) [ none ↦ none | some x ↦ some (nameBytes (f .area) x) ]
 
--- a form of the right length whose name records are good, of which k is one
+-- a form of the right length whose name records are good
+pub record GoodNames (b : List ℕ) : Type 0 where
+  pub good : lengthGood b ≡ true
+  pub names : firstFault (nameGood (readForm b .area)) 0 (readForm b .names) ≡ none
+
+-- one of the good name records of a form
 pub record HasName (b : List ℕ) (k : ℕ) : Type 0 where
   pub good : lengthGood b ≡ true
   pub names : firstFault (nameGood (readForm b .area)) 0 (readForm b .names) ≡ none

@@ -17,9 +17,9 @@ use Rattle.rules.specs.Tree.{Named, Tree, zeros, shortOf, namedOf, namedBy, fla
 use Rattle.rules.specs.Accept.{accepted, Accepted, treesFrom, checkForm, shortNames, lettersFor, lettersOf}
 use Rattle.rules.proofs.Acceptance.{if-some, bind-some, trees-step, accepted-passed}
 use Rattle.rules.proofs.LetterLaws.{SameLetters}
-use Rattle.take_search.specs.Codes.{namesFrom, namedAt as namedFrom}
-use Rattle.take_search.proofs.Names.{contains-append}
-use Rattle.take_search.proofs.Tables.{named-at}
+use Rattle.form_codes.specs.Codes.{namesFrom, namedAt as namedFrom}
+use Rattle.rules.proofs.ContainsLaws.{contains-append}
+use Rattle.form_codes.proofs.NameCodes.{named-at}
 use Rattle.form_letters.specs.Classes.{namedAt}
 use Rattle.form_letters.specs.Letters.{lettersFrom, lettersByName}
 

@@ -1,7 +1,7 @@
 -- Letters appended to the words of a slice, record by record.
 use mathlib.Core.Path.{_≡_, refl, sym, ap, _∙_}
 use mathlib.Core.Bool.{Bool, true, false, not}
-use mathlib.Core.List.{List, [], _∷_, _++_, map, append-assoc, append-nil}
+use mathlib.Core.List.{List, [], _∷_, _++_, append-assoc, append-nil}
 use mathlib.Core.Option.{Option, some, none}
 use Prim.Native.Nat.{ℕ, zero, suc, _+_, _-_, _≤_, _<_}
 use native.Mathlib.Nat.{add-zero, add-suc, suc-add, zero-add}
@@ -9,8 +9,8 @@ use native.Mathlib.Numerals.{add-one}
 use native.Mathlib.Omega.{arith}
 use lib.Bits.{bitAnd}
 use lib.Dec.{eqb}
-use lib.ListN.{length, getD, getElem?, drop, set, length-append, drop-of-length-le}
-use lib.Seq.{sets, getD-take}
+use lib.ListN.{length, getD, take, drop, set, replicate, length-append, length-replicate, drop-of-length-le}
+use lib.Seq.{sets, sets-eq, length-sets}
 use borrow.Author.Tests.{not-true, not-false}
 use Rattle.utf8.specs.Utf8.{if_then_else_}
 use Rattle.rules.specs.Codes.{placeCode}
@@ -18,9 +18,11 @@ use Rattle.rules.specs.Form.{Node, Name, nameCount, readForm, nameBytes, oneCha
 use Rattle.rules.specs.Tree.{shortOf}
 use Rattle.rules.proofs.Acceptance.{lookup-some}
 use Rattle.rules.proofs.Places.{drop-below}
-use Rattle.form_layout.proofs.Sizes.{names-length}
-use Rattle.take_search.specs.Codes.{codeOf, codesOf, Coded}
-use Rattle.form_letters.specs.Letters.{lettersFrom, lettersByName, Wrote, letterList, letterIf, Appended}
+use Rattle.form_layout.specs.Layout.{GoodNames}
+use Rattle.form_layout.proofs.Sizes.{names-length, names-few}
+use Rattle.form_codes.specs.Codes.{codeOf, CodedNames}
+use Rattle.form_codes.proofs.NameCodes.{code-at}
+use Rattle.form_letters.specs.Letters.{lettersFrom, lettersByName, Wrote, WroteLetters, letterList, letterIf, Appended}
 use Rattle.form_letters.specs.Classes.{namedAt, bits, classOf, Classed}
 
 -- ---- one letter
@@ -74,18 +76,6 @@ module _ (xs : List Node) (count : ℕ) (t : List ℕ) (z : Classed xs count t) 
 
 -- ---- a record's code
 
-mapped-at : {A : Type 0} (f : A → ℕ) (l : List A) (k : ℕ) (x : A) → getElem? l k ≡ some x → getD (map f l) k 0 ≡ f x
-mapped-at f [] k x e = let z : _≡_ {A = ℕ} 0 1 = cc in absurd (omega arith)
-mapped-at f (y ∷ l) zero x e = let z : y ≡ x = cc in rw z
-mapped-at f (y ∷ l) (suc k) x e = mapped-at f l k x e
-
-code-at : (b codes : List ℕ) (k : ℕ) (x : Name) → Coded b codes → k < nameCount b → getElem? (readForm b .names) k ≡ some x
-    → getD codes k 0 ≡ codeOf (readForm b .area) x
-unfolding codesOf
-code-at b codes k x z h e =
-    sym (getD-take (nameCount b) codes k 0 h)
-    ∙ rw (z .same) (mapped-at (codeOf (readForm b .area)) (readForm b .names) k x e)
-
 short-letter : (area : List ℕ) (x : Name) → letterList (codeOf area x) ≡ shortOf area x
 unfolding codeOf shortOf letterList if_then_else_
 short-letter area x = go (eqb (x .type) 0) (oneCharacter (nameBytes area x))
@@ -115,7 +105,7 @@ module _ (b : List ℕ) (kind : ℕ) (o₀ : List ℕ) where
   written-first = record { done = []; words = refl; count = refl; few = omega arith; same = refl }
 
   module _ (o : List ℕ) (n k m : ℕ) (z : Written b kind o₀ o n k) (em : m ≡ nameCount b) where
-    module _ (h : k < m) (codes : List ℕ) (coded : Coded b codes) (code : ℕ) (ec : code ≡ getD codes k 0) (wanted : Bool) (ew : wanted ≡ namedAt (readForm b .nodes) kind k) where
+    module _ (h : k < m) (codes : List ℕ) (coded : CodedNames b codes) (code : ℕ) (ec : code ≡ getD codes k 0) (wanted : Bool) (ew : wanted ≡ namedAt (readForm b .nodes) kind k) where
       letters-step :
           z .done ++ (letterIf wanted code ++ lettersFrom (readForm b .area) (namedAt (readForm b .nodes) kind) (suc k) (drop (suc k) (readForm b .names)))
           ≡ lettersByName (readForm b) kind
@@ -144,3 +134,49 @@ module _ (b : List ℕ) (kind : ℕ) (o₀ : List ℕ) where
         let all : z .done ≡ lettersByName (readForm b) kind =
         sym (append-nil (z .done)) ∙ rw (drop-of-length-le (readForm b .names) {i = k} (omega (arith, names-length b))) at (z .same) in
         record { words = rw (← all) (z .words); count = rw (← all) (z .count) }
+
+-- ---- how many there are
+short-few : (a : List ℕ) (m : Name) → length (shortOf a m) ≤ 1
+unfolding shortOf if_then_else_
+short-few a m = go (eqb (m .type) 0) refl (oneCharacter (nameBytes a m)) refl
+  where
+    go : (t : Bool) → eqb (m .type) 0 ≡ t → (o : Option ℕ) → oneCharacter (nameBytes a m) ≡ o → length (shortOf a m) ≤ 1
+    go false e o h = rw e (omega arith)
+    go true e none h = rw (e, h, shortOf) (omega arith)
+    go true e (some c) h = rw (e, h, shortOf) (omega arith)
+
+letters-few : (a : List ℕ) (wanted : ℕ → Bool) (k : ℕ) (ms : List Name) → length (lettersFrom a wanted k ms) ≤ length ms
+unfolding lettersFrom if_then_else_
+letters-few a wanted k [] = omega arith
+letters-few a wanted k (m ∷ ms) = go (letters-few a wanted (suc k) ms) (wanted k) refl
+  where
+    go : length (lettersFrom a wanted (suc k) ms) ≤ length ms → (t : Bool) → wanted k ≡ t → length (lettersFrom a wanted k (m ∷ ms)) ≤ suc (length ms)
+    go rest true e = rw e (omega (arith, length-append (shortOf a m) (lettersFrom a wanted (suc k) ms), short-few a m, rest))
+    go rest false e = rw e (omega (arith, rest))
+
+take-front : (w l : List ℕ) → take (length w) (w ++ l) ≡ w
+take-front [] l = refl
+take-front (x ∷ w) l = ap {B = List ℕ} (λ r. x ∷ r) (take-front w l)
+
+take-set : (w o : List ℕ) → length w ≤ length o → take (length w) (sets o 0 w) ≡ w
+take-set w o h = ap (λ (l : List ℕ). take (length w) l) (sets-eq w o 0 (omega (arith, h))) ∙ take-front w _
+
+-- a buffer of 128 words that holds the letters of a kind
+module _ (b : List ℕ) (kind : ℕ) (o p : List ℕ) (n : ℕ) (g : GoodNames b) (z : o ≡ replicate 128 0)
+    (w : WroteLetters b kind o p n) where
+  long : length o ≡ 128
+  long = ap length z ∙ length-replicate {A = ℕ} 128 0
+
+  few : length (lettersByName (readForm b) kind) ≤ 128
+  few = omega (arith, letters-few (readForm b .area) (namedAt (readForm b .nodes) kind) 0 (readForm b .names), names-length b, names-few b g)
+
+  pub letters-fit : n ≤ length p
+  letters-fit =
+      omega (arith, w .count, few, long, ap length (w .words) ∙ length-sets o 0 (lettersByName (readForm b) kind))
+
+  pub letters-taken : take n p ≡ lettersByName (readForm b) kind
+  letters-taken =
+      let l = lettersByName (readForm b) kind in
+      ap (λ (k : ℕ). take k p) (w .count)
+      ∙ ap (λ (x : List ℕ). take (length l) x) (w .words)
+      ∙ take-set l o (omega (arith, few, long))

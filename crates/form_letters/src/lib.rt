@@ -8,8 +8,8 @@ ghost use lib.Dec.{eqb};
 ghost use lib.ListN.{length, replicate};
 ghost use Rattle.rules.specs.Form.{Node as RulesNode, nameCount, readForm};
 ghost use Rattle.rules.specs.Accept.{lengthGood};
-ghost use Rattle.form_layout.specs.Layout.{nodeOf};
-ghost use Rattle.take_search.specs.Codes.{Checked, Coded};
+ghost use Rattle.form_layout.specs.Layout.{nodeOf, GoodNames};
+ghost use Rattle.form_codes.specs.Codes.{CodedNames};
 ghost use Rattle.form_letters.specs.Letters.{WroteLetters, letterIf, Appended};
 ghost use Rattle.form_letters.specs.Classes.{Classed, Marked};
 
@@ -108,7 +108,7 @@ pub fn letters(
     flags: &mut [u32; 128],
     arguments: &mut [u32; 128],
 ) -> Counts
-    requires { ⌜ Checked (now form) × Coded (now form) (now codes) ⌝ }
+    requires { ⌜ GoodNames (now form) × CodedNames (now form) (now codes) ⌝ }
     ensures { λ r. ⌜ WroteLetters (now (form .entry)) 1 (now (flags .entry)) (now (flags .exit)) (r .flags) ⌝ }
     ensures { λ r. ⌜ WroteLetters (now (form .entry)) 2 (now (arguments .entry)) (now (arguments .exit)) (r .arguments) ⌝ }
 {

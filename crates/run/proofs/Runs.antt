@@ -30,14 +30,14 @@ use Rattle.state_marks.specs.Lent.{rawOf, numbersOf, stateOf, Fine}
 use Rattle.rules.proofs.CodeLaws.{place-code, code-place}
 use Rattle.rules.proofs.GivenLaws.{run-form, run-sheet, run-short, run-cramped, run-goes}
 use Rattle.state_marks.proofs.Laws.{raw-back}
-use Rattle.take_search.specs.Codes.{Coded}
+use Rattle.form_codes.specs.Codes.{CodedNames}
 use Rattle.take_search.specs.Items.{Table}
 use Rattle.take_table.specs.Known.{Matchable, Known}
 use Rattle.eval_told.specs.Told.{Told}
 use Rattle.split_args.proofs.States.{padded-words, all-zero, fill-long}
 use Rattle.split_args.specs.declared.Ended.{Ended as Split}
 use Rattle.split_args.specs.Construct.{rawOf as begun, Unmarked, Ends, refusalNumber, refusalPlace}
-use Rattle.call_check.proofs.Checks.{check-accepted}
+use Rattle.rules.proofs.GivenLaws.{check-accepted}
 use Rattle.run_fields.specs.Line.{Starts, toldAll, Reaches, refusedWith}
 use Rattle.run_fields.specs.declared.Reached.{Reached}
 use Rattle.run.specs.Runner.{Ended, runAnswer, ended, answerOf, shortSlices, Checked, Begins}
@@ -247,7 +247,7 @@ module _ (form sheet i a : List ℕ) (c : Checked form sheet i a) (a′ : List �
     unfolding stateOf
     same-state = rw state (from-to (w .line .state))
 
-    pub fields-start : (codes : List ℕ) → Coded form codes → Begins form codes sheet i′ m p 0 a′
+    pub fields-start : (codes : List ℕ) → CodedNames form codes → Begins form codes sheet i′ m p 0 a′
     unfolding parsed parsedMark
     fields-start codes k = record {
       result = c .ready .result;

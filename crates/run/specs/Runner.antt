@@ -14,10 +14,10 @@ use Rattle.rules.specs.Run.{Report, parsedMark}
 use Rattle.rules.specs.Calls.{toRaw}
 use Rattle.state_marks.specs.declared.Numbers.{Numbers}
 use Rattle.state_marks.specs.Lent.{rawOf}
-use Rattle.take_search.specs.Codes.{Coded}
+use Rattle.form_codes.specs.Codes.{CodedNames}
 use Rattle.take.specs.Takes as takes
 use Rattle.run_fields.specs.declared.Reached.{Reached}
-use Rattle.call_check.specs.Ready.{Ready}
+use Rattle.split_line.specs.Input.{Splittable}
 use Rattle.run.specs.declared.RunAnswer.{RunAnswer}
 
 -- the answer, and what both slices hold
@@ -61,7 +61,7 @@ shortSlices ni na = ltb ni 1792 || ltb na 8240
 
 -- ---- what is known once every test is passed
 pub record Checked (form sheet items answers : List ℕ) : Type 0 where
-  pub ready : Ready form sheet items
+  pub ready : Splittable form sheet items
   pub space : 8240 ≤ length answers
 
 -- the items of an accepted form's line, the codes of its names, a state over the items, the number of the first field, and an
@@ -69,7 +69,7 @@ pub record Checked (form sheet items answers : List ℕ) : Type 0 where
 pub record Begins (b codes s words m : List ℕ) (p : Numbers) (first : ℕ) (o : List ℕ) : Type 0 where
   pub result : Accepted
   pub accepts : checkForm b ≡ accepted result
-  pub coded : Coded b codes
+  pub coded : CodedNames b codes
   pub made : sheetFault s ≡ 0
   pub state : takes.Ready (sheetArea s) words m p parsedMark
   pub small : first ≤ 4096

@@ -101,8 +101,8 @@ fn run_checked(
 {
     wire::fill(answers, 0, answers.len(), 0);
     let mut codes = no_codes();
-    take_search::codes(form, &mut codes);
-    let split = call_check::split_accepted(form, &codes, sheet, items);
+    form_codes::codes(form, &mut codes);
+    let split = split_line::split(form, &codes, sheet, items);
     let p = split_args::begin(split.count, split.marker, marks);
     if split.number != 0 {
         return run_fields::refused(split.number, split.place, 0, p);

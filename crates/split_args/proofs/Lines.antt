@@ -3,15 +3,15 @@ use mathlib.Core.Path.{_≡_, refl, sym, _∙_, ap, ap₂, subst}
 use mathlib.Core.Bool.{Bool, true, false}
 use mathlib.Core.List.{List, [], _∷_, _++_, flatten, append-assoc, append-nil}
 use mathlib.Core.Option.{Option, some, none}
-use Prim.Native.Nat.{ℕ, zero, suc, _+_, _-_, _*_, _≤_, _<_}
+use Prim.Native.Nat.{ℕ, zero, suc, _+_, _-_, _*_, _^_, _≤_, _<_}
 use native.Mathlib.Numerals.{add-one}
 use native.Mathlib.Omega.{arith}
 use lib.Dec.{leb}
-use lib.ListN.{length, drop, replicate, length-append, length-replicate, drop-of-length-le}
+use lib.ListN.{length, drop, replicate, length-append, drop-of-length-le}
 use lib.Seq.{sets, length-sets}
 use borrow.Author.Tests.{lt-ltb, le-ltb}
 use Rattle.utf8.specs.Utf8.{if_then_else_}
-use Rattle.wire.specs.Wire.{numberAt, offset, entryOf, HasEntry}
+use Rattle.wire.specs.Wire.{numberAt, areaStart, offset, entryOf, HasEntry}
 use Rattle.wire.specs.Laws.{good-table}
 use Rattle.rules.specs.Base.{concatMap}
 use Rattle.rules.specs.Outcome.{Outcome, ok, refused, fault, _>>=_, refuse}
@@ -26,8 +26,8 @@ use Rattle.split_arg.proofs.LookUp.{ok-same}
 use Rattle.split_group.specs.declared.Group.{Group as Made}
 use Rattle.split_group.specs.Groups.{stored, Fits, Makes}
 use Rattle.split_group.proofs.Stores.{sets-append, no-room, has-room}
-use Rattle.split_args.specs.Construct.{groupAt, markerAfter, lineFor, refusalNumber, refusalPlace, Ends}
-use Rattle.split_args.proofs.Sheets.{Checked, arguments-length, has-entry, argument-next, argument-end, argument-fits}
+use Rattle.split_args.specs.Construct.{groupAt, markerAfter, lineFor, refusalNumber, refusalPlace, Cleared, Ends}
+use Rattle.split_args.proofs.Sheets.{Checked, checked, arguments-length, has-entry, argument-next, argument-end, argument-fits, offset-there}
 use Rattle.split_args.proofs.States.{markerOf, starts, empty-raw, zeroed, padded-words}
 
 -- the others, where the first `--` was seen at a place (plus 1) or not
@@ -49,10 +49,23 @@ unfolding groupAt
 group-later l zero os h = absurd (h refl)
 group-later l (suc i) os h = refl
 
+-- ---- places are small
+pub fits-32 : (n : ℕ) → n ≤ 256 → n < 2 ^ 32
+fits-32 n h = omega arith
+
+pub fits-64 : (n : ℕ) → n ≤ 256 → n < 2 ^ 64
+fits-64 n h = omega arith
+
+pub records-fit : (n : ℕ) → n ≤ 256 → 7 * n < 2 ^ 64
+records-fit n h = omega arith
+
 -- ---- the loop's state
 -- groups in front of a split
 abbrev pub front : List (List Item) → ℕ → Split → Split
 front gs m y = record { groups = gs ++ y .groups; marker = markerFirst m (y .marker); ambiguous = y .ambiguous }
+
+pub two-bytes : (s o : List ℕ) → Cleared s o → 2 ≤ length s
+two-bytes s o g = checked s (g .given .checked) .two
 
 pub count-is : (s : List ℕ) (n : ℕ) → n ≡ numberAt 2 s 0 → n ≡ argumentCount s
 unfolding argumentCount
@@ -76,9 +89,10 @@ pub record Going (l : Letters) (s : List ℕ) (n : ℕ) (o : List ℕ) (k at m :
   pub within : k ≤ argumentCount s
   pub long : length o ≡ n
 
-pub going-first : (l : Letters) (s : List ℕ) (n : ℕ) (o : List ℕ) → Checked s → o ≡ replicate n 0 → Going l s n o 0 0 0
+pub going-first : (l : Letters) (s o : List ℕ) → Cleared s o → Going l s (length o) o 0 0 0
 unfolding restFrom markerFirst flatten
-going-first l s n o h e =
+going-first l s o g =
+    let h = checked s (g .given .checked) in
     let x = split-ok l 0 (arguments s) in
     let first = good-table 2 (argumentCount s) s (h .good) .first in
     record {
@@ -90,12 +104,12 @@ going-first l s n o h e =
       left = x .1;
       joins = refl;
       recorded = λ ys. rw first;
-      put = e;
+      put = g .zeros;
       size = refl;
       places = refl;
       few = omega arith;
       within = omega arith;
-      long = ap length e ∙ length-replicate {A = ℕ} n 0;
+      long = refl;
     }
 
 bind-ok : {A B : Type 0} (o : Outcome A) (f : A → Outcome B) (b : B) → (o >>= f) ≡ ok b → (a : A) × (o ≡ ok a) × (f a ≡ ok b)
@@ -246,187 +260,204 @@ module _ (l : Letters) (s : List ℕ) (n : ℕ) (o : List ℕ) (x : Split) (c m 
       }
 
 -- ---- a turn of the loop
-module _ (l : Letters) (s : List ℕ) (n : ℕ) (o : List ℕ) (k at m : ℕ) (h : Checked s) (z : Going l s n o k at m) (t : k < argumentCount s) where
+module _ (l : Letters) (s items : List ℕ) (given : Cleared s items) (o : List ℕ) (k at m : ℕ) (z : Going l s (length items) o k at m)
+    (c : ℕ) (f : c ≡ argumentCount s) (t : k < c) where
+  abbrev n : ℕ
+  n = length items
+
+  h : Checked s
+  h = checked s (given .given .checked)
+
+  inside : k < argumentCount s
+  inside = omega arith
+
   abbrev here : List ℕ
   here = entryOf 2 (argumentCount s) s k
 
+  pub has-offset : areaStart 2 k ≤ length s
+  has-offset = offset-there s h k inside
+
+  pub has-argument : HasEntry 2 c s k
+  has-argument = rw f (has-entry s h k inside)
+
   -- what the code calls the argument and its offset
-  module _ (os : List ℕ) (begin c : ℕ) (e : os ≡ entryOf 2 c s k) (f : c ≡ argumentCount s) (b : begin ≡ offset 2 s k) where
-    pub has-argument : HasEntry 2 c s k
-    has-argument = rw f (has-entry s h k t)
-
+  module _ (os : List ℕ) (begin : ℕ) (e : os ≡ entryOf 2 c s k) (b : begin ≡ offset 2 s k) where
     pub fits-here : Fits os begin at
-    fits-here = rw (e, f, b) (argument-fits s h k t at (z .few))
+    fits-here = rw (e, f, b) (argument-fits s h k inside at (z .few))
 
-    pub made-here : (p : List ℕ) (r : Made) → Makes os begin at o p r (groupAt l m os) → Makes here (offset 2 s k) at o p r (groupAt l m here)
-    made-here p r w =
-        subst (λ (x : List ℕ). Makes x (offset 2 s k) at o p r (groupAt l m x)) (e ∙ ap (λ (j : ℕ). entryOf 2 j s k) f)
-        (subst (λ (y : ℕ). Makes os y at o p r (groupAt l m os)) b w)
+    module _ (p : List ℕ) (r : Made) (made : Makes os begin at o p r (groupAt l m os)) where
+      w : Makes here (offset 2 s k) at o p r (groupAt l m here)
+      w =
+          subst (λ (x : List ℕ). Makes x (offset 2 s k) at o p r (groupAt l m x)) (e ∙ ap (λ (j : ℕ). entryOf 2 j s k) f)
+          (subst (λ (y : ℕ). Makes os y at o p r (groupAt l m os)) b made)
 
-  module _ (p : List ℕ) (r : Made) (w : Makes here (offset 2 s k) at o p r (groupAt l m here)) where
-    items : List Item
-    items = w .group .items
+      recs : List ℕ
+      recs = concatMap (itemWords (offset 2 s k) (offset 2 s k + length here)) (w .group .items)
 
-    recs : List ℕ
-    recs = concatMap (itemWords (offset 2 s k) (offset 2 s k + length here)) (w .group .items)
+      next : Follows l at m here (drop (k + 1) (arguments s)) (w .group .items) (w .group .ambiguous) (w .group .marker) (z .rest)
+      next = follows l at m here (drop (k + 1) (arguments s)) (w .group) (z .rest) (w .same) (rw (argument-next s h k inside) at (z .left))
 
-    next : Follows l at m here (drop (k + 1) (arguments s)) (w .group .items) (w .group .ambiguous) (w .group .marker) (z .rest)
-    next = follows l at m here (drop (k + 1) (arguments s)) (w .group) (z .rest) (w .same) (rw (argument-next s h k t) at (z .left))
+      count : r .count ≡ length (w .group .items)
+      count = ap (λ (x : Made). x .count) (w .told≡)
 
-    count : r .count ≡ length (w .group .items)
-    count = ap (λ (x : Made). x .count) (w .told≡)
+      groups : z .whole .groups ≡ z .done ++ (w .group .items ∷ next .later)
+      groups = ap (λ (x : Split). x .groups) (z .joins) ∙ ap (λ (gs : List (List Item)). z .done ++ gs) (next .groups)
 
-    groups : z .whole .groups ≡ z .done ++ (w .group .items ∷ next .later)
-    groups = ap (λ (x : Split). x .groups) (z .joins) ∙ ap (λ (gs : List (List Item)). z .done ++ gs) (next .groups)
+      total : length (itemsOf (z .whole)) ≡ at + (length (w .group .items) + length (flatten (next .later)))
+      unfolding itemsOf flatten
+      total =
+          let e = z .places in
+          let f = ap (λ (gs : List (List Item)). length (flatten gs)) groups in
+          omega (
+            arith,
+            ap length (flatten-append (z .done) (w .group .items ∷ next .later)),
+            length-append (flatten (z .done)) (flatten (w .group .items ∷ next .later)),
+            length-append (w .group .items) (flatten (next .later)),
+          )
 
-    total : length (itemsOf (z .whole)) ≡ at + (length (w .group .items) + length (flatten (next .later)))
-    unfolding itemsOf flatten
-    total =
-        let e = z .places in
-        let f = ap (λ (gs : List (List Item)). length (flatten gs)) groups in
-        omega (
-          arith,
-          ap length (flatten-append (z .done) (w .group .items ∷ next .later)),
-          length-append (flatten (z .done)) (flatten (w .group .items ∷ next .later)),
-          length-append (w .group .items) (flatten (next .later)),
-        )
+      pub made-long : length p ≡ n
+      made-long = ap length (w .words) ∙ stored-long o at (length (w .group .items)) _ ∙ z .long
 
-    pub made-long : length p ≡ n
-    made-long = ap length (w .words) ∙ stored-long o at (length (w .group .items)) _ ∙ z .long
+      pub filled-long : (q : List ℕ) → q ≡ sets p 0 (replicate (7 * at) 0) → length q ≡ n
+      filled-long q e = ap length e ∙ length-sets p 0 (replicate (7 * at) 0) ∙ made-long
 
-    fits : r .count ≤ 256 - at → p ≡ sets o (7 * at) recs
-    unfolding recs
-    fits c = w .words ∙ sym (has-room o at (length (w .group .items)) _ (omega (arith, count, z .few)))
+      pub count-few : r .count ≤ 256 - at → at + r .count ≤ 256
+      count-few c = omega (arith, z .few)
 
-    written : r .count ≤ 256 - at → p ≡ sets (replicate n 0) 0 (z .words ++ recs)
-    written c =
-        let size = z .size in
-        let place : 7 * at ≡ 0 + length (z .words) = omega arith in
-        fits c
-        ∙ ap (λ (x : List ℕ). sets x (7 * at) recs) (z .put)
-        ∙ ap (λ (j : ℕ). sets (sets (replicate n 0) 0 (z .words)) j recs) place
-        ∙ sym (sets-append (z .words) recs (replicate n 0) 0)
+      fits : r .count ≤ 256 - at → p ≡ sets o (7 * at) recs
+      unfolding recs
+      fits c = w .words ∙ sym (has-room o at (length (w .group .items)) _ (omega (arith, count, z .few)))
 
-    more-records :
-        (ys : List (List Item))
-        → recordsFrom 0 (arguments s) (z .done ++ (w .group .items ∷ ys))
-        ≡ (z .words ++ recs) ++ recordsFrom (offset 2 s (k + 1)) (drop (k + 1) (arguments s)) ys
-    unfolding recordsFrom recs
-    more-records ys =
-        z .recorded (w .group .items ∷ ys)
-        ∙ ap (λ (args : List (List ℕ)). z .words ++ recordsFrom (offset 2 s k) args (w .group .items ∷ ys)) (argument-next s h k t)
-        ∙ ap (λ (b : ℕ). z .words ++ (recs ++ recordsFrom b (drop (k + 1) (arguments s)) ys)) (argument-end s h k t)
-        ∙ sym (append-assoc (z .words) recs (recordsFrom (offset 2 s (k + 1)) (drop (k + 1) (arguments s)) ys))
+      written : r .count ≤ 256 - at → p ≡ sets (replicate n 0) 0 (z .words ++ recs)
+      written c =
+          let size = z .size in
+          let place : 7 * at ≡ 0 + length (z .words) = omega arith in
+          fits c
+          ∙ ap (λ (x : List ℕ). sets x (7 * at) recs) (z .put)
+          ∙ ap (λ (j : ℕ). sets (sets (replicate n 0) 0 (z .words)) j recs) place
+          ∙ sym (sets-append (z .words) recs (replicate n 0) 0)
 
-    recs-size : length recs ≡ 7 * length (w .group .items)
-    unfolding recs recordsFrom flatten
-    recs-size =
-        let e = records-from-length (offset 2 s k) (here ∷ []) (w .group .items ∷ []) (omega arith) in
-        sym (ap length (append-nil recs)) ∙ e ∙ omega (arith, length-append (w .group .items) [])
+      more-records :
+          (ys : List (List Item))
+          → recordsFrom 0 (arguments s) (z .done ++ (w .group .items ∷ ys))
+          ≡ (z .words ++ recs) ++ recordsFrom (offset 2 s (k + 1)) (drop (k + 1) (arguments s)) ys
+      unfolding recordsFrom recs
+      more-records ys =
+          z .recorded (w .group .items ∷ ys)
+          ∙ ap (λ (args : List (List ℕ)). z .words ++ recordsFrom (offset 2 s k) args (w .group .items ∷ ys)) (argument-next s h k inside)
+          ∙ ap (λ (b : ℕ). z .words ++ (recs ++ recordsFrom b (drop (k + 1) (arguments s)) ys)) (argument-end s h k inside)
+          ∙ sym (append-assoc (z .words) recs (recordsFrom (offset 2 s (k + 1)) (drop (k + 1) (arguments s)) ys))
 
-    -- ---- 8
-    pub too-many : 256 - at < r .count → (q : List ℕ) → q ≡ sets p 0 (replicate (7 * at) 0) → Ends l s n q (record { number = 8; place = 0; count = 0; marker = 0 })
-    unfolding tooMany padded
-    too-many c q e =
-        let same : p ≡ o = w .words ∙ sym (no-room o at (length (w .group .items)) _ (omega (arith, count, z .few))) in
-        let zero : n - 0 ≡ n = omega arith in
-        record {
-          line = tooMany;
-          same = too-long l s (z .whole) (z .all) (omega (arith, total, count, z .few));
-          number = refl;
-          place = refl;
-          words =
-              e
-              ∙ ap (λ (x : List ℕ). sets x 0 (replicate (7 * at) 0)) (same ∙ z .put)
-              ∙ zeroed (z .words) n 0 (7 * at) (z .size)
-              ∙ ap (λ (j : ℕ). replicate {A = ℕ} j 0) (sym zero);
-          marked = record { few = omega arith; within = omega arith };
-          state = empty-raw;
-        }
+      recs-size : length recs ≡ 7 * length (w .group .items)
+      unfolding recs recordsFrom flatten
+      recs-size =
+          let e = records-from-length (offset 2 s k) (here ∷ []) (w .group .items ∷ []) (omega arith) in
+          sym (ap length (append-nil recs)) ∙ e ∙ omega (arith, length-append (w .group .items) [])
 
-    -- ---- on with the next
-    pub goes-on :
-        r .count ≤ 256 - at
-        → r .ambiguous ≤ 0
-        → (m′ : ℕ)
-        → m′ ≡ markerAfter m (r .marker) at
-        → Going l s n p (k + 1) (at + r .count) m′
-    unfolding flatten
-    goes-on c a m′ e =
-        let none-left = code-none (w .group .ambiguous) (λ i. omega (arith, ap (λ (x : Made). x .ambiguous) (w .told≡))) in
-        let x = next .goes none-left in
-        let marker : m′ ≡ markerAfter m (w .group .marker) at = e ∙ ap (λ (b : Bool). markerAfter m b at) (ap (λ (x : Made). x .marker) (w .told≡)) in
-        record {
-          done = z .done ++ (w .group .items ∷ []);
-          words = z .words ++ recs;
-          whole = z .whole;
-          rest = x .0;
-          all = z .all;
-          left = ap₂ (λ (a b : ℕ). restFrom l a (at + b) (drop (k + 1) (arguments s))) marker count ∙ x .1;
-          joins =
-              z .joins
-              ∙ (λ i. record {
-                groups = (ap (λ (gs : List (List Item)). z .done ++ gs) (next .groups ∙ ap (λ (gs : List (List Item)). w .group .items ∷ gs) (x .2))
-                    ∙ sym (append-assoc (z .done) (w .group .items ∷ []) (x .0 .groups))) i;
-                marker = (x .3 ∙ ap (λ (j : ℕ). markerFirst j (x .0 .marker)) (sym marker)) i;
-                ambiguous = x .4 i;
-              });
-          recorded = λ ys.
-              ap (recordsFrom 0 (arguments s)) (append-assoc (z .done) (w .group .items ∷ []) ys) ∙ more-records ys;
-          put = written c;
-          size = omega (arith, length-append (z .words) recs, z .size, recs-size, count);
-          places =
-              let e = z .places in
-              omega (
-                arith,
-                ap length (flatten-append (z .done) (w .group .items ∷ [])),
-                length-append (flatten (z .done)) (flatten (w .group .items ∷ [])),
-                length-append (w .group .items) [],
-                count,
-              );
-          few = omega (arith, z .few);
-          within = omega arith;
-          long = ap length (fits c) ∙ length-sets o (7 * at) recs ∙ z .long;
-        }
+      -- ---- 8
+      pub too-many : 256 - at < r .count → (q : List ℕ) → q ≡ sets p 0 (replicate (7 * at) 0) → Ends l s n q (record { number = 8; place = 0; count = 0; marker = 0 })
+      unfolding tooMany padded
+      too-many c q e =
+          let same : p ≡ o = w .words ∙ sym (no-room o at (length (w .group .items)) _ (omega (arith, count, z .few))) in
+          let zero : n - 0 ≡ n = omega arith in
+          record {
+            line = tooMany;
+            same = too-long l s (z .whole) (z .all) (omega (arith, total, count, z .few));
+            number = refl;
+            place = refl;
+            words =
+                e
+                ∙ ap (λ (x : List ℕ). sets x 0 (replicate (7 * at) 0)) (same ∙ z .put)
+                ∙ zeroed (z .words) n 0 (7 * at) (z .size)
+                ∙ ap (λ (j : ℕ). replicate {A = ℕ} j 0) (sym zero);
+            marked = record { few = omega arith; within = omega arith };
+            state = empty-raw;
+          }
 
-    -- ---- 9
-    module _ (room : 1792 ≤ n) (c : r .count ≤ 256 - at) (a : 0 < r .ambiguous) where
-      place : (i : ℕ) × (w .group .ambiguous ≡ some i)
-      place = code-some (w .group .ambiguous) (subst (λ (x : ℕ). 0 < x) (ap (λ (x : Made). x .ambiguous) (w .told≡)) a)
-
-      place-code : r .ambiguous ≡ suc (place .0)
-      place-code = ap (λ (x : Made). x .ambiguous) (w .told≡) ∙ ap placeCode (place .1)
-
-      whole-ambiguous : z .whole .ambiguous ≡ some (at + place .0)
-      whole-ambiguous = ap (λ (x : Split). x .ambiguous) (z .joins) ∙ next .stops (place .0) (place .1) .2
-
-      last-groups : z .whole .groups ≡ z .done ++ (w .group .items ∷ [])
-      last-groups = groups ∙ ap (λ (gs : List (List Item)). z .done ++ (w .group .items ∷ gs)) (next .stops (place .0) (place .1) .0)
-
-      last-total : length (itemsOf (z .whole)) ≡ at + r .count
+      -- ---- on with the next
+      pub goes-on :
+          r .count ≤ 256 - at
+          → r .ambiguous ≤ 0
+          → (m′ : ℕ)
+          → m′ ≡ markerAfter m (r .marker) at
+          → Going l s n p (k + 1) (at + r .count) m′
       unfolding flatten
-      last-total = omega (arith, total, count, ap (λ (gs : List (List Item)). length (flatten gs)) (next .stops (place .0) (place .1) .0))
+      goes-on c a m′ e =
+          let none-left = code-none (w .group .ambiguous) (λ i. omega (arith, ap (λ (x : Made). x .ambiguous) (w .told≡))) in
+          let x = next .goes none-left in
+          let marker : m′ ≡ markerAfter m (w .group .marker) at = e ∙ ap (λ (b : Bool). markerAfter m b at) (ap (λ (x : Made). x .marker) (w .told≡)) in
+          record {
+            done = z .done ++ (w .group .items ∷ []);
+            words = z .words ++ recs;
+            whole = z .whole;
+            rest = x .0;
+            all = z .all;
+            left = ap₂ (λ (a b : ℕ). restFrom l a (at + b) (drop (k + 1) (arguments s))) marker count ∙ x .1;
+            joins =
+                z .joins
+                ∙ (λ i. record {
+                  groups = (ap (λ (gs : List (List Item)). z .done ++ gs) (next .groups ∙ ap (λ (gs : List (List Item)). w .group .items ∷ gs) (x .2))
+                      ∙ sym (append-assoc (z .done) (w .group .items ∷ []) (x .0 .groups))) i;
+                  marker = (x .3 ∙ ap (λ (j : ℕ). markerFirst j (x .0 .marker)) (sym marker)) i;
+                  ambiguous = x .4 i;
+                });
+            recorded = λ ys.
+                ap (recordsFrom 0 (arguments s)) (append-assoc (z .done) (w .group .items ∷ []) ys) ∙ more-records ys;
+            put = written c;
+            size = omega (arith, length-append (z .words) recs, z .size, recs-size, count);
+            places =
+                let e = z .places in
+                omega (
+                  arith,
+                  ap length (flatten-append (z .done) (w .group .items ∷ [])),
+                  length-append (flatten (z .done)) (flatten (w .group .items ∷ [])),
+                  length-append (w .group .items) [],
+                  count,
+                );
+            few = omega (arith, z .few);
+            within = omega arith;
+            long = ap length (fits c) ∙ length-sets o (7 * at) recs ∙ z .long;
+          }
 
-      pub ambiguous-few : at + r .ambiguous ≤ at + r .count
-      ambiguous-few =
-          omega (arith, last-total, place-code, ambiguous-law l (arguments s) (z .whole) (at + place .0) (z .all) whole-ambiguous .1)
+      -- ---- 9
+      module _ (fit : r .count ≤ 256 - at) (a : 0 < r .ambiguous) where
+        place : (i : ℕ) × (w .group .ambiguous ≡ some i)
+        place = code-some (w .group .ambiguous) (subst (λ (x : ℕ). 0 < x) (ap (λ (x : Made). x .ambiguous) (w .told≡)) a)
 
-      pub ambiguous-letter : Ends l s n p (record { number = 9; place = at + r .ambiguous; count = at + r .count; marker = 0 })
-      unfolding ambiguity recordsFrom
-      ambiguous-letter =
-          let records : recordsFrom 0 (arguments s) (z .whole .groups) ≡ z .words ++ recs =
-          ap (recordsFrom 0 (arguments s)) last-groups ∙ more-records [] ∙ append-nil (z .words ++ recs) in
-          ends l s n p (z .whole) (at + r .count) 0 (z .all) last-total (omega (arith, z .few)) (omega arith)
-          (ambiguous-law l (arguments s) (z .whole) (at + place .0) (z .all) whole-ambiguous .0)
-          (written c ∙ ap (sets (replicate n 0) 0) (sym records))
-          (omega (arith, ap length records, length-append (z .words) recs, z .size, recs-size, count, z .few))
-          9 (at + r .ambiguous)
-          (sym (ap (λ (a : Option ℕ). refusalNumber (ambiguity a)) whole-ambiguous))
-          ((let e : at + r .ambiguous ≡ suc (at + place .0) = omega (arith, place-code) in e)
-          ∙ sym (ap (λ (a : Option ℕ). refusalPlace (ambiguity a)) whole-ambiguous))
+        place-code : r .ambiguous ≡ suc (place .0)
+        place-code = ap (λ (x : Made). x .ambiguous) (w .told≡) ∙ ap placeCode (place .1)
+
+        whole-ambiguous : z .whole .ambiguous ≡ some (at + place .0)
+        whole-ambiguous = ap (λ (x : Split). x .ambiguous) (z .joins) ∙ next .stops (place .0) (place .1) .2
+
+        last-groups : z .whole .groups ≡ z .done ++ (w .group .items ∷ [])
+        last-groups = groups ∙ ap (λ (gs : List (List Item)). z .done ++ (w .group .items ∷ gs)) (next .stops (place .0) (place .1) .0)
+
+        last-total : length (itemsOf (z .whole)) ≡ at + r .count
+        unfolding flatten
+        last-total = omega (arith, total, count, ap (λ (gs : List (List Item)). length (flatten gs)) (next .stops (place .0) (place .1) .0))
+
+        pub ambiguous-few : at + r .ambiguous ≤ 256
+        ambiguous-few =
+            omega (arith, last-total, place-code, ambiguous-law l (arguments s) (z .whole) (at + place .0) (z .all) whole-ambiguous .1, z .few)
+
+        pub ambiguous-letter : Ends l s n p (record { number = 9; place = at + r .ambiguous; count = at + r .count; marker = 0 })
+        unfolding ambiguity recordsFrom
+        ambiguous-letter =
+            let records : recordsFrom 0 (arguments s) (z .whole .groups) ≡ z .words ++ recs =
+            ap (recordsFrom 0 (arguments s)) last-groups ∙ more-records [] ∙ append-nil (z .words ++ recs) in
+            ends l s n p (z .whole) (at + r .count) 0 (z .all) last-total (omega (arith, z .few)) (omega arith)
+            (ambiguous-law l (arguments s) (z .whole) (at + place .0) (z .all) whole-ambiguous .0)
+            (written fit ∙ ap (sets (replicate n 0) 0) (sym records))
+            (omega (arith, ap length records, length-append (z .words) recs, z .size, recs-size, count, z .few, given .given .room))
+            9 (at + r .ambiguous)
+            (sym (ap (λ (a : Option ℕ). refusalNumber (ambiguity a)) whole-ambiguous))
+            ((let e : at + r .ambiguous ≡ suc (at + place .0) = omega (arith, place-code) in e)
+            ∙ sym (ap (λ (a : Option ℕ). refusalPlace (ambiguity a)) whole-ambiguous))
 
 -- ---- the last argument is done
-module _ (l : Letters) (s : List ℕ) (n : ℕ) (o : List ℕ) (k at m : ℕ) (z : Going l s n o k at m) (t : argumentCount s ≤ k) where
+module _ (l : Letters) (s items : List ℕ) (given : Cleared s items) (o : List ℕ) (k at m : ℕ) (z : Going l s (length items) o k at m)
+    (c : ℕ) (f : c ≡ argumentCount s) (t : c ≤ k) where
   no-more : drop k (arguments s) ≡ []
   no-more = let h : length (arguments s) ≤ k = omega (arith, arguments-length s) in drop-of-length-le (arguments s) h
 
@@ -459,7 +490,7 @@ module _ (l : Letters) (s : List ℕ) (n : ℕ) (o : List ℕ) (k at m : ℕ) (z
   unfolding itemsOf
   all-items = ap (λ (gs : List (List Item)). length (flatten gs)) all-groups ∙ sym (z .places)
 
-  pub marker-few : m ≤ at
+  marker-few : m ≤ at
   marker-few = go m marker-is
     where
       go : (m : ℕ) → z .whole .marker ≡ markerOf m → m ≤ at
@@ -469,16 +500,19 @@ module _ (l : Letters) (s : List ℕ) (n : ℕ) (o : List ℕ) (k at m : ℕ) (z
           let here = subst (λ (a : Option ℕ). MarkerAt (length (itemsOf (z .whole))) (hasMarker (arguments s)) a) e law in
           omega (arith, here .1, all-items)
 
-  pub all-done : 1792 ≤ n → Ends l s n o (record { number = 0; place = 0; count = at; marker = m })
+  pub marker-small : m ≤ 256
+  marker-small = omega (arith, marker-few, z .few)
+
+  pub all-done : Ends l s (length items) o (record { number = 0; place = 0; count = at; marker = m })
   unfolding ambiguity recordsFrom
-  all-done room =
+  all-done =
       let records : recordsFrom 0 (arguments s) (z .whole .groups) ≡ z .words =
       ap (recordsFrom 0 (arguments s)) (all-groups ∙ sym (append-nil (z .done)))
       ∙ z .recorded []
       ∙ append-nil (z .words) in
-      ends l s n o (z .whole) at m (z .all) all-items (z .few) marker-few marker-is
-      (z .put ∙ ap (sets (replicate n 0) 0) (sym records))
-      (omega (arith, ap length records, z .size, z .few))
+      ends l s (length items) o (z .whole) at m (z .all) all-items (z .few) marker-few marker-is
+      (z .put ∙ ap (sets (replicate (length items) 0) 0) (sym records))
+      (omega (arith, ap length records, z .size, z .few, given .given .room))
       0 0
       (sym (ap (λ (a : Option ℕ). refusalNumber (ambiguity a)) no-ambiguous))
       (sym (ap (λ (a : Option ℕ). refusalPlace (ambiguity a)) no-ambiguous))

@@ -3,7 +3,7 @@ use mathlib.Core.Path.{_≡_, refl, sym, _∙_, ap, ap₂, subst}
 use mathlib.Core.Bool.{Bool, true, false, _&&_, false≢true}
 use mathlib.Core.List.{List, [], _∷_, _++_, append-nil}
 use mathlib.Core.Option.{some, none}
-use Prim.Native.Nat.{ℕ, zero, suc, _+_, _-_, _≤_, zero-le}
+use Prim.Native.Nat.{ℕ, zero, suc, _+_, _-_, _^_, _≤_, _<_, zero-le}
 use native.Mathlib.Omega.{arith}
 use lib.Dec.{eqb}
 use lib.ListN.{length, getD, take, drop, length-drop, length-append, length-map}
@@ -236,13 +236,30 @@ module _ (os : List ℕ) (begin at : ℕ) (q : Parts) (t : Tells os q (splitOsAr
       let good : wellFormed (take n (drop 1 os)) ≡ true = subst (λ (u : Parts). wellFormed (nameOf os u) ≡ true) f (t .good) in
       record { fits = h; two = omega (arith, s .1, s .2); within = s .2; good = rw (s .0) at good }
 
-  pub long-sized : (n : ℕ) → q ≡ P.Long n → n + 2 ≤ length os
-  long-sized n f = let s : Sized os (P.Long n) = subst (Sized os) f (t .sized) in omega (arith, s .1)
+  -- where a long name ends, and where its value begins
+  module _ (n : ℕ) where
+    module _ (f : q ≡ P.Long n) where
+      long-end : n + 2 ≤ length os
+      long-end = let s : Sized os (P.Long n) = subst (Sized os) f (t .sized) in omega (arith, s .1)
 
-  pub long-value-sized : (n body : ℕ) → q ≡ P.LongBody n body → (n + 2 ≤ length os) × (body ≤ length os)
-  long-value-sized n body f =
-      let s : Sized os (P.LongBody n body) = subst (Sized os) f (t .sized) in
-      (omega (arith, s .0, s .1), s .1)
+      pub long-fits : n + 2 < 2 ^ 64
+      long-fits = omega (arith, long-end, h .small)
+
+      pub long-inside : begin + (n + 2) < 2 ^ 32
+      long-inside = omega (arith, long-end, h .small)
+
+    module _ (body : ℕ) (f : q ≡ P.LongBody n body) where
+      ends : (n + 2 ≤ length os) × (body ≤ length os)
+      ends = let s : Sized os (P.LongBody n body) = subst (Sized os) f (t .sized) in (omega (arith, s .0, s .1), s .1)
+
+      pub named-fits : n + 2 < 2 ^ 64
+      named-fits = omega (arith, ends .0, h .small)
+
+      pub named-inside : begin + (n + 2) < 2 ^ 32
+      named-inside = omega (arith, ends .0, h .small)
+
+      pub value-inside : body ≤ length os
+      value-inside = ends .1
 
 -- a letter that is UTF-8 is there
 pub letter-known :
@@ -255,6 +272,9 @@ letter-known os begin body at v e =
 -- ---- a cluster
 pub tail-all : (os : List ℕ) → take (length os - 1) (drop 1 os) ≡ drop 1 os
 tail-all os = take-all (length os - 1) (drop 1 os) (omega (arith, length-drop 1 os))
+
+pub name-good : (os : List ℕ) (begin at : ℕ) → ClusterIn os begin at → wellFormed (take (length os - 1) (drop 1 os)) ≡ true
+name-good os begin at h = rw (tail-all os) (h .good)
 
 bind-ok : {A B : Type 0} (o : Outcome A) (f : A → Outcome B) (b : B) → (o >>= f) ≡ ok b → (a : A) × (o ≡ ok a) × (f a ≡ ok b)
 unfolding _>>=_
@@ -325,6 +345,12 @@ module _
     -- where the rest begins
     pub rest-within : (n c k : ℕ) → r ≡ Argument n c k → k + 1 ≤ length os
     rest-within n c k e = omega (arith, counted (Argument n c k) e .1, bytes)
+
+    pub rest-fits : (n c k : ℕ) → r ≡ Argument n c k → k + 1 < 2 ^ 64
+    rest-fits n c k e = omega (arith, rest-within n c k e, h .fits .small)
+
+    pub count-fits : (n : ℕ) → r ≡ Ambiguous n → n + 1 < 2 ^ 64
+    count-fits n e = omega (arith, flags-ambiguous n e .short, bytes, h .fits .small)
 
     first-count : (n : ℕ) → n ≤ length (d .all) → length (take n (characters (d .all))) ≡ n
     unfolding characters

@@ -181,37 +181,18 @@ fn split_cluster(
             rest,
         } => {
             if rest + 1 == len {
-                return put_flags_one(
-                    name,
-                    before,
-                    whole,
-                    Item::Short(letter, false, whole),
-                    0,
-                    items,
-                    at,
-                );
+                let alone = Item::Short(letter, false, whole);
+                return put_flags_one(name, before, whole, alone, 0, items, at);
             }
-            let value = text(begin, len, rest + 1);
-            put_flags_two(
-                name,
-                before,
-                whole,
-                Item::Short(letter, true, whole),
-                Item::Word(value),
-                items,
-                at,
-            )
+            let named = Item::Short(letter, true, whole);
+            let value = Item::Word(text(begin, len, rest + 1));
+            put_flags_two(name, before, whole, named, value, items, at)
         }
         Outcome::Withdrawn { place: _ } => put_one(items, at, Item::Word(whole)),
-        Outcome::Ambiguous { before } => put_flags_one(
-            name,
-            before,
-            whole,
-            Item::Word(whole),
-            before + 1,
-            items,
-            at,
-        ),
+        Outcome::Ambiguous { before } => {
+            let last = Item::Word(whole);
+            put_flags_one(name, before, whole, last, before + 1, items, at)
+        }
     }
 }
 

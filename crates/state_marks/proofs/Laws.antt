@@ -25,7 +25,8 @@ use Rattle.rules.proofs.CodeLaws.{code-place, place-next}
 use Rattle.rules.proofs.StepLaws.{Free, removed, removed-good, removed-left, remove-free, test-good, good-test}
 use Rattle.state_marks.specs.Lent.{rawOf, numbersOf, stateOf, Fine, Removed}
 use Rattle.state_marks.specs.declared.Numbers.{Numbers}
-use Rattle.state_marks.proofs.Marks.{is-present, is-used, from-take}
+use Rattle.state_marks.proofs.Mark.{present-of, used-of}
+use Rattle.state_marks.proofs.Marks.{from-take}
 
 -- ---- a good state
 
@@ -64,34 +65,34 @@ module _ (mark : ℕ) (m : List ℕ) (p : Numbers) (i : ℕ) (f : Fine m p) (tol
     unfolding remove inScope stateOf fromRaw if_then_else_
     above-scope h l = kept (rw (le-leb (p .start) i (omega arith), le-ltb i (p .end) (omega arith)))
 
-    pub used-before : a ≤ i → i < b → getD m i 0 ≡ 1 → Removed mark m p i m p
+    pub used-before : a ≤ i → i < b → (x : Bool) → x ≡ parsed (getD m i 0) → x ≡ true → Removed mark m p i m p
     unfolding remove inScope stateOf fromRaw if_then_else_ _>>=_ at
-    used-before h l e =
+    used-before h l x e g =
         let here = mark-at m (p .count) i (omega (arith, f .inside)) (fine-long m p f) in
-        kept (rw (le-leb (p .start) i (omega arith), lt-ltb i (p .end) (omega arith), here, is-used (getD m i 0) e))
+        kept (rw (le-leb (p .start) i (omega arith), lt-ltb i (p .end) (omega arith), here, used-of (getD m i 0) x e g))
 
-  free : p .start ≤ i → i < p .end → (getD m i 0 ≡ 1 → ⊥) → Free (stateOf m p) i
+  free : p .start ≤ i → i < p .end → (x : Bool) → x ≡ parsed (getD m i 0) → x ≡ false → Free (stateOf m p) i
   unfolding stateOf fromRaw presentAt
-  free h l e =
+  free h l x e g =
       let here = mark-at m (p .count) i (omega (arith, f .inside)) (fine-long m p f) in
-      record { from = h; to = l; here = rw (presentAt, here) (is-present (getD m i 0) e) }
+      record { from = h; to = l; here = rw (presentAt, here) (present-of (getD m i 0) x e g) }
 
-  pub some-left : (a b : ℕ) → a ≡ p .start → b ≡ p .end → a ≤ i → i < b → (getD m i 0 ≡ 1 → ⊥) → 1 ≤ p .remaining
+  pub some-left : (a b : ℕ) → a ≡ p .start → b ≡ p .end → a ≤ i → i < b → (t : Bool) → t ≡ parsed (getD m i 0) → t ≡ false → 1 ≤ p .remaining
   unfolding stateOf fromRaw
-  some-left a b x y h l e =
-      omega (arith, removed-left mark told (p .count) (stateOf m p) i (f .good) (free (omega arith) (omega arith) e))
+  some-left a b x y h l t e g =
+      omega (arith, removed-left mark told (p .count) (stateOf m p) i (f .good) (free (omega arith) (omega arith) t e g))
 
   removed-is : i < p .count → removed mark (stateOf m p) i
       ≡ stateOf (set m i mark) (record { count = p .count; remaining = p .remaining - 1; current = i + 1; start = p .start; end = p .end })
   unfolding stateOf fromRaw
   removed-is h = rw (take-set-lt (p .count) m i mark h, place-next i)
 
-  pub used-now : (a b : ℕ) → a ≡ p .start → b ≡ p .end → a ≤ i → i < b → (getD m i 0 ≡ 1 → ⊥)
+  pub used-now : (a b : ℕ) → a ≡ p .start → b ≡ p .end → a ≤ i → i < b → (t : Bool) → t ≡ parsed (getD m i 0) → t ≡ false
       → Removed mark m p i (set m i mark) (record { count = p .count; remaining = p .remaining - 1; current = i + 1; start = p .start; end = p .end })
-  used-now a b x y h l e =
+  used-now a b x y h l t e g =
       let below : i < p .count = omega (arith, f .inside) in
       let s : State = stateOf m p in
-      let here : Free s i = free (omega arith) (omega arith) e in
+      let here : Free s i = free (omega arith) (omega arith) t e g in
       record {
         same = remove-free mark told (p .count) s i (f .good) here ∙ ap ok (removed-is below);
         count = refl;

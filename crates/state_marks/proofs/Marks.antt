@@ -18,17 +18,8 @@ use Rattle.rules.specs.State.{parsed, present, presentAt, presentFrom, countPre
 use Rattle.rules.specs.Codes.{placeOf}
 use Rattle.rules.proofs.Places.{conflicts-length}
 use Rattle.rules.proofs.CodeLaws.{place-next}
+use Rattle.state_marks.proofs.Mark.{present-of, used-of}
 use Rattle.state_marks.specs.Lent.{firstOr, pickOf, conflictMark, Alike}
-
--- ---- one mark
-
-pub is-present : (m : ℕ) → (m ≡ 1 → ⊥) → present m ≡ true
-unfolding present parsed
-is-present m h = rw (ne-eqb m 1 h)
-
-pub is-used : (m : ℕ) → m ≡ 1 → present m ≡ false
-unfolding present parsed
-is-used m h = rw (eq-eqb m 1 h)
 
 pub present-at : (m : List ℕ) (i : ℕ) → i < length m → presentAt m i ≡ present (getD m i 0)
 unfolding presentAt
@@ -46,29 +37,29 @@ pub searched-first : (m : List ℕ) (from end : ℕ) → from ≤ end → Search
 searched-first m from end h = record { within = h; same = refl }
 
 module _ (m : List ℕ) (end i : ℕ) (h : i < end) (l : end ≤ length m) where
-  pub from-used : getD m i 0 ≡ 1 → presentFrom m (end - i) i ≡ presentFrom m (end - (i + 1)) (i + 1)
+  pub from-used : present (getD m i 0) ≡ false → presentFrom m (end - i) i ≡ presentFrom m (end - (i + 1)) (i + 1)
   unfolding presentFrom if_then_else_
   from-used e =
       let z : end - i ≡ suc (end - suc i) = omega arith in
-      rw (z, add-one i, present-at m i (omega arith), is-used (getD m i 0) e)
+      rw (z, add-one i, present-at m i (omega arith), e)
 
-  pub from-hit : (getD m i 0 ≡ 1 → ⊥) → presentFrom m (end - i) i ≡ i ∷ presentFrom m (end - (i + 1)) (i + 1)
+  pub from-hit : present (getD m i 0) ≡ true → presentFrom m (end - i) i ≡ i ∷ presentFrom m (end - (i + 1)) (i + 1)
   unfolding presentFrom if_then_else_
   from-hit e =
       let z : end - i ≡ suc (end - suc i) = omega arith in
-      rw (z, add-one i, present-at m i (omega arith), is-present (getD m i 0) e)
+      rw (z, add-one i, present-at m i (omega arith), e)
 
 pub from-none : (m : List ℕ) (end i : ℕ) → end ≤ i → presentFrom m (end - i) i ≡ []
 unfolding presentFrom
 from-none m end i h = let z : end - i ≡ 0 = omega arith in rw z
 
 module _ (m : List ℕ) (from end i : ℕ) (s : Searched m from end i) (l : end ≤ length m) where
-  pub searched-next : i < end → getD m i 0 ≡ 1 → Searched m from end (i + 1)
-  searched-next h e = record { within = omega arith; same = ap (firstOr end) (sym (from-used m end i h l e)) ∙ s .same }
+  pub searched-next : i < end → (x : Bool) → x ≡ present (getD m i 0) → x ≡ false → Searched m from end (i + 1)
+  searched-next h x e g = record { within = omega arith; same = ap (firstOr end) (sym (from-used m end i h l (sym e ∙ g))) ∙ s .same }
 
-  pub searched-hit : i < end → (getD m i 0 ≡ 1 → ⊥) → i ≡ firstOr end (presentFrom m (end - from) from)
+  pub searched-hit : i < end → (x : Bool) → x ≡ present (getD m i 0) → x ≡ true → i ≡ firstOr end (presentFrom m (end - from) from)
   unfolding firstOr
-  searched-hit h e = sym (ap (firstOr end) (from-hit m end i h l e)) ∙ s .same
+  searched-hit h x e g = sym (ap (firstOr end) (from-hit m end i h l (sym e ∙ g))) ∙ s .same
 
   pub searched-end : end ≤ i → i ≡ firstOr end (presentFrom m (end - from) from)
   unfolding firstOr
@@ -151,28 +142,28 @@ module _ (m : List ℕ) (i to : ℕ) (h : i < to) (l : to ≤ length m) where
       let z : to - i ≡ suc (to - suc i) = omega arith in
       rw (z, add-one i, drop-cons m i 0 (omega arith))
 
-  pub count-present : (getD m i 0 ≡ 1 → ⊥)
+  pub count-present : present (getD m i 0) ≡ true
       → countPresent (take (to - i) (drop i m)) ≡ suc (countPresent (take (to - (i + 1)) (drop (i + 1) m)))
   unfolding countPresent if_then_else_
-  count-present e = ap countPresent count-part ∙ rw (is-present (getD m i 0) e)
+  count-present e = ap countPresent count-part ∙ rw e
 
-  pub count-used : getD m i 0 ≡ 1 → countPresent (take (to - i) (drop i m)) ≡ countPresent (take (to - (i + 1)) (drop (i + 1) m))
+  pub count-used : present (getD m i 0) ≡ false → countPresent (take (to - i) (drop i m)) ≡ countPresent (take (to - (i + 1)) (drop (i + 1) m))
   unfolding countPresent if_then_else_
-  count-used e = ap countPresent count-part ∙ rw (is-used (getD m i 0) e)
+  count-used e = ap countPresent count-part ∙ rw e
 
 module _ (m : List ℕ) (from to count i : ℕ) (s : Counting m from to count i) (l : to ≤ length m) where
-  pub counting-more : i < to → (getD m i 0 ≡ 1 → ⊥) → (n : ℕ) → n ≡ count + 1 → Counting m from to n (i + 1)
-  counting-more h e n z = record {
+  pub counting-more : i < to → (x : Bool) → x ≡ present (getD m i 0) → x ≡ true → (n : ℕ) → n ≡ count + 1 → Counting m from to n (i + 1)
+  counting-more h x e g n z = record {
     within = omega arith;
     few = omega (arith, s .few);
-    same = omega (arith, s .same, count-present m i to h l e);
+    same = omega (arith, s .same, count-present m i to h l (sym e ∙ g));
   }
 
-  pub counting-next : i < to → getD m i 0 ≡ 1 → (n : ℕ) → n ≡ count → Counting m from to n (i + 1)
-  counting-next h e n z = record {
+  pub counting-next : i < to → (x : Bool) → x ≡ present (getD m i 0) → x ≡ false → (n : ℕ) → n ≡ count → Counting m from to n (i + 1)
+  counting-next h x e g n z = record {
     within = omega arith;
     few = omega (arith, s .few);
-    same = omega (arith, s .same, count-used m i to h l e);
+    same = omega (arith, s .same, count-used m i to h l (sym e ∙ g));
   }
 
   pub counting-last : to ≤ i → count ≡ countPresent (take (to - from) (drop from m))
@@ -379,27 +370,18 @@ module _ (p : ℕ → Bool) (l : List ℕ) (n i : ℕ) (s : Passing p (take n l)
       let long : length (take n l) ≡ n = length-take-le n l r in
       passing-last p (take n l) 0 i s (omega arith)
 
--- ---- one mark, tested
+-- ---- one mark of `conflicts`, by the answers of `is_parsed`
 
-pub small-good : (n m : ℕ) → m ≤ 1 → true ≡ markGood parsed n m
-unfolding markGood parsed if_then_else_
-small-good n m h = ⊎-elim
-    (λ (e : m ≡ 1). rw e refl)
-    (λ (e : m < 1). let z : m ≡ 0 = omega arith in rw z refl)
-    (eq-or-lt-of-le h)
+module _ (w m l : ℕ) (x : Bool) (e : x ≡ parsed m) where
+  pub conflict-used : x ≡ true → m ≡ conflictMark w m l
+  unfolding conflictMark if_then_else_
+  conflict-used h = rw (used-of m x e h)
 
-pub large-good : (n m : ℕ) → 1 < m → ltb (m - 2) n ≡ markGood parsed n m
-unfolding markGood parsed if_then_else_
-large-good n m h = rw (ne-eqb m 0 (λ e. omega arith), ne-eqb m 1 (λ e. omega arith), le-leb 2 m h)
+  module _ (h : x ≡ false) (y : Bool) (f : y ≡ parsed l) where
+    pub conflict-new : y ≡ true → 2 + w ≡ conflictMark w m l
+    unfolding conflictMark if_then_else_
+    conflict-new k = rw (present-of m x e h, ← f, k)
 
-pub conflict-used : (w m l : ℕ) → m ≡ 1 → m ≡ conflictMark w m l
-unfolding conflictMark if_then_else_
-conflict-used w m l e = rw (is-used m e)
-
-pub conflict-new : (w m l : ℕ) → (m ≡ 1 → ⊥) → l ≡ 1 → 2 + w ≡ conflictMark w m l
-unfolding conflictMark if_then_else_ parsed
-conflict-new w m l e f = rw (is-present m e, eq-eqb l 1 f)
-
-pub conflict-none : (w m l : ℕ) → (m ≡ 1 → ⊥) → (l ≡ 1 → ⊥) → m ≡ conflictMark w m l
-unfolding conflictMark if_then_else_ parsed
-conflict-none w m l e f = rw (is-present m e, ne-eqb l 1 f)
+    pub conflict-none : y ≡ false → m ≡ conflictMark w m l
+    unfolding conflictMark if_then_else_
+    conflict-none k = rw (present-of m x e h, ← f, k)

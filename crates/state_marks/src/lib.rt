@@ -10,11 +10,19 @@ ghost use Rattle.utf8.specs.Utf8.{if_then_else_};
 ghost use Rattle.rules.specs.Base.{all};
 ghost use Rattle.rules.specs.Outcome.{ok, refused, refuse};
 ghost use Rattle.rules.specs.Tree.{zeros};
-ghost use Rattle.rules.specs.State.{parsed, presentFrom, countPresent, pickFrom, conflicts, markGood};
+ghost use Rattle.rules.specs.State.{parsed, present, winner, presentFrom, countPresent, pickFrom, conflicts, markGood};
 ghost use Rattle.rules.specs.Calls.{fromRaw, stateIn};
-ghost use Rattle.state_marks.specs.Lent.{Fine, Removed, firstOr, pickOf, conflictMark, Alike};
+ghost use Rattle.rules.specs.Codes.{placeOf};
+ghost use Rattle.state_marks.specs.Lent.{rawOf, numbersOf, Fine, Removed, firstOr, pickOf, conflictMark, Alike};
 use rules::State;
 use wire::wide;
+
+// The marks that are written: at the first `--`, at a word that `take_cmd` takes, and at what the first field uses.
+pub const MARKER: u16 = 1;
+
+pub const COMMAND: u16 = 1;
+
+pub const FIELD: u16 = 1;
 
 // A state without its marks. The current place is itself plus 1, or 0 for none.
 pub struct Numbers {
@@ -31,6 +39,55 @@ pub struct Picked {
     pub place: u32,
 }
 
+// A state taken apart, and put together again.
+pub fn numbers_of(s: State) -> Numbers
+    ensures { λ r. ⌜ r ≡ numbersOf s ⌝ }
+{
+    Numbers {
+        count: s.count,
+        remaining: s.remaining,
+        current: s.current,
+        start: s.start,
+        end: s.end,
+    }
+}
+
+pub fn joined(marks: [u16; 256], p: Numbers) -> State
+    ensures { λ r. ⌜ r ≡ rawOf marks p ⌝ }
+{
+    State {
+        marks: marks,
+        count: p.count,
+        remaining: p.remaining,
+        current: p.current,
+        start: p.start,
+        end: p.end,
+    }
+}
+
+// Marks are read by these alone.
+pub fn is_parsed(mark: u16) -> bool
+    ensures { λ r. ⌜ r ≡ parsed mark ⌝ }
+{
+    mark == 1
+}
+
+pub fn is_present(mark: u16) -> bool
+    ensures { λ r. ⌜ r ≡ present mark ⌝ }
+{
+    !is_parsed(mark)
+}
+
+// The place plus 1 of what a mark is in conflict with, or 0 for none.
+pub fn winner_of(mark: u16) -> u32
+    ensures { λ r. ⌜ placeOf r ≡ winner mark ⌝ }
+{
+    if mark < 2 {
+        return 0;
+    }
+    mark as u32 - 1
+}
+
 // The first unused place from `from` on; `end` if there is none below it.
 pub fn first_present(marks: &[u16], from: usize, end: usize) -> usize
     requires { ⌜ (from ≤ end) × (end ≤ length (now marks)) ⌝ }
@@ -38,7 +95,7 @@ pub fn first_present(marks: &[u16], from: usize, end: usize) -> usize
 {
     let mut i = from;
     while i < end {
-        if marks[i] != 1 {
+        if is_present(marks[i]) {
             return i;
         }
         i += 1;
@@ -54,7 +111,7 @@ pub fn count_present(marks: &[u16], from: usize, to: usize) -> u32
     let mut count: u32 = 0;
     let mut i = from;
     while i < to {
-        if marks[i] != 1 {
+        if is_present(marks[i]) {
             count += 1;
         }
         i += 1;
@@ -73,7 +130,7 @@ pub fn remove(marks: &mut [u16; 256], p: Numbers, i: usize, mark: u16) -> Number
     if wide(p.end) <= i {
         return p;
     }
-    if marks[i] == 1 {
+    if is_parsed(marks[i]) {
         return p;
     }
     marks[i] = mark;
@@ -84,12 +141,6 @@ pub fn remove(marks: &mut [u16; 256], p: Numbers, i: usize, mark: u16) -> Number
         start: p.start,
         end: p.end,
     }
-}
-
-fn is_parsed(mark: u16) -> bool
-    ensures { λ r. ⌜ r ≡ parsed mark ⌝ }
-{
-    mark == 1
 }
 
 fn differ(x: bool, y: bool) -> bool
@@ -165,10 +216,10 @@ fn conflict_mark(mark: u16, loser: u16, w: u16) -> u16
     requires { ⌜ w < 256 ⌝ }
     ensures { λ r. ⌜ r ≡ conflictMark w mark loser ⌝ }
 {
-    if mark == 1 {
+    if is_parsed(mark) {
         return mark;
     }
-    if loser == 1 {
+    if is_parsed(loser) {
         return 2 + w;
     }
     mark
@@ -190,8 +241,14 @@ pub fn save_conflicts(marks: &mut [u16; 256], loser: &[u16], count: usize, w: us
 fn mark_good(mark: u16, count: usize) -> bool
     ensures { λ r. ⌜ r ≡ markGood parsed count mark ⌝ }
 {
-    if mark <= 1 {
+    if mark == 0 {
         return true;
+    }
+    if is_parsed(mark) {
+        return true;
+    }
+    if mark < 2 {
+        return false;
     }
     (mark as usize) - 2 < count
 }

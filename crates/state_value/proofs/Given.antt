@@ -25,6 +25,8 @@ use Rattle.rules.proofs.CodeLaws.{place-some}
 use Rattle.state_marks.specs.Lent.{rawOf, numbersOf, stateOf, pickOf, firstOr, Fine, Removed}
 use Rattle.state_marks.specs.declared.Numbers.{Numbers}
 use Rattle.state_marks.specs.declared.Picked.{Picked}
+use Rattle.state_marks.specs.Written.{markerMark, fieldMark}
+use Rattle.state_marks.proofs.Mark.{marker-told, field-parsed, field-told}
 use Rattle.state_marks.proofs.Marks.{from-take, first-hit, first-within, first-none}
 use Rattle.state_marks.proofs.Laws.{in-kept, kept-fine, fine-long, fine-unused, mark-at, raw-back, marked, marked-is, marked-fine, marked-whole}
 use Rattle.state_value.specs.Options.{handedOver, allUnused, rangeOf, placeBelow, Until, SpanEnd}
@@ -79,17 +81,17 @@ module _ (x : Raw) (g : stateIn (x .count) x ≡ ok (fromRaw x)) where
 
   -- ---- `remove`
 
-  pub remove-ready : (p : Numbers) → p ≡ numbersOf x → Fine (x .marks) p × (parsed 1 ≡ true)
-  unfolding parsed
-  remove-ready p e = (rw e fine, refl)
+  pub remove-ready : (p : Numbers) → p ≡ numbersOf x → Fine (x .marks) p × (parsed fieldMark ≡ true)
+  remove-ready p e = (rw e fine, field-parsed)
 
   pub removed-over : (p : Numbers) (i : ℕ) (m : List ℕ) (q : Numbers) (r : Raw)
-      → length (x .marks) ≡ 256 → p ≡ numbersOf x → Removed 1 (x .marks) p i m q → r ≡ rawOf m q
+      → length (x .marks) ≡ 256 → p ≡ numbersOf x → Removed fieldMark (x .marks) p i m q → r ≡ rawOf m q
       → handedOver (remove parsedMark (fromRaw x) i) ≡ ok r
-  unfolding stateOf parsedMark
+  unfolding stateOf
   removed-over p i m q r long e d f =
-      let s : remove 1 (fromRaw x) i ≡ ok (stateOf m q) = rw e at (d .same) in
-      handed-ok _ (stateOf m q) r s (raw-back m q (d .fine) (d .long ∙ long) ∙ sym f)
+      let s : remove fieldMark (fromRaw x) i ≡ ok (stateOf m q) = rw e at (d .same) in
+      let h = handed-ok _ (stateOf m q) r s (raw-back m q (d .fine) (d .long ∙ long) ∙ sym f) in
+      subst (λ (k : ℕ). handedOver (remove k (fromRaw x) i) ≡ ok r) field-told h
 
   -- ---- two states
 
@@ -257,19 +259,29 @@ module _ (x : Raw) (g : stateIn (x .count) x ≡ ok (fromRaw x)) where
           let i = fine .inside in
           mark-at (x .marks) (x .count) r (omega (arith, below)) (fine-long (x .marks) (numbersOf x) fine)
 
-      module _ (k : ℕ) (z : k ≡ getD (x .marks) r 0) (items : List Item) (l : length items ≡ x .count) where
+      module _ (k : ℕ) (z : placeOf k ≡ winner (getD (x .marks) r 0)) (items : List Item) (l : length items ≡ x .count) where
         item-here : (y : Item) × (getElem? items r ≡ some y)
         item-here = let i = fine .inside in at-below items r (omega (arith, below))
 
-        pub conflict-absent : k < 2 → conflict items (fromRaw x) ≡ ok none
-        unfolding conflict first find findIn conflictAt _>>=_ at _>>?_ winner minus if_then_else_ fromRaw
-        conflict-absent h = rw (found, item-here .1, mark-here, ← z, lt-leb 2 k h)
+        pub conflict-absent : k ≡ 0 → conflict items (fromRaw x) ≡ ok none
+        unfolding conflict first find findIn conflictAt _>>=_ at _>>?_ if_then_else_ fromRaw placeOf
+        conflict-absent h = rw (found, item-here .1, mark-here, ← z, h)
 
-        pub conflict-there : 2 ≤ k → conflict items (fromRaw x) ≡ ok (some (record { place = r; winner = k - 2 }))
-        unfolding conflict first find findIn conflictAt _>>=_ at _>>?_ winner minus if_then_else_ fromRaw
-        conflict-there h = rw (found, item-here .1, mark-here, ← z, le-leb 2 k h)
+        pub conflict-there : (k ≡ 0 → ⊥) → conflict items (fromRaw x) ≡ ok (some (record { place = r; winner = k - 1 }))
+        unfolding conflict first find findIn conflictAt _>>=_ at _>>?_ if_then_else_ fromRaw
+        conflict-there h = rw (found, item-here .1, mark-here, ← z, place-some k h)
 
 -- ---- after the split
+
+abbrev withMarker : ℕ → ℕ → Raw → Raw
+withMarker mark marker u = record {
+  marks = set (u .marks) (marker - 1) mark;
+  count = u .count;
+  remaining = u .remaining - 1;
+  current = u .current;
+  start = u .start;
+  end = u .end;
+}
 
 module _ (n : ℕ) (small : n ≤ 256) where
   joined : _≡_ {A = List ℕ} (replicate n 0 ++ replicate (256 - n) 0) (replicate 256 0)
@@ -285,16 +297,22 @@ module _ (n : ℕ) (small : n ≤ 256) where
   unfolding handedOver construct placeOf toRaw _>>=_ if_then_else_
   fresh-over marker u e z = rw (z, e, all-zero, length-replicate {A = ℕ} n 0)
 
-  pub marked-over : (marker : ℕ) (u : Raw) → u ≡ allUnused n → (marker ≡ 0 → ⊥) → marker ≤ n
-      → handedOver (construct parsedMark n (placeOf marker))
-      ≡ ok (record { marks = set (u .marks) (marker - 1) 1; count = u .count; remaining = u .remaining - 1; current = u .current; start = u .start; end = u .end })
-  unfolding handedOver construct placeOf toRaw parsedMark padded _>>=_ at if_then_else_
-  marked-over marker u e z l =
+  -- the marker's place gets the mark that is told
+  marked-by : (mark marker : ℕ) (u : Raw) → u ≡ allUnused n → (marker ≡ 0 → ⊥) → marker ≤ n
+      → handedOver (construct mark n (placeOf marker)) ≡ ok (withMarker mark marker u)
+  unfolding handedOver construct placeOf toRaw padded _>>=_ at if_then_else_
+  marked-by mark marker u e z l =
       let a : List ℕ = replicate n 0 in
       let b : List ℕ = replicate (256 - n) 0 in
       let long : length a ≡ n = length-replicate {A = ℕ} n 0 in
       let i : marker - 1 < length a = omega arith in
-      let s : length (set a (marker - 1) 1) ≡ n = length-set a (marker - 1) 1 ∙ long in
-      let w : set a (marker - 1) 1 ++ b ≡ set (replicate 256 0) (marker - 1) 1 =
-      sym (set-append-left a b (marker - 1) 1 i) ∙ ap (λ (k : List ℕ). set k (marker - 1) 1) joined in
-      rw (place-some marker z, write-below a (marker - 1) 1 i, minus-below n 1 (omega arith), s, w, e)
+      let s : length (set a (marker - 1) mark) ≡ n = length-set a (marker - 1) mark ∙ long in
+      let w : set a (marker - 1) mark ++ b ≡ set (replicate 256 0) (marker - 1) mark =
+      sym (set-append-left a b (marker - 1) mark i) ∙ ap (λ (k : List ℕ). set k (marker - 1) mark) joined in
+      rw (place-some marker z, write-below a (marker - 1) mark i, minus-below n 1 (omega arith), s, w, e)
+
+  pub marked-over : (marker : ℕ) (u : Raw) → u ≡ allUnused n → (marker ≡ 0 → ⊥) → marker ≤ n
+      → handedOver (construct parsedMark n (placeOf marker)) ≡ ok (withMarker markerMark marker u)
+  marked-over marker u e z l =
+      subst (λ (k : ℕ). handedOver (construct k n (placeOf marker)) ≡ ok (withMarker markerMark marker u)) marker-told
+      (marked-by markerMark marker u e z l)

@@ -1,6 +1,6 @@
 -- Loops over the marks of one state or of two.
 use mathlib.Core.Path.{_≡_, refl, sym, _∙_}
-use mathlib.Core.Bool.{_&&_}
+use mathlib.Core.Bool.{Bool, true, false, _&&_}
 use mathlib.Core.List.{List}
 use mathlib.Core.Option.{Option, some}
 use Prim.Native.Nat.{ℕ, suc, _+_, _≤_, _<_}
@@ -9,8 +9,9 @@ use native.Mathlib.Omega.{arith}
 use lib.ListN.{length, getD, take, drop}
 use borrow.Author.Tests.{lt-ltb, le-ltb}
 use Rattle.utf8.specs.Utf8.{if_then_else_}
-use Rattle.rules.specs.State.{present, untilPresent, span}
-use Rattle.state_marks.proofs.Marks.{is-present, is-used, part-cons, part-none}
+use Rattle.rules.specs.State.{parsed, present, untilPresent, span}
+use Rattle.state_marks.proofs.Mark.{present-of, used-of}
+use Rattle.state_marks.proofs.Marks.{part-cons, part-none}
 use Rattle.state_value.specs.Options.{placeBelow, Until, SpanEnd}
 
 -- ---- the first place that is present in both
@@ -31,20 +32,22 @@ module _ (a b : List ℕ) (from count i : ℕ) (s : Going a b from count i) (la 
   unfolding untilPresent
   until-step h = sym (s .same) ∙ rw (part-cons a count i h la, part-cons b count i h lb, add-one i)
 
-  pub going-hit : i < count → (getD a i 0 ≡ 1 → ⊥) → (getD b i 0 ≡ 1 → ⊥) → Until a b from count i
+  pub going-hit : i < count → (x : Bool) → x ≡ present (getD a i 0) → x ≡ true
+      → (y : Bool) → y ≡ present (getD b i 0) → y ≡ true → Until a b from count i
   unfolding placeBelow if_then_else_
-  going-hit h p q = record {
+  going-hit h x e p y f q = record {
     within = omega arith;
-    place = rw (lt-ltb i count h) (sym (until-step h ∙ rw (is-present (getD a i 0) p, is-present (getD b i 0) q)));
+    place = rw (lt-ltb i count h) (sym (until-step h ∙ rw (← e, p, ← f, q)));
   }
 
-  pub going-ours : i < count → getD a i 0 ≡ 1 → Going a b from count (i + 1)
+  pub going-ours : i < count → (x : Bool) → x ≡ present (getD a i 0) → x ≡ false → Going a b from count (i + 1)
   unfolding if_then_else_
-  going-ours h p = record { within = omega arith; same = sym (until-step h ∙ rw (is-used (getD a i 0) p)) }
+  going-ours h x e p = record { within = omega arith; same = sym (until-step h ∙ rw (← e, p)) }
 
-  pub going-theirs : i < count → (getD a i 0 ≡ 1 → ⊥) → getD b i 0 ≡ 1 → Going a b from count (i + 1)
+  pub going-theirs : i < count → (x : Bool) → x ≡ present (getD a i 0) → x ≡ true
+      → (y : Bool) → y ≡ present (getD b i 0) → y ≡ false → Going a b from count (i + 1)
   unfolding if_then_else_
-  going-theirs h p q = record { within = omega arith; same = sym (until-step h ∙ rw (is-present (getD a i 0) p, is-used (getD b i 0) q)) }
+  going-theirs h x e p y f q = record { within = omega arith; same = sym (until-step h ∙ rw (← e, p, ← f, q)) }
 
   pub going-last : count ≤ i → Until a b from count i
   unfolding untilPresent placeBelow if_then_else_
@@ -60,17 +63,17 @@ pub spanning-first : (m : List ℕ) (from count : ℕ) → from ≤ count → Sp
 spanning-first m from count h = record { within = h; same = refl }
 
 module _ (m : List ℕ) (from count i : ℕ) (s : Spanning m from count i) (l : count ≤ length m) where
-  pub spanning-next : i < count → (getD m i 0 ≡ 1 → ⊥) → Spanning m from count (i + 1)
+  pub spanning-next : i < count → (x : Bool) → x ≡ parsed (getD m i 0) → x ≡ false → Spanning m from count (i + 1)
   unfolding span if_then_else_
-  spanning-next h e =
+  spanning-next h x e g =
       let z : span (drop i (take count m)) ≡ suc (span (drop (i + 1) (take count m))) =
-      rw (part-cons m count i h l, is-present (getD m i 0) e) in
+      rw (part-cons m count i h l, present-of (getD m i 0) x e g) in
       record { within = omega arith; same = omega (arith, s .same) }
 
-  pub spanning-used : i < count → getD m i 0 ≡ 1 → SpanEnd m from count i
+  pub spanning-used : i < count → (x : Bool) → x ≡ parsed (getD m i 0) → x ≡ true → SpanEnd m from count i
   unfolding span if_then_else_
-  spanning-used h e =
-      let z : span (drop i (take count m)) ≡ 0 = rw (part-cons m count i h l, is-used (getD m i 0) e) in
+  spanning-used h x e g =
+      let z : span (drop i (take count m)) ≡ 0 = rw (part-cons m count i h l, used-of (getD m i 0) x e g) in
       record { within = omega arith; place = omega (arith, s .same) }
 
   pub spanning-last : count ≤ i → SpanEnd m from count i

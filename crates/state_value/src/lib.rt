@@ -10,11 +10,17 @@ ghost use Rattle.rules.specs.State.{remove as removal, conflict as firstConflic
 ghost use Rattle.rules.specs.Run.{parsedMark};
 ghost use Rattle.rules.specs.Calls.{fromRaw, toRaw, stateIn};
 ghost use Rattle.rules.specs.Codes.{placeOf};
-ghost use Rattle.state_marks.specs.Lent.{rawOf, numbersOf, pickOf};
+ghost use Rattle.state_marks.specs.Lent.{pickOf};
 ghost use Rattle.state_value.specs.Options.{handedOver, allUnused, rangeOf, scopeOf, conflictOf, Until, SpanEnd};
 use rules::State;
-use state_marks::Numbers;
+use state_marks::FIELD;
+use state_marks::MARKER;
 use state_marks::Picked;
+use state_marks::is_parsed;
+use state_marks::is_present;
+use state_marks::joined;
+use state_marks::numbers_of;
+use state_marks::winner_of;
 use wire::wide;
 
 pub struct Scope {
@@ -34,37 +40,12 @@ pub enum ConflictOption {
     None,
 }
 
-fn numbers(s: State) -> Numbers
-    ensures { λ r. ⌜ r ≡ numbersOf s ⌝ }
-{
-    Numbers {
-        count: s.count,
-        remaining: s.remaining,
-        current: s.current,
-        start: s.start,
-        end: s.end,
-    }
-}
-
-fn joined(marks: [u16; 256], p: Numbers) -> State
-    ensures { λ r. ⌜ r ≡ rawOf marks p ⌝ }
-{
-    State {
-        marks: marks,
-        count: p.count,
-        remaining: p.remaining,
-        current: p.current,
-        start: p.start,
-        end: p.end,
-    }
-}
-
 pub fn remove(s: State, i: usize) -> State
     requires { ⌜ stateIn (s .count) s ≡ ok (fromRaw s) ⌝ }
     ensures { λ r. ⌜ handedOver (removal parsedMark (fromRaw s) i) ≡ ok r ⌝ }
 {
     let mut marks = s.marks;
-    let p = state_marks::remove(&mut marks, numbers(s), i, 1);
+    let p = state_marks::remove(&mut marks, numbers_of(s), i, FIELD);
     joined(marks, p)
 }
 
@@ -81,7 +62,7 @@ pub fn save_conflicts(s: State, loser: State, w: usize) -> State
 {
     let mut marks = s.marks;
     state_marks::save_conflicts(&mut marks, &loser.marks, wide(s.count), w);
-    joined(marks, numbers(s))
+    joined(marks, numbers_of(s))
 }
 
 // The places from..to become the scope.
@@ -108,8 +89,8 @@ fn until_present(a: &[u16], b: &[u16], from: usize, count: usize) -> usize
 {
     let mut i = from;
     while i < count {
-        if a[i] != 1 {
-            if b[i] != 1 {
+        if is_present(a[i]) {
+            if is_present(b[i]) {
                 return i;
             }
         }
@@ -142,7 +123,7 @@ fn span_end(marks: &[u16], from: usize, count: usize) -> usize
 {
     let mut i = from;
     while i < count {
-        if marks[i] == 1 {
+        if is_parsed(marks[i]) {
             return i;
         }
         i += 1;
@@ -172,11 +153,11 @@ pub fn conflict(s: State) -> ConflictOption
     if i == end {
         return ConflictOption::None;
     }
-    let mark = s.marks[i];
-    if mark < 2 {
+    let winner = winner_of(s.marks[i]);
+    if winner == 0 {
         return ConflictOption::None;
     }
-    ConflictOption::Some(i as u32, mark as u32 - 2)
+    ConflictOption::Some(i as u32, winner - 1)
 }
 
 // All n places unused.
@@ -209,7 +190,7 @@ pub fn fresh(n: usize, marker: usize) -> State
         return s;
     }
     let i = marker - 1;
-    s.marks[i] = 1;
+    s.marks[i] = MARKER;
     s.remaining = s.remaining - 1;
     s
 }

@@ -57,9 +57,9 @@ pub free-beyond : (m : List ℕ) (end i : ℕ) → end ≤ i → false ≡ freeB
 unfolding freeBelow
 free-beyond m end i h = rw (le-ltb i end h)
 
-pub free-test : (m : List ℕ) (end i : ℕ) → i < end → not (eqb (getD m i 0) 1) ≡ freeBelow m end i
-unfolding freeBelow present parsed
-free-test m end i h = rw (lt-ltb i end h)
+pub free-test : (m : List ℕ) (end i : ℕ) → i < end → (x : Bool) → x ≡ present (getD m i 0) → x ≡ freeBelow m end i
+unfolding freeBelow
+free-test m end i h x e = rw (lt-ltb i end h) e
 
 pub free-inside : (m : List ℕ) (end i : ℕ) (f : Bool) → f ≡ freeBelow m end i → not f ≡ false → i < end
 unfolding freeBelow

@@ -28,10 +28,10 @@ use Rattle.split_arg.specs.declared.Item.{Item}
 use Rattle.split_arg.specs.declared.Item.the-variants.{Short, Long, ArgWord, Word, PosWord}
 use Rattle.split_arg.proofs.Item as T
 use Rattle.split_arg.specs.Items.{recordAt, itemOf, inArea}
-use Rattle.take_search.specs.Codes.{namedAt}
+use Rattle.form_codes.specs.Codes.{namedAt}
 use Rattle.take_search.specs.Items.{partBytes, HasPart, operandKind}
 use Rattle.take_search.specs.Search.{HasNames, HasItem}
-use Rattle.take_search.proofs.Names.{shorts-table}
+use Rattle.form_codes.proofs.NameCodes.{shorts-table}
 
 -- ---- the item that the code reads is the one that the rules read
 

@@ -11,7 +11,7 @@ use lib.ListN.{length, getD, getElem?}
 use Rattle.utf8.specs.Utf8.{if_then_else_}
 use Rattle.rules.specs.Outcome.{ok, at, _>>=_}
 use Rattle.rules.specs.Split.{Item}
-use Rattle.rules.specs.State.{Found, presentAt, presentFrom, findIn}
+use Rattle.rules.specs.State.{Found, present, presentAt, presentFrom, findIn}
 use Rattle.rules.specs.Calls.{itemFrom}
 use Rattle.rules.specs.Demands.{All}
 use Rattle.rules.proofs.Acceptance.{lookup-some}
@@ -51,13 +51,13 @@ module _ (area words : List ℕ) (test : Item → Bool) (marks : List ℕ) (from
         e ∙ sym (rw (from-none marks end i h)) ∙ z .same is t l
 
     module _ (h : i < end) (long : end ≤ length marks) where
-      pub seeking-used : getD marks i 0 ≡ 1 → Seeking area words test marks from end (i + 1)
-      seeking-used e = record {
+      pub seeking-used : (x : Bool) → x ≡ present (getD marks i 0) → x ≡ false → Seeking area words test marks from end (i + 1)
+      seeking-used x e g = record {
         within = omega arith;
-        same = λ is t l. ap (λ (p : List ℕ). placeOr end (findIn is test p)) (sym (from-used marks end i h long e)) ∙ z .same is t l;
+        same = λ is t l. ap (λ (p : List ℕ). placeOr end (findIn is test p)) (sym (from-used marks end i h long (sym e ∙ g))) ∙ z .same is t l;
       }
 
-      module _ (e : getD marks i 0 ≡ 1 → ⊥) (r : Bool) (said : Says area words test i r) where
+      module _ (free : Bool) (e : free ≡ present (getD marks i 0)) (g : free ≡ true) (r : Bool) (said : Says area words test i r) where
         found : (is : List Item) → Table area words is → end ≤ length is → (x : Item) × (getElem? is i ≡ some x) × (r ≡ test x)
         found is t l =
             let x = lookup-some is i (omega arith) in
@@ -70,7 +70,7 @@ module _ (area words : List ℕ) (test : Item → Bool) (marks : List ℕ) (from
           same = λ is t l.
               let x = found is t l in
               let w : test (x .0) ≡ false = sym (x .2) ∙ n in
-              sym (rw (from-hit marks end i h long e, x .1, w)) ∙ z .same is t l;
+              sym (rw (from-hit marks end i h long (sym e ∙ g), x .1, w)) ∙ z .same is t l;
         }
 
         pub seeking-hit : r ≡ true → Sought area words test marks from end i
@@ -78,7 +78,7 @@ module _ (area words : List ℕ) (test : Item → Bool) (marks : List ℕ) (from
         seeking-hit n is t l =
             let x = found is t l in
             let w : test (x .0) ≡ true = sym (x .2) ∙ n in
-            sym (rw (from-hit marks end i h long e, x .1, w)) ∙ z .same is t l
+            sym (rw (from-hit marks end i h long (sym e ∙ g), x .1, w)) ∙ z .same is t l
 
 -- ---- what a search answers
 

@@ -1,5 +1,5 @@
 -- What a caller has of the rules: the items of a slice are a table, and a node's names are those that its numbers say.
-use mathlib.Core.Path.{_≡_, refl, sym, ap, _∙_}
+use mathlib.Core.Path.{_≡_, refl, ap, _∙_}
 use mathlib.Core.Bool.{Bool, true, false}
 use mathlib.Core.List.{List, [], _∷_}
 use mathlib.Core.Option.{Option, some, none}
@@ -8,15 +8,12 @@ use native.Mathlib.Omega.{arith, div-fact}
 use lib.ListN.{length, take, drop, getElem?}
 use lib.Seq.{drop-drop}
 use Rattle.utf8.specs.Utf8.{if_then_else_}
-use Rattle.rules.specs.Form.{Node, nameCount, readForm}
 use Rattle.rules.specs.Outcome.{Outcome, ok, refused, refuse}
 use Rattle.rules.specs.Split.{Item}
-use Rattle.rules.specs.Tree.{Named, zeros, namesOf, namedOf, namedBy}
+use Rattle.rules.specs.Tree.{zeros}
 use Rattle.rules.specs.Base.{_>>?_}
 use Rattle.rules.specs.Calls.{itemFrom, recordsIn, wholeRecords, trimmed, itemsFrom, itemsIn}
-use Rattle.rules.proofs.Acceptance.{bind-some, names-some}
-use Rattle.form_layout.proofs.Sizes.{names-length}
-use Rattle.take_search.specs.Codes.{namesFrom, namedAt}
+use Rattle.rules.proofs.Acceptance.{bind-some}
 use Rattle.take_search.specs.Items.{Table}
 
 -- ---- records
@@ -126,17 +123,3 @@ table-in area words is e = go (zeros (drop (7 * whole) words)) e
         [ none ↦ refused (refuse 30 none) | some xs ↦ ok xs ]) (ok is) → Table area words is
     go true k = read (itemsFrom area (trimmed (recordsIn whole words))) refl k
     go false k = absurd (let z : _≡_ {A = ℕ} 0 1 = cc in omega arith)
-
--- ---- names
-
-pub named-at : (b : List ℕ) (x : Node) (n : Named) → namedOf (readForm b) x ≡ some n
-    → (n ≡ namedAt b (x .p) (x .q)) × (x .p + x .q ≤ nameCount b)
-unfolding namedOf namedAt namesFrom
-named-at b x n e =
-    let f = readForm b in
-    let l = bind-some (namesOf f x) _ e in
-    let s = names-some f x (l .0) (l .1) in
-    let k : some (namedBy (f .area) (l .0)) ≡ some n = l .2 in
-    let z : namedBy (f .area) (l .0) ≡ n = cc in
-    let room = s .inside in
-    (sym z ∙ ap (namedBy (f .area)) (sym (s .part)), omega (arith, names-length b))

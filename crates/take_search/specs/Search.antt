@@ -12,13 +12,14 @@ use Rattle.rules.specs.Split.{Item}
 use Rattle.rules.specs.State.{Found, presentAt, presentFrom, findIn}
 use Rattle.rules.specs.Calls.{itemFrom}
 use Rattle.split_arg.specs.Items.{recordAt}
-use Rattle.take_search.specs.Codes.{Checked, Coded}
+use Rattle.form_layout.specs.Layout.{GoodNames}
+use Rattle.form_codes.specs.Codes.{CodedNames}
 use Rattle.take_search.specs.Items.{Table}
 
 -- names of a checked form: `count` records from `first` on
 pub record HasNames (b codes : List ℕ) (first count : ℕ) : Type 0 where
-  pub checked : Checked b
-  pub coded : Coded b codes
+  pub checked : GoodNames b
+  pub coded : CodedNames b codes
   pub inside : first + count ≤ nameCount b
 
 -- an item to be matched

@@ -13,42 +13,26 @@ ghost use Rattle.rules.specs.Split.{Item as RulesItem};
 ghost use Rattle.rules.specs.Take.{containsName, matchesArg, isOperand};
 ghost use Rattle.rules.specs.Calls.{itemFrom};
 ghost use Rattle.split_arg.specs.Items.{recordAt};
-ghost use Rattle.form_layout.specs.Layout.{HasName};
-ghost use Rattle.take_search.specs.Codes.{Checked, codesOf, Written, namedAt};
+ghost use Rattle.form_layout.specs.Layout.{HasName, GoodNames};
+ghost use Rattle.form_codes.specs.Codes.{namedAt};
 ghost use Rattle.take_search.specs.Items.{HasPart, partBytes, operandKind};
 ghost use Rattle.take_search.specs.Search.{HasNames, HasItem, HasItems, Sought};
 use split_arg::Item;
 use split_arg::Part;
+use state_marks::is_present;
 
-fn wide(x: u32) -> u64
+// The names of a node: `count` records of the form from `first` on. An adjacent argument takes only an item that has its value
+// in its own word.
+pub struct Names {
+    pub first: usize,
+    pub count: usize,
+    pub adjacent: bool,
+}
+
+pub fn wide64(x: u32) -> u64
     ensures { λ r. ⌜ r ≡ x ⌝ }
 {
     x as u64
-}
-
-// The code of name record k: its character plus 1 if it is short, else 0.
-fn code(form: &[u8], k: usize) -> u32
-    requires { ⌜ HasName (now form) k ⌝ }
-    ensures { λ r. ⌜ getElem? (codesOf (readForm (now (form .entry)))) k ≡ some r ⌝ }
-{
-    let x = form_layout::name_at(form, k);
-    if x.kind != 0 {
-        return 0;
-    }
-    form_names::character(form_layout::name_bytes(form, k))
-}
-
-// The codes of all name records: made once, so that no short name is decoded again.
-pub fn codes(form: &[u8], out: &mut [u32])
-    requires { ⌜ Checked (now form) × (nameCount (now form) ≤ length (now out)) ⌝ }
-    ensures { λ _. ⌜ Written (now (form .entry)) (now (out .entry)) (now (out .exit)) ⌝ }
-{
-    let count = form_layout::name_count(form);
-    let mut k = 0;
-    while k < count {
-        out[k] = code(form, k);
-        k += 1;
-    }
 }
 
 // Whether one of `count` codes from `first` on is that of a character.
@@ -56,11 +40,11 @@ fn has_short(codes: &[u32], first: usize, count: usize, character: u32) -> bool
     requires { ⌜ first + count ≤ length (now codes) ⌝ }
     ensures { λ r. ⌜ r ≡ contains (take count (drop first (now (codes .entry)))) (character + 1) ⌝ }
 {
-    let want = wide(character) + 1;
+    let want = wide64(character) + 1;
     let end = first + count;
     let mut k = first;
     while k < end {
-        if wide(codes[k]) == want {
+        if wide64(codes[k]) == want {
             return true;
         }
         k += 1;
@@ -98,7 +82,7 @@ pub fn is_long(form: &[u8], k: usize, name: &[u8]) -> bool
 
 // Whether one of `count` name records from `first` on is this long name.
 fn has_long(form: &[u8], name: &[u8], first: usize, count: usize) -> bool
-    requires { ⌜ Checked (now form) × (first + count ≤ nameCount (now form)) ⌝ }
+    requires { ⌜ GoodNames (now form) × (first + count ≤ nameCount (now form)) ⌝ }
     ensures { λ r. ⌜ r ≡ containsName (namedAt (now (form .entry)) first count .longs) (now (name .entry)) ⌝ }
 {
     let end = first + count;
@@ -130,33 +114,31 @@ fn fits(adjacent: bool, own: bool) -> bool
     if adjacent { own } else { true }
 }
 
-// `matches_arg`: whether item i has one of `count` names from `first` on.
+// `matches_arg`: whether item i has one of the names.
 pub fn matches(
     form: &[u8],
     codes: &[u32],
     sheet: &[u8],
     items: &[u32],
     i: usize,
-    first: usize,
-    count: usize,
-    adjacent: bool,
+    names: Names,
 ) -> bool
-    requires { ⌜ HasNames (now form) (now codes) first count × HasItem (now sheet) (now items) i ⌝ }
-    ensures { λ r. ⌜ ((x : RulesItem) → itemFrom (sheetArea (now (sheet .entry))) (recordAt (now (items .entry)) i) ≡ some x → r ≡ matchesArg (namedAt (now (form .entry)) first count) adjacent x) ⌝ }
+    requires { ⌜ HasNames (now form) (now codes) (names .first) (names .count) × HasItem (now sheet) (now items) i ⌝ }
+    ensures { λ r. ⌜ ((x : RulesItem) → itemFrom (sheetArea (now (sheet .entry))) (recordAt (now (items .entry)) i) ≡ some x → r ≡ matchesArg (namedAt (now (form .entry)) (names .first) (names .count)) (names .adjacent) x) ⌝ }
 {
     let item = split_arg::read_item(items, i);
     match item {
         Item::Short(character, own, _) => {
-            if !fits(adjacent, own) {
+            if !fits(names.adjacent, own) {
                 return false;
             }
-            has_short(codes, first, count, character)
+            has_short(codes, names.first, names.count, character)
         }
         Item::Long(name, own, _) => {
-            if !fits(adjacent, own) {
+            if !fits(names.adjacent, own) {
                 return false;
             }
-            has_long(form, part_bytes(sheet, name), first, count)
+            has_long(form, part_bytes(sheet, name), names.first, names.count)
         }
         Item::ArgWord(_) | Item::Word(_) | Item::PosWord(_) => false,
     }
@@ -171,17 +153,15 @@ pub fn find_named(
     marks: &[u16],
     from: usize,
     end: usize,
-    first: usize,
-    count: usize,
-    adjacent: bool,
+    names: Names,
 ) -> usize
-    requires { ⌜ HasNames (now form) (now codes) first count × HasItems (now sheet) (now items) (now marks) from end ⌝ }
-    ensures { λ r. ⌜ Sought (sheetArea (now (sheet .entry))) (now (items .entry)) (matchesArg (namedAt (now (form .entry)) first count) adjacent) (now (marks .entry)) from end r ⌝ }
+    requires { ⌜ HasNames (now form) (now codes) (names .first) (names .count) × HasItems (now sheet) (now items) (now marks) from end ⌝ }
+    ensures { λ r. ⌜ Sought (sheetArea (now (sheet .entry))) (now (items .entry)) (matchesArg (namedAt (now (form .entry)) (names .first) (names .count)) (names .adjacent)) (now (marks .entry)) from end r ⌝ }
 {
     let mut i = from;
     while i < end {
-        if marks[i] != 1 {
-            if matches(form, codes, sheet, items, i, first, count, adjacent) {
+        if is_present(marks[i]) {
+            if matches(form, codes, sheet, items, i, names) {
                 return i;
             }
         }
@@ -209,7 +189,7 @@ pub fn find_operand(items: &[u32], marks: &[u16], from: usize, end: usize) -> us
 {
     let mut place = from;
     while place < end {
-        if marks[place] != 1 {
+        if is_present(marks[place]) {
             if is_operand(items, place) {
                 return place;
             }

@@ -11,7 +11,7 @@ use native.Mathlib.Omega.{arith}
 use lib.Bits.{bitAnd}
 use lib.Dec.{eqb, ltb}
 use lib.ListN.{length, getD, getElem?, take, drop, set as put, length-set, drop-of-length-le}
-use lib.Seq.{getD-take, getD-set-same, getD-set-other, take-nil}
+use lib.Seq.{getD-set-same, getD-set-other, take-nil}
 use borrow.Author.Tests.{eq-eqb, ne-eqb, le-leb, lt-leb, ltb-true, ltb-false}
 use types.Run.{OneOf}
 use denote.Enum.Declared.{tagOf}
@@ -29,11 +29,12 @@ use Rattle.split_arg.specs.declared.Item.the-variants.{Short, Long}
 use Rattle.split_arg.proofs.Item as T
 use Rattle.split_arg.specs.Items.{recordAt, itemOf}
 use Rattle.form_layout.proofs.Sizes.{names-length}
-use Rattle.take_search.specs.Codes.{codeOf, codesOf, Coded, namesFrom, namedAt}
+use Rattle.form_codes.specs.Codes.{namesFrom, namedAt}
 use Rattle.take_search.specs.Items.{partBytes}
 use Rattle.take_search.specs.Search.{HasItem}
 use Rattle.take_search.proofs.Items.{is-short, is-long, other-not}
-use Rattle.take_search.proofs.Names.{map-at, getD-of, contains-append, short-code, names-append}
+use Rattle.rules.proofs.ContainsLaws.{contains-append, names-append}
+use Rattle.form_codes.proofs.NameCodes.{code-at, short-code}
 use Rattle.take_table.specs.Bits.{bitAt}
 use Rattle.take_table.specs.Known.{isNamed, isAdjacent, nodeMatches, SetOf, Matchable, MatchSet, Known}
 use Rattle.take_table.specs.Owners.{owns, Owners, isLoose, Lookup, hasShort, hasLong}
@@ -132,13 +133,6 @@ module _ (b : List ℕ) (test : Name → Bool) where
 
 abbrev pub isShort : List ℕ → ℕ → Name → Bool
 isShort b c m = contains (shortOf (readForm b .area) m) c
-
-code-at : (b codes : List ℕ) (k : ℕ) (m : Name) → Coded b codes → k < nameCount b → getElem? (readForm b .names) k ≡ some m
-    → getD codes k 0 ≡ codeOf (readForm b .area) m
-unfolding codesOf
-code-at b codes k m z h e =
-    sym (getD-take (nameCount b) codes k 0 h)
-    ∙ rw (z .same) (getD-of (codesOf (readForm b)) k _ (map-at (codeOf (readForm b .area)) (readForm b .names) k m e))
 
 module _ (b codes : List ℕ) (count : ℕ) (table : List ℕ) (loose : ℕ) (q : Lookup b codes count table loose) (c : ℕ) where
   pub short-first : Gathering b (isShort b c) 0 0

@@ -12,7 +12,8 @@ use Rattle.rules.specs.Split.{Item}
 use Rattle.rules.specs.Take.{matchesArg}
 use Rattle.rules.specs.Calls.{itemFrom}
 use Rattle.split_arg.specs.Items.{recordAt}
-use Rattle.take_search.specs.Codes.{Checked, Coded, namedAt}
+use Rattle.form_layout.specs.Layout.{GoodNames}
+use Rattle.form_codes.specs.Codes.{CodedNames, namedAt}
 use Rattle.take_search.specs.Items.{Table}
 use Rattle.take_table.specs.Bits.{bitAt}
 
@@ -33,8 +34,8 @@ SetOf b test set = (k : ℕ) (y : Node) → getElem? (readForm b .nodes) k ≡ s
 
 -- a form with the codes of its names, and n items to be matched
 pub record Matchable (b codes s words : List ℕ) (n : ℕ) : Type 0 where
-  pub checked : Checked b
-  pub coded : Coded b codes
+  pub checked : GoodNames b
+  pub coded : CodedNames b codes
   pub made : sheetFault s ≡ 0
   pub items : List Item
   pub table : Table (sheetArea s) words items

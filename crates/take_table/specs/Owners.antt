@@ -8,7 +8,8 @@ use lib.ListN.{length, getD}
 use Rattle.rules.specs.Base.{contains}
 use Rattle.rules.specs.Form.{Node, nameCount}
 use Rattle.rules.specs.Take.{containsName}
-use Rattle.take_search.specs.Codes.{Checked, Coded, namedAt}
+use Rattle.form_layout.specs.Layout.{GoodNames}
+use Rattle.form_codes.specs.Codes.{CodedNames, namedAt}
 use Rattle.take_table.specs.Bits.{bitAt}
 use Rattle.take_table.specs.Known.{isNamed, isAdjacent, SetOf}
 
@@ -33,8 +34,8 @@ isLoose x = not (isAdjacent x)
 
 -- what it takes to look an item up
 pub record Lookup (b codes : List ℕ) (count : ℕ) (table : List ℕ) (set : ℕ) : Type 0 where
-  pub checked : Checked b
-  pub coded : Coded b codes
+  pub checked : GoodNames b
+  pub coded : CodedNames b codes
   pub all : count ≡ nameCount b
   pub owners : Owners b count table
   pub loose : SetOf b isLoose set

@@ -9,14 +9,15 @@ ghost use Rattle.rules.specs.Accept.{lengthGood};
 ghost use Rattle.rules.specs.Form.{nameCount};
 ghost use Rattle.rules.specs.Sheet.{sheetArea};
 ghost use Rattle.rules.specs.Split.{Item as RulesItem};
-ghost use Rattle.form_layout.specs.Layout.{nodeOf};
-ghost use Rattle.take_search.specs.Codes.{Checked};
+ghost use Rattle.form_layout.specs.Layout.{nodeOf, GoodNames};
 ghost use Rattle.take_search.specs.Search.{HasItem, Sought};
 ghost use Rattle.form_letters.specs.Classes.{Marked};
 ghost use Rattle.take_table.specs.Bits.{bitAt};
 ghost use Rattle.take_table.specs.Known.{isAdjacent, SetOf, Matchable, MatchSet, Known, Says};
 ghost use Rattle.take_table.specs.Owners.{Owners, Added, isLoose, Lookup, hasShort, hasLong};
 use split_arg::Item;
+use state_marks::is_present;
+use take_search::wide64;
 
 // ---- sets of nodes as the bits of a word
 
@@ -120,22 +121,16 @@ fn mark_nodes(form: &[u8], count: usize, owners: &mut [u64; 128]) -> u64
 
 // ---- the nodes that match an item
 
-fn wide(x: u32) -> u64
-    ensures { λ r. ⌜ r ≡ x ⌝ }
-{
-    x as u64
-}
-
 // The nodes that have this character as a short name.
 fn short_owners(codes: &[u32], count: usize, owners: &[u64; 128], character: u32) -> u64
     requires { ⌜ (count ≤ length (now codes)) × (count ≤ 128) ⌝ }
     ensures { λ r. ⌜ ((form : List ℕ) (loose : ℕ) → Lookup form (now (codes .entry)) count (now (owners .entry)) loose → SetOf form (hasShort form character) r) ⌝ }
 {
-    let want = wide(character) + 1;
+    let want = wide64(character) + 1;
     let mut set: u64 = 0;
     let mut k = 0;
     while k < count {
-        if wide(codes[k]) == want {
+        if wide64(codes[k]) == want {
             set = union(set, owners[k]);
         }
         k += 1;
@@ -145,7 +140,7 @@ fn short_owners(codes: &[u32], count: usize, owners: &[u64; 128], character: u32
 
 // The nodes that have these bytes as a long name.
 fn long_owners(form: &[u8], count: usize, owners: &[u64; 128], name: &[u8]) -> u64
-    requires { ⌜ Checked (now form) × (count ≡ nameCount (now form)) × Owners (now form) count (now owners) ⌝ }
+    requires { ⌜ GoodNames (now form) × (count ≡ nameCount (now form)) × Owners (now form) count (now owners) ⌝ }
     ensures { λ r. ⌜ SetOf (now (form .entry)) (hasLong (now (form .entry)) (now (name .entry))) r ⌝ }
 {
     let mut set: u64 = 0;
@@ -242,7 +237,7 @@ pub fn find(table: &[u64], marks: &[u16], node: usize, from: usize, end: usize) 
     }
     let mut i = from;
     while i < end {
-        if marks[i] != 1 {
+        if is_present(marks[i]) {
             if has(table[i], node) {
                 return i;
             }

@@ -1,8 +1,9 @@
 //! The fixed lists, replayed by the proved code: no Rust of bpaf is needed for them.
 
 use line::forged::{self, records, Call, Lent, State, ANSWER_WORDS, ITEM_WORDS};
+use proved::{Answer, Refused, RunAnswer};
 
-use super::{calls, calls::Answer, checks, run, split, utf8};
+use super::{calls, run, utf8};
 
 /// The tokens of a line, read from the left.
 struct Tokens<'a>(std::str::Split<'a, char>);
@@ -47,9 +48,9 @@ fn utf8_line(text: &str) -> bool {
 /// Form, sheet, and the first refusal of the two checks.
 fn check_line(tokens: &mut Tokens) -> bool {
     let (form, sheet) = (tokens.bytes(), tokens.bytes());
-    let theirs = checks::Refused { number: tokens.number(), place: tokens.place() };
-    let ours = checks::form_check(&form);
-    let ours = if ours.number == 0 { checks::sheet_check(&sheet) } else { ours };
+    let theirs = Refused { number: tokens.number(), place: tokens.place() };
+    let ours = proved::form_check(&form);
+    let ours = if ours.number == 0 { proved::sheet_check(&sheet) } else { ours };
     ours == theirs
 }
 
@@ -59,7 +60,7 @@ fn split_line(tokens: &mut Tokens) -> bool {
     let (number, place) = (tokens.number(), tokens.place());
     let theirs = tokens.state();
     let mut items = vec![u32::MAX; 1792];
-    let ours = split::split(&form, &sheet, &mut items);
+    let ours = proved::split(&form, &sheet, &mut items);
     let words: Vec<u32> = (0..7 * theirs.count).map(|_| tokens.number()).collect();
     let same = records(&items).concat() == words && items[words.len()..].iter().all(|w| *w == 0);
     same && (ours.number, ours.place, ours.state) == (number, place, theirs)
@@ -70,9 +71,9 @@ fn run_line(tokens: &mut Tokens) -> bool {
     let (form, sheet) = (tokens.bytes(), tokens.bytes());
     let (number, place, tries, count) = (tokens.number(), tokens.place(), tokens.number(), tokens.number());
     let words: Vec<u32> = (0..count).map(|_| tokens.number()).collect();
-    let theirs = run::RunAnswer { number, place, tries, words: count, state: tokens.state() };
+    let theirs = RunAnswer { number, place, tries, words: count, state: tokens.state() };
     let (mut items, mut answers) = (vec![u32::MAX; ITEM_WORDS], vec![u32::MAX; ANSWER_WORDS]);
-    let ours = run::run(&form, &sheet, &mut items, &mut answers);
+    let ours = proved::run(&form, &sheet, &mut items, &mut answers);
     ours == theirs && answers == run::padded(&words, ANSWER_WORDS)
 }
 
@@ -81,9 +82,9 @@ fn text_line(tokens: &mut Tokens) -> bool {
     let (form, sheet, word) = (tokens.bytes(), tokens.bytes(), tokens.number());
     let (number, place, bytes) = (tokens.number(), tokens.place(), tokens.bytes());
     let mut items = vec![u32::MAX; ITEM_WORDS];
-    let state = split::split(&form, &sheet, &mut items).state;
+    let state = proved::split(&form, &sheet, &mut items).state;
     let lent = Lent { form: &form, sheet: &sheet, items: &items, state: &state };
-    run::text(&lent, word) == if number == 0 { Ok(&bytes[..]) } else { Err((number, place)) }
+    run::text(&lent, word) == if number == 0 { Ok(&bytes[..]) } else { Err(Refused { number, place }) }
 }
 
 /// A call by its words and its second state; none for `eval`.
@@ -139,13 +140,13 @@ fn calls_line(text: &str) -> bool {
     let mut tokens = Tokens(head.split(' '));
     let (form, sheet) = (tokens.bytes(), tokens.bytes());
     let mut items = vec![0; ITEM_WORDS];
-    split::split(&form, &sheet, &mut items);
+    proved::split(&form, &sheet, &mut items);
     let (given, left) = (Tokens(given.split(' ')).state(), Tokens(left.split(' ')).state());
     let lent = Lent { form: &form, sheet: &sheet, items: &items, state: &given };
     let Some(call) = call_of(words, second) else {
         let node = words.split(' ').nth(1).and_then(|w| w.parse().ok()).expect("a node");
         let mut answers = vec![u32::MAX; ANSWER_WORDS];
-        let ours = run::eval(&lent, &mut answers, node);
+        let ours = proved::eval(&lent, &mut answers, node);
         let shown = answers[..ours.words as usize].iter().map(|w| format!(" {w}")).collect::<String>();
         let place = if ours.place == 0 { "-".to_string() } else { (ours.place - 1).to_string() };
         let ours_words = format!("{} {place} tries {} words{shown}", ours.number, ours.tries);

@@ -1,5 +1,7 @@
 use borrow.Author.Needs.{needs}
-use Rattle.call_check.proofs.Checks.{check-eight, check-long, node-below, kind-refused, kind-past, kind-there}
+use Rattle.rules.proofs.GivenLaws.{check-eight, check-length}
+use Rattle.form_layout.proofs.Sizes.{node-below}
+use Rattle.call_check.proofs.Checks.{kind-refused, kind-past, kind-there}
 use Rattle.call_check.proofs.kind.Statement.{statement}
 use Rattle.call_check.proofs.kind.Tie as tie
 
@@ -16,7 +18,7 @@ returns-2 : tie.Need-returns-2
 returns-2 c = search kind-past
 
 kind-requires : tie.Need-kind-requires
-kind-requires c κs = (search check-long, search node-below)
+kind-requires c κs = (search check-length, search node-below)
 
 returns-3 : tie.Need-returns-3
 returns-3 c = search kind-there

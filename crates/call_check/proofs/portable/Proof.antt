@@ -1,5 +1,6 @@
 use borrow.Author.Needs.{needs}
-use Rattle.call_check.proofs.Checks.{check-names, portable-refused, portable-yes, portable-no}
+use Rattle.form_layout.proofs.Sizes.{check-names}
+use Rattle.call_check.proofs.Checks.{portable-refused, portable-yes, portable-no}
 use Rattle.call_check.proofs.portable.Statement.{statement}
 use Rattle.call_check.proofs.portable.Tie as tie
 

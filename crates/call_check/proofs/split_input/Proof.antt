@@ -1,5 +1,6 @@
 use borrow.Author.Needs.{needs}
-use Rattle.call_check.proofs.Splits.{form-refused, sheet-refused, slice-refused, all-ready}
+use Rattle.form_layout.proofs.Sizes.{check-names}
+use Rattle.call_check.proofs.Splits.{form-refused, sheet-refused, slice-refused, splittable, split-answers}
 use Rattle.call_check.proofs.split_input.Statement.{statement}
 use Rattle.call_check.proofs.split_input.Tie as tie
 
@@ -36,14 +37,20 @@ same-length-3 c = search needs
 returns-3 : tie.Need-returns-3
 returns-3 c = search slice-refused
 
-split-ready-requires : tie.Need-split-ready-requires
-split-ready-requires c κs = search all-ready
+codes-of-requires : tie.Need-codes-of-requires
+codes-of-requires c κs = search check-names
+
+slice-aggregate-split : tie.Need-slice-aggregate-split
+slice-aggregate-split c = search needs
+
+split-requires : tie.Need-split-requires
+split-requires c κs = search (splittable, needs)
 
 same-length-4 : tie.Need-same-length-4
 same-length-4 c = search needs
 
 returns-4 : tie.Need-returns-4
-returns-4 c = search needs
+returns-4 c = search (split-answers, splittable)
 
 pub split-input-spec : {M : Type 1} → statement M
 split-input-spec =
@@ -60,6 +67,8 @@ split-input-spec =
     split-refused-requires-3
     same-length-3
     returns-3
-    split-ready-requires
+    codes-of-requires
+    slice-aggregate-split
+    split-requires
     same-length-4
     returns-4)

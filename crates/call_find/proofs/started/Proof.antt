@@ -2,7 +2,7 @@
 use borrow.Author.Needs.{needs}
 use mathlib.Core.Logic.{inl}
 use mathlib.Core.Path.{refl}
-use Rattle.call_check.proofs.Checks.{check-accepted}
+use Rattle.rules.proofs.GivenLaws.{check-accepted}
 use Rattle.call_table.proofs.Laws.{start-small, start-within}
 use Rattle.call_find.proofs.Ends.{start-form, start-checked, start-sheet, start-made, start-ready}
 use Rattle.call_find.proofs.started.Statement.{statement}

@@ -1,6 +1,6 @@
 -- By the kind of the node. Assumes nothing.
 use borrow.Author.Needs.{needs}
-use Rattle.call_check.proofs.Checks.{node-below}
+use Rattle.form_layout.proofs.Sizes.{node-below}
 use Rattle.call_form.proofs.Keys.{form-eight, form-long, key-past, key-flag, key-argument, key-other}
 use Rattle.call_form.proofs.key_at.Statement.{statement}
 use Rattle.call_form.proofs.key_at.Tie as tie

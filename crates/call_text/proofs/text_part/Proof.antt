@@ -1,6 +1,6 @@
 -- Each test in its turn (`Words`). Assumes nothing.
 use borrow.Author.Needs.{needs}
-use Rattle.call_check.proofs.Checks.{check-eight}
+use Rattle.rules.proofs.GivenLaws.{check-eight}
 use Rattle.call_text.proofs.Words.{form-refused, table-refuses, no-item, has-item, item-part, no-record, has-record, record-part}
 use Rattle.call_text.proofs.text_part.Statement.{statement}
 use Rattle.call_text.proofs.text_part.Tie as tie

@@ -1,8 +1,8 @@
 -- Invariant: the names from k on are as portable as all. Assumes nothing.
 use native.Mathlib.Omega.{arith}
 use Prim.Native.Nat.{_-_}
-use Rattle.form_fields.proofs.Given.{Passing, passing-first, passing-bad, passing-next, passing-last, has-name}
-use Rattle.form_layout.proofs.Sizes.{sized}
+use Rattle.form_fields.proofs.Given.{Passing, passing-first, passing-bad, passing-next, passing-last}
+use Rattle.form_layout.proofs.Sizes.{sized, has-name}
 use Rattle.form_fields.proofs.is_portable.Statement.{statement}
 use Rattle.form_fields.proofs.is_portable.Tie as tie
 
@@ -23,7 +23,7 @@ portable-at-requires c κs =
     let by-name-count = c .before .before in
     let name-count = by-name-count .name-count in
     let pre = by-name-count .before .before .pre in
-    has-name _ _ _ pre (name-count .ensures) (c .loop-test .taken)
+    has-name _ pre _ _ (name-count .ensures) (c .loop-test .taken)
 
 returns : tie.Need-returns Inv-loop μ-loop
 returns c =

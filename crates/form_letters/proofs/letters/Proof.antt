@@ -1,7 +1,7 @@
 -- Invariant: the letters of the records below k are written. Assumes nothing.
 use Prim.Native.Nat.{_-_}
 use borrow.Author.Needs.{needs}
-use Rattle.take_search.proofs.Names.{checked-long}
+use Rattle.form_layout.proofs.Sizes.{names-long}
 use Rattle.form_letters.proofs.Words.{Written, written-first, written-next, written-last, flag-wanted, argument-wanted}
 use Rattle.form_letters.proofs.letters.Statement.{statement}
 use Rattle.form_letters.proofs.letters.Tie as tie
@@ -14,7 +14,7 @@ abbrev μ-loop : tie.MeasureT-loop
 μ-loop form codes flags₀ arguments₀ count classes n₀ m₀ k₀ flags arguments n m k = count - k
 
 name-count-requires : tie.Need-name-count-requires Inv-loop μ-loop
-name-count-requires c κs = search (checked-long, needs)
+name-count-requires c κs = search (names-long, needs)
 
 no-classes-requires : tie.Need-no-classes-requires Inv-loop μ-loop
 no-classes-requires c κs = search needs

@@ -2,7 +2,8 @@ use borrow.Author.Needs.{needs}
 use Rattle.run.proofs.Runs.{splitting-refused, fields-start, fields-end, fields-long}
 use lib.ListN.{length}
 use Rattle.split_args.proofs.States.{fill-long}
-use Rattle.call_check.proofs.Splits.{ready-names, codes-fit}
+use Rattle.form_codes.proofs.NameCodes.{codes-room}
+use Rattle.split_line.proofs.Lines.{splittable-names}
 use Rattle.run.proofs.run_checked.Statement.{statement}
 use Rattle.run.proofs.run_checked.Tie as tie
 
@@ -16,13 +17,13 @@ slice-aggregate-codes : tie.Need-slice-aggregate-codes
 slice-aggregate-codes c = search needs
 
 codes-requires : tie.Need-codes-requires
-codes-requires c κs = (search ready-names, search codes-fit)
+codes-requires c κs = search (splittable-names, codes-room)
 
-slice-aggregate-split-accepted : tie.Need-slice-aggregate-split-accepted
-slice-aggregate-split-accepted c = search needs
+slice-aggregate-split : tie.Need-slice-aggregate-split
+slice-aggregate-split c = search needs
 
-split-accepted-requires : tie.Need-split-accepted-requires
-split-accepted-requires c κs = search needs
+split-requires : tie.Need-split-requires
+split-requires c κs = search needs
 
 begin-requires : tie.Need-begin-requires
 begin-requires c κs = search needs
@@ -46,12 +47,12 @@ returns c =
     let if1 = by-if1 .if1 in
     let by-begin = by-if1 .before .before in
     let begin = by-begin .begin in
-    let by-split-accepted = by-begin .before .before .before .before in
-    let split-accepted = by-split-accepted .split-accepted in
-    let by-fill = by-split-accepted .before .before .before .before .before .before .before .before .before in
+    let by-split = by-begin .before .before .before .before in
+    let split = by-split .split in
+    let by-fill = by-split .before .before .before .before .before .before .before .before .before in
     let fill = by-fill .fill in
     let pre = by-fill .before .before .before .before .before .before .pre in
-    splitting-refused _ _ _ _ (pre .0) _ (fill .ensures) _ _ (split-accepted .ensures) _ _ (begin .ensures) (if1 .taken) _ (c .refused .ensures)
+    splitting-refused _ _ _ _ (pre .0) _ (fill .ensures) _ _ (split .ensures) _ _ (begin .ensures) (if1 .taken) _ (c .refused .ensures)
 
 slice-aggregate-run-items : tie.Need-slice-aggregate-run-items
 slice-aggregate-run-items c = search needs
@@ -62,14 +63,14 @@ run-items-requires c κs =
     let if1 = by-if1 .if1 in
     let by-begin = by-if1 .before .before in
     let begin = by-begin .begin in
-    let by-split-accepted = by-begin .before .before .before .before in
-    let split-accepted = by-split-accepted .split-accepted in
-    let by-codes2 = by-split-accepted .before .before .before .before in
+    let by-split = by-begin .before .before .before .before in
+    let split = by-split .split in
+    let by-codes2 = by-split .before .before .before .before in
     let codes2 = by-codes2 .codes2 in
     let by-fill = by-codes2 .before .before .before .before .before in
     let fill = by-fill .fill in
     let pre = by-fill .before .before .before .before .before .before .pre in
-    fields-start _ _ _ _ (pre .0) _ (fill .ensures) _ _ (split-accepted .ensures) _ _ (begin .ensures) (if1 .left) _ (codes2 .ensures .coded)
+    fields-start _ _ _ _ (pre .0) _ (fill .ensures) _ _ (split .ensures) _ _ (begin .ensures) (if1 .left) _ (codes2 .ensures .coded)
 
 same-length-3 : tie.Need-same-length-3
 same-length-3 c = search needs
@@ -82,12 +83,12 @@ same-length-4 c =
     let if1 = by-if1 .if1 in
     let by-begin = by-if1 .before .before in
     let begin = by-begin .begin in
-    let by-split-accepted = by-begin .before .before .before .before in
-    let split-accepted = by-split-accepted .split-accepted in
-    let by-fill = by-split-accepted .before .before .before .before .before .before .before .before .before in
+    let by-split = by-begin .before .before .before .before in
+    let split = by-split .split in
+    let by-fill = by-split .before .before .before .before .before .before .before .before .before in
     let fill = by-fill .fill in
     let pre = by-fill .before .before .before .before .before .before .pre in
-    fields-long _ _ _ _ (pre .0) _ (fill .ensures) _ _ (split-accepted .ensures) _ _ (begin .ensures) (if1 .left) _ _ _ (run-items .ensures)
+    fields-long _ _ _ _ (pre .0) _ (fill .ensures) _ _ (split .ensures) _ _ (begin .ensures) (if1 .left) _ _ _ (run-items .ensures)
 
 returns-2 : tie.Need-returns-2
 returns-2 c =
@@ -97,12 +98,12 @@ returns-2 c =
     let if1 = by-if1 .if1 in
     let by-begin = by-if1 .before .before in
     let begin = by-begin .begin in
-    let by-split-accepted = by-begin .before .before .before .before in
-    let split-accepted = by-split-accepted .split-accepted in
-    let by-fill = by-split-accepted .before .before .before .before .before .before .before .before .before in
+    let by-split = by-begin .before .before .before .before in
+    let split = by-split .split in
+    let by-fill = by-split .before .before .before .before .before .before .before .before .before in
     let fill = by-fill .fill in
     let pre = by-fill .before .before .before .before .before .before .pre in
-    fields-end _ _ _ _ (pre .0) _ (fill .ensures) _ _ (split-accepted .ensures) _ _ (begin .ensures) (if1 .left) _ _ _ (run-items .ensures)
+    fields-end _ _ _ _ (pre .0) _ (fill .ensures) _ _ (split .ensures) _ _ (begin .ensures) (if1 .left) _ _ _ (run-items .ensures)
 
 pub run-checked-spec : {M : Type 1} → statement M
 run-checked-spec =
@@ -112,8 +113,8 @@ run-checked-spec =
     no-codes-requires
     slice-aggregate-codes
     codes-requires
-    slice-aggregate-split-accepted
-    split-accepted-requires
+    slice-aggregate-split
+    split-requires
     begin-requires
     refused-requires
     same-length

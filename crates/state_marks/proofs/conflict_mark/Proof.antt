@@ -4,8 +4,14 @@ use Rattle.state_marks.proofs.Marks.{conflict-used, conflict-new, confl
 use Rattle.state_marks.proofs.conflict_mark.Statement.{statement}
 use Rattle.state_marks.proofs.conflict_mark.Tie as tie
 
+is-parsed-requires : tie.Need-is-parsed-requires
+is-parsed-requires c κs = search needs
+
 returns : tie.Need-returns
 returns c = search conflict-used
+
+is-parsed-requires-2 : tie.Need-is-parsed-requires-2
+is-parsed-requires-2 c κs = search needs
 
 add-result : tie.Need-add-result
 add-result c = search needs
@@ -17,4 +23,6 @@ returns-3 : tie.Need-returns-3
 returns-3 c = search conflict-none
 
 pub conflict-mark-spec : {M : Type 1} → statement M
-conflict-mark-spec = tie.close (tie.spec returns add-result returns-2 returns-3)
+conflict-mark-spec =
+    tie.close
+    (tie.spec is-parsed-requires returns is-parsed-requires-2 add-result returns-2 returns-3)

@@ -14,11 +14,14 @@ abbrev μ-loop : tie.MeasureT-loop
 loop-holds : tie.Need-loop-holds Inv-loop μ-loop
 loop-holds c = search searched-first
 
-mul-if1 : tie.Need-mul-if1 Inv-loop μ-loop
-mul-if1 c = search needs
+mul-is-present : tie.Need-mul-is-present Inv-loop μ-loop
+mul-is-present c = search needs
 
-shared-slice-read-if1 : tie.Need-shared-slice-read-if1 Inv-loop μ-loop
-shared-slice-read-if1 c = search needs
+shared-slice-read-is-present : tie.Need-shared-slice-read-is-present Inv-loop μ-loop
+shared-slice-read-is-present c = search needs
+
+is-present-requires : tie.Need-is-present-requires Inv-loop μ-loop
+is-present-requires c κs = search needs
 
 returns : tie.Need-returns Inv-loop μ-loop
 returns c = search searched-hit
@@ -42,8 +45,9 @@ first-present-spec =
     Inv-loop
     μ-loop
     loop-holds
-    mul-if1
-    shared-slice-read-if1
+    mul-is-present
+    shared-slice-read-is-present
+    is-present-requires
     returns
     add-i
     loop-less

@@ -16,11 +16,14 @@ wide-requires-2 c κs = search needs
 returns-2 : tie.Need-returns-2
 returns-2 c = search above-scope
 
-mul-if3 : tie.Need-mul-if3
-mul-if3 c = search needs
+mul-is-parsed : tie.Need-mul-is-parsed
+mul-is-parsed c = search needs
 
-element-copy-out-if3 : tie.Need-element-copy-out-if3
-element-copy-out-if3 c = search needs
+element-copy-out-is-parsed : tie.Need-element-copy-out-is-parsed
+element-copy-out-is-parsed c = search needs
+
+is-parsed-requires : tie.Need-is-parsed-requires
+is-parsed-requires c κs = search needs
 
 returns-3 : tie.Need-returns-3
 returns-3 c = search used-before
@@ -31,14 +34,14 @@ mul-marks c = search needs
 element-write-marks : tie.Need-element-write-marks
 element-write-marks c = search needs
 
-sub-t12 : tie.Need-sub-t12
-sub-t12 c = search some-left
+sub-t13 : tie.Need-sub-t13
+sub-t13 c = search some-left
 
-cast-t13 : tie.Need-cast-t13
-cast-t13 c = search needs
+cast-t14 : tie.Need-cast-t14
+cast-t14 c = search needs
 
-add-t14 : tie.Need-add-t14
-add-t14 c = search needs
+add-t15 : tie.Need-add-t15
+add-t15 c = search needs
 
 returns-4 : tie.Need-returns-4
 returns-4 c = search used-now
@@ -51,12 +54,13 @@ remove-spec =
     returns
     wide-requires-2
     returns-2
-    mul-if3
-    element-copy-out-if3
+    mul-is-parsed
+    element-copy-out-is-parsed
+    is-parsed-requires
     returns-3
     mul-marks
     element-write-marks
-    sub-t12
-    cast-t13
-    add-t14
+    sub-t13
+    cast-t14
+    add-t15
     returns-4)

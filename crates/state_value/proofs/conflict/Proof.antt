@@ -21,39 +21,39 @@ first-present-requires c κs =
 returns : tie.Need-returns
 returns c = search conflict-nowhere
 
-mul-mark : tie.Need-mul-mark
-mul-mark c =
+mul-winner-of : tie.Need-mul-winner-of
+mul-winner-of c =
     let c1 = c .before in
     let c2 = c1 .before in
     let c6 = c2 .before .before .before .before in
     let c7 = c6 .before in
     omega (arith, place-below _ (c7 .pre) _ _ _ (c2 .wide2 .ensures) (c6 .wide .ensures) (c1 .first-present .ensures) (c .if1 .left))
 
-element-copy-out-mark : tie.Need-element-copy-out-mark
-element-copy-out-mark c =
+element-copy-out-winner-of : tie.Need-element-copy-out-winner-of
+element-copy-out-winner-of c =
     let c1 = c .before in
     let c2 = c1 .before in
     let c6 = c2 .before .before .before .before in
     let c7 = c6 .before in
     omega (arith, place-below _ (c7 .pre) _ _ _ (c2 .wide2 .ensures) (c6 .wide .ensures) (c1 .first-present .ensures) (c .if1 .left))
+
+winner-of-requires : tie.Need-winner-of-requires
+winner-of-requires c κs = search needs
 
 returns-2 : tie.Need-returns-2
 returns-2 c = search conflict-absent
 
 cast-t6 : tie.Need-cast-t6
 cast-t6 c =
-    let c2 = c .before .before in
-    let c3 = c2 .before in
+    let c3 = c .before .before .before in
     let c4 = c3 .before in
-    let c8 = c4 .before .before .before .before in
-    let c9 = c8 .before in
-    omega (arith, place-below _ (c9 .pre) _ _ _ (c4 .wide2 .ensures) (c8 .wide .ensures) (c3 .first-present .ensures) (c2 .if1 .left))
+    let c5 = c4 .before in
+    let c9 = c5 .before .before .before .before in
+    let c10 = c9 .before in
+    omega (arith, place-below _ (c10 .pre) _ _ _ (c5 .wide2 .ensures) (c9 .wide .ensures) (c4 .first-present .ensures) (c3 .if1 .left))
 
-cast-t14 : tie.Need-cast-t14
-cast-t14 c = search needs
-
-sub-t15 : tie.Need-sub-t15
-sub-t15 c = search needs
+sub-t14 : tie.Need-sub-t14
+sub-t14 c = search needs
 
 returns-3 : tie.Need-returns-3
 returns-3 c = search conflict-there
@@ -66,10 +66,10 @@ conflict-spec =
     wide-requires-2
     first-present-requires
     returns
-    mul-mark
-    element-copy-out-mark
+    mul-winner-of
+    element-copy-out-winner-of
+    winner-of-requires
     returns-2
     cast-t6
-    cast-t14
-    sub-t15
+    sub-t14
     returns-3)

@@ -17,8 +17,8 @@ save-conflicts-requires c κs =
     let r = both-ready _ (c6 .pre .0) _ (c6 .pre .1) _ (c .wide .ensures) in
     (r .0, r .1, r .2, winner-small _ (c6 .pre .0) _ (c6 .pre .1) _ (c6 .pre .2))
 
-numbers-requires : tie.Need-numbers-requires
-numbers-requires c κs = search needs
+numbers-of-requires : tie.Need-numbers-of-requires
+numbers-of-requires c κs = search needs
 
 joined-requires : tie.Need-joined-requires
 joined-requires c κs = search needs
@@ -28,9 +28,9 @@ returns c =
     let c9 = c .before .before .before .before .before .before .before .before .before in
     let long : length (c9 .args .s .marks) ≡ 256 = search (needs, c9 .good) in
     saved-over _ (c9 .pre .0) _ (c9 .pre .1) _ _ _ _ _ long (c9 .pre .2) (c .before .before .before .wide .ensures)
-    (c .before .before .save-conflicts .ensures) (c .before .numbers .ensures) (c .joined .ensures)
+    (c .before .before .save-conflicts .ensures) (c .before .numbers-of .ensures) (c .joined .ensures)
 
 pub save-conflicts-spec : {M : Type 1} → statement M
 save-conflicts-spec =
     tie.close
-    (tie.spec wide-requires save-conflicts-requires numbers-requires joined-requires returns)
+    (tie.spec wide-requires save-conflicts-requires numbers-of-requires joined-requires returns)

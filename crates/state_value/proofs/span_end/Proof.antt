@@ -14,11 +14,14 @@ abbrev μ-loop : tie.MeasureT-loop
 loop-holds : tie.Need-loop-holds Inv-loop μ-loop
 loop-holds c = search spanning-first
 
-mul-if1 : tie.Need-mul-if1 Inv-loop μ-loop
-mul-if1 c = search needs
+mul-is-parsed : tie.Need-mul-is-parsed Inv-loop μ-loop
+mul-is-parsed c = search needs
 
-shared-slice-read-if1 : tie.Need-shared-slice-read-if1 Inv-loop μ-loop
-shared-slice-read-if1 c = search needs
+shared-slice-read-is-parsed : tie.Need-shared-slice-read-is-parsed Inv-loop μ-loop
+shared-slice-read-is-parsed c = search needs
+
+is-parsed-requires : tie.Need-is-parsed-requires Inv-loop μ-loop
+is-parsed-requires c κs = search needs
 
 returns : tie.Need-returns Inv-loop μ-loop
 returns c = search spanning-used
@@ -42,8 +45,9 @@ span-end-spec =
     Inv-loop
     μ-loop
     loop-holds
-    mul-if1
-    shared-slice-read-if1
+    mul-is-parsed
+    shared-slice-read-is-parsed
+    is-parsed-requires
     returns
     add-i
     loop-less

@@ -15,17 +15,23 @@ abbrev μ-loop : tie.MeasureT-loop
 loop-holds : tie.Need-loop-holds Inv-loop μ-loop
 loop-holds c = search going-first
 
-mul-if1 : tie.Need-mul-if1 Inv-loop μ-loop
-mul-if1 c = search needs
+mul-is-present : tie.Need-mul-is-present Inv-loop μ-loop
+mul-is-present c = search needs
 
-shared-slice-read-if1 : tie.Need-shared-slice-read-if1 Inv-loop μ-loop
-shared-slice-read-if1 c = search needs
+shared-slice-read-is-present : tie.Need-shared-slice-read-is-present Inv-loop μ-loop
+shared-slice-read-is-present c = search needs
 
-mul-if2 : tie.Need-mul-if2 Inv-loop μ-loop
-mul-if2 c = search needs
+is-present-requires : tie.Need-is-present-requires Inv-loop μ-loop
+is-present-requires c κs = search needs
 
-shared-slice-read-if2 : tie.Need-shared-slice-read-if2 Inv-loop μ-loop
-shared-slice-read-if2 c = search needs
+mul-is-present-2 : tie.Need-mul-is-present-2 Inv-loop μ-loop
+mul-is-present-2 c = search needs
+
+shared-slice-read-is-present-2 : tie.Need-shared-slice-read-is-present-2 Inv-loop μ-loop
+shared-slice-read-is-present-2 c = search needs
+
+is-present-requires-2 : tie.Need-is-present-requires-2 Inv-loop μ-loop
+is-present-requires-2 c κs = search needs
 
 returns : tie.Need-returns Inv-loop μ-loop
 returns c = search going-hit
@@ -49,10 +55,12 @@ until-present-spec =
     Inv-loop
     μ-loop
     loop-holds
-    mul-if1
-    shared-slice-read-if1
-    mul-if2
-    shared-slice-read-if2
+    mul-is-present
+    shared-slice-read-is-present
+    is-present-requires
+    mul-is-present-2
+    shared-slice-read-is-present-2
+    is-present-requires-2
     returns
     add-i
     loop-less

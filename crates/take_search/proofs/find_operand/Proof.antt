@@ -18,11 +18,14 @@ abbrev μ-loop : tie.MeasureT-loop
 loop-holds : tie.Need-loop-holds Inv-loop μ-loop
 loop-holds c = λ area. search seeking-first
 
-mul-if1 : tie.Need-mul-if1 Inv-loop μ-loop
-mul-if1 c = search needs
+mul-is-present : tie.Need-mul-is-present Inv-loop μ-loop
+mul-is-present c = search needs
 
-shared-slice-read-if1 : tie.Need-shared-slice-read-if1 Inv-loop μ-loop
-shared-slice-read-if1 c = search needs
+shared-slice-read-is-present : tie.Need-shared-slice-read-is-present Inv-loop μ-loop
+shared-slice-read-is-present c = search needs
+
+is-present-requires : tie.Need-is-present-requires Inv-loop μ-loop
+is-present-requires c κs = search needs
 
 is-operand-requires : tie.Need-is-operand-requires Inv-loop μ-loop
 is-operand-requires c κs = search needs
@@ -33,14 +36,17 @@ returns c =
     let is-operand = by-is-operand .is-operand in
     let by-if1 = by-is-operand .before in
     let if1 = by-if1 .if1 in
-    let by-loop-test = by-if1 .before .before in
+    let by-is-present = by-if1 .before in
+    let is-present = by-is-present .is-present in
+    let by-loop-test = by-is-present .before .before in
     let loop-test = by-loop-test .loop-test in
     let by-loop = by-loop-test .before in
     let loop = by-loop .loop in
     let by-args = by-loop .before .before .before in
     let args = by-args .args in
     let pre = by-args .pre in
-    λ area. seeking-hit area _ _ _ _ _ _ (loop .inv area) (loop-test .taken) (pre .1) (if1 .taken) _
+    λ area. seeking-hit area _ _ _ _ _ _ (loop .inv area) (loop-test .taken) (pre .1)
+    _ (is-present .ensures) (if1 .taken) _
     (operand-said area (args .items .now) (loop .place) _ (is-operand .ensures)) (c .if2 .taken)
 
 add-place : tie.Need-add-place Inv-loop μ-loop
@@ -51,7 +57,9 @@ loop-less c = search needs
 
 loop-again : tie.Need-loop-again Inv-loop μ-loop
 loop-again c =
-    let by-loop-test = c .before .before in
+    let by-is-present = c .before in
+    let is-present = by-is-present .is-present in
+    let by-loop-test = by-is-present .before .before in
     let loop-test = by-loop-test .loop-test in
     let by-loop = by-loop-test .before in
     let loop = by-loop .loop in
@@ -61,9 +69,10 @@ loop-again c =
     λ
     area.
     ⊎-elim
-    (λ w. seeking-other area _ _ _ _ _ _ (loop .inv area) (loop-test .taken) (pre .1) (w .0 .taken) _
+    (λ w. seeking-other area _ _ _ _ _ _ (loop .inv area) (loop-test .taken) (pre .1)
+    _ (is-present .ensures) (w .0 .taken) _
     (operand-said area (args .items .now) (loop .place) _ (w .1 .ensures)) (w .2 .left))
-    (λ w. seeking-used area _ _ _ _ _ _ (loop .inv area) (loop-test .taken) (pre .1) (w .left)) (c .if1 .came)
+    (λ w. seeking-used area _ _ _ _ _ _ (loop .inv area) (loop-test .taken) (pre .1) _ (is-present .ensures) (w .left)) (c .if1 .came)
 
 returns-2 : tie.Need-returns-2 Inv-loop μ-loop
 returns-2 c = λ area. seeking-last area _ _ _ _ _ _ (c .before .loop .inv area) (c .loop-test .left)
@@ -75,8 +84,9 @@ find-operand-spec =
     Inv-loop
     μ-loop
     loop-holds
-    mul-if1
-    shared-slice-read-if1
+    mul-is-present
+    shared-slice-read-is-present
+    is-present-requires
     is-operand-requires
     returns
     add-place

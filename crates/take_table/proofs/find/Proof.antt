@@ -32,11 +32,14 @@ returns c =
 loop-holds : tie.Need-loop-holds Inv-loop μ-loop
 loop-holds c = λ area words test s. search seeking-first
 
-mul-if2 : tie.Need-mul-if2 Inv-loop μ-loop
-mul-if2 c = search needs
+mul-is-present : tie.Need-mul-is-present Inv-loop μ-loop
+mul-is-present c = search needs
 
-shared-slice-read-if2 : tie.Need-shared-slice-read-if2 Inv-loop μ-loop
-shared-slice-read-if2 c = search needs
+shared-slice-read-is-present : tie.Need-shared-slice-read-is-present Inv-loop μ-loop
+shared-slice-read-is-present c = search needs
+
+is-present-requires : tie.Need-is-present-requires Inv-loop μ-loop
+is-present-requires c κs = search needs
 
 mul-has : tie.Need-mul-has Inv-loop μ-loop
 mul-has c = search needs
@@ -53,15 +56,15 @@ returns-2 c =
     let has = by-has .has in
     let by-if2 = by-has .before .before in
     let if2 = by-if2 .if2 in
-    let by-before = by-if2 .before .before in
-    let before = by-before .before in
-    let loop-test = by-before .loop-test in
+    let by-is-present = by-if2 .before in
+    let is-present = by-is-present .is-present in
+    let by-loop-test = by-is-present .before .before in
+    let loop-test = by-loop-test .loop-test in
+    let by-loop = by-loop-test .before in
     λ area words test s.
-    let c6 = before in
     let below = loop-test .taken in
-    let long = c6 .before .before .before .before .before .pre .4 in
-    let present = if2 .taken in
-    seeking-hit area words test _ _ _ _ (c6 .loop .inv area words test s) below long present _
+    let long = by-loop .before .before .before .before .before .pre .4 in
+    seeking-hit area words test _ _ _ _ (by-loop .loop .inv area words test s) below long _ (is-present .ensures) (if2 .taken) _
     (λ x h. has .ensures ∙ s .at _ x below h) (c .if3 .taken)
 
 add-i : tie.Need-add-i Inv-loop μ-loop
@@ -72,17 +75,18 @@ loop-less c = search needs
 
 loop-again : tie.Need-loop-again Inv-loop μ-loop
 loop-again c =
-    let by-before = c .before .before in
-    let before = by-before .before in
-    let loop-test = by-before .loop-test in
+    let by-is-present = c .before in
+    let free = by-is-present .is-present .ensures in
+    let by-loop-test = by-is-present .before .before in
+    let loop-test = by-loop-test .loop-test in
+    let by-loop = by-loop-test .before in
     λ area words test s.
-    let c3 = before in
     let below = loop-test .taken in
-    let long = c3 .before .before .before .before .before .pre .4 in
-    let z = c3 .loop .inv area words test s in
+    let long = by-loop .before .before .before .before .before .pre .4 in
+    let z = by-loop .loop .inv area words test s in
     ⊎-elim
-    (λ w. seeking-other area words test _ _ _ _ z below long (w .0 .taken) _ (λ x h. w .2 .ensures ∙ s .at _ x below h) (w .3 .left))
-    (λ w. seeking-used area words test _ _ _ _ z below long (w .left))
+    (λ w. seeking-other area words test _ _ _ _ z below long _ free (w .0 .taken) _ (λ x h. w .2 .ensures ∙ s .at _ x below h) (w .3 .left))
+    (λ w. seeking-used area words test _ _ _ _ z below long _ free (w .left))
     (c .if2 .came)
 
 returns-3 : tie.Need-returns-3 Inv-loop μ-loop
@@ -98,8 +102,9 @@ find-spec =
     is-absent-requires
     returns
     loop-holds
-    mul-if2
-    shared-slice-read-if2
+    mul-is-present
+    shared-slice-read-is-present
+    is-present-requires
     mul-has
     shared-slice-read-has
     has-requires

@@ -2,7 +2,7 @@
 use Prim.Native.Nat.{_-_}
 use borrow.Author.Needs.{needs}
 use Rattle.rules.specs.Sheet.{sheetArea}
-use Rattle.take_search.proofs.Names.{checked-long}
+use Rattle.form_layout.proofs.Sizes.{names-long}
 use Rattle.take_table.proofs.Lookups.{Listing, listing-first, listing-next, listing-last, item-there}
 use Rattle.take_table.proofs.known.Statement.{statement}
 use Rattle.take_table.proofs.known.Tie as tie
@@ -14,7 +14,7 @@ abbrev μ-loop : tie.MeasureT-loop
 μ-loop form codes sheet items count table₀ names owners loose all₀ i₀ table all i = count - i
 
 name-count-requires : tie.Need-name-count-requires Inv-loop μ-loop
-name-count-requires c κs = search (checked-long, needs)
+name-count-requires c κs = search (names-long, needs)
 
 no-owners-requires : tie.Need-no-owners-requires Inv-loop μ-loop
 no-owners-requires c κs = search needs
