@@ -13,9 +13,6 @@ wide-requires c κs = search needs
 known-requires : tie.Need-known-requires
 known-requires c κs = (search items-matchable, search items-few, search table-long)
 
-slice-aggregate-run-fields : tie.Need-slice-aggregate-run-fields
-slice-aggregate-run-fields c = search needs
-
 run-fields-requires : tie.Need-run-fields-requires
 run-fields-requires c κs = search items-start
 
@@ -32,7 +29,6 @@ run-items-spec =
     nothing-known-requires
     wide-requires
     known-requires
-    slice-aggregate-run-fields
     run-fields-requires
     same-length
     returns)
