@@ -7,6 +7,7 @@ use Rattle.rules.specs.Codes.{placeCode}
 use Rattle.rules.specs.State.{Conflict, Picked, Scope}
 use Rattle.rules.specs.Take.{Taken, Operand}
 use Rattle.rules.specs.Calls.{Called}
+use Rattle.rules.specs.declared.State.{State as Raw}
 use Rattle.call_answers.specs.declared.Answer.{Answer}
 use Rattle.call_answers.specs.declared.StateAnswer.{StateAnswer}
 
@@ -64,6 +65,10 @@ codedOr0 code (some a) = code a
 abbrev pub answerWith : ℕ → ℕ → Coded → Answer
 answerWith number place c = record
     { number = number; place = place; found = c .found; first = c .first; second = c .second }
+
+abbrev pub stateWith : ℕ → ℕ → Coded → Raw → StateAnswer
+stateWith number place c x = record
+    { number = number; place = place; found = c .found; first = c .first; second = c .second; state = x }
 
 -- from a call on a state that is left as it was
 unfoldable pub answerOf : {A : Type 0} → (A → Coded) → Outcome (Called A) → Option Answer

@@ -41,7 +41,7 @@ use Rattle.call_find.specs.declared.ItemRecord.{ItemRecord}
 use Rattle.call_find.specs.declared.Search.{Search}
 use Rattle.call_find.specs.declared.Seen.{Seen}
 use Rattle.call_find.specs.Records.{wordsOf}
-use Rattle.call_find.specs.Scan.{stoppedAt, Started, Able, reached, Reaches, marked, sought, judged, seenTo, turned, placeFrom, ended, Finishes}
+use Rattle.call_find.specs.Scan.{stoppedAt, Started, Able, reached, ReachedAt, marked, sought, judged, seenTo, turned, placeFrom, ended, Finishes}
 use Rattle.call_find.proofs.Scan.{turned-zero, turned-hole, turned-next}
 
 -- ---- `is_reached`
@@ -58,32 +58,32 @@ and-false true = refl
 and-false false = refl
 
 module _ (s : Raw) (i a : ℕ) (ea : a ≡ s .start) where
-  pub reached-before : i < a → Reaches s i false
+  pub reached-before : i < a → ReachedAt s i false
   unfolding reached
   reached-before h = record { same = rw (← ea, lt-leb a i h); near = λ e. absurd (false≢true e) }
 
   module _ (ha : a ≤ i) (b : ℕ) (eb : b ≡ s .end) where
-    pub reached-behind : b ≤ i → Reaches s i false
+    pub reached-behind : b ≤ i → ReachedAt s i false
     unfolding reached
     reached-behind h = record { same = rw (← ea, ← eb, le-leb a i ha, le-ltb i b h); near = λ e. absurd (false≢true e) }
 
     module _ (hb : i < b) (long : length (s .marks) ≡ 256) where
-      pub reached-past : 256 ≤ i → Reaches s i false
+      pub reached-past : 256 ≤ i → ReachedAt s i false
       unfolding reached
       reached-past h = record { same = rw (← ea, ← eb, le-leb a i ha, lt-ltb i b hb) (sym (past (s .marks) i (omega arith))); near = λ e. absurd (false≢true e) }
 
-      pub reached-mark : i < 256 → Reaches s i (not (eqb (getD (s .marks) i 0) 1))
-      unfolding reached present parsed
-      reached-mark h = record { same = rw (← ea, ← eb, le-leb a i ha, lt-ltb i b hb) (sym (present-at (s .marks) i (omega arith))); near = λ e. h }
+      pub reached-mark : i < 256 → (f : Bool) → f ≡ present (getD (s .marks) i 0) → ReachedAt s i f
+      unfolding reached
+      reached-mark h f e = record {
+        same = rw (← ea, ← eb, le-leb a i ha, lt-ltb i b hb) (e ∙ sym (present-at (s .marks) i (omega arith)));
+        near = λ e. h;
+      }
 
 -- ---- `started`
 
-abbrev stoppedWith : ℕ → ℕ → List ℕ → Search
-stoppedWith n k l = record { number = n; place = k; area = 0; key = noKey; codes = l }
-
-pub stopped-with : (n k : ℕ) (l : List ℕ) → l ≡ replicate 128 0
-    → stoppedWith n k l ≡ stoppedAt n k
-stopped-with n k l e = ap (λ (c : List ℕ). stoppedWith n k c) e
+pub stopped-with : (n k : ℕ) (key : Key) → key ≡ noKey → (l : List ℕ) → l ≡ replicate 128 0
+    → record { number = n; place = k; area = 0; key = key; codes = l } ≡ stoppedAt n k
+stopped-with n k key z l e = rw (z, e)
 
 module _ (form sheet : List ℕ) (k : ℕ) (r : Refused) (e : r ≡ checkCode (checkForm form)) where
   pub start-form : (r .number ≡ 0 → ⊥) → (g : Search) → g ≡ stoppedAt (r .number) (r .place) → Started form sheet k g
@@ -177,7 +177,7 @@ module _ (form sheet : List ℕ) (s : Raw) (g : Search) (x : ItemRecord) (i c : 
       unfolding marked if_then_else_
       judge-kept h = sym (rw (ne-eqb c 0 h)) ∙ judged-as (some (item .0)) (item .1)
 
-      module _ (n : c ≡ 0) (r : Bool) (er : Reaches s i r) where
+      module _ (n : c ≡ 0) (r : Bool) (er : ReachedAt s i r) where
         pub judge-unreached : not r ≡ true → 0 ≡ judged form sheet s g x i c
         unfolding marked if_then_else_
         judge-unreached h =
@@ -188,7 +188,7 @@ module _ (form sheet : List ℕ) (s : Raw) (g : Search) (x : ItemRecord) (i c : 
           pub judge-near : i < 256
           judge-near = er .near (not-false r h)
 
-          pub judge-names : HasNames form (g .codes) (g .key .first) (g .key .count)
+          pub judge-names : HasNames form (g .codes) (g .key .names .first) (g .key .names .count)
           judge-names = a z .names
 
           here : itemFrom (sheetArea sheet) (recordAt w 0) ≡ some (item .0)
@@ -200,7 +200,7 @@ module _ (form sheet : List ℕ) (s : Raw) (g : Search) (x : ItemRecord) (i c : 
           module
               _
               (m : Bool) (em : (y : Item) → itemFrom (sheetArea sheet) (recordAt w 0) ≡ some y → m ≡ matchesArg
-              (namedAt form (g .key .first) (g .key .count)) (g .key .adjacent) y) where
+              (namedAt form (g .key .names .first) (g .key .names .count)) (g .key .names .adjacent) y) where
             same : (reached s i && sought form g (item .0)) ≡ m
             same =
                 let e : reached s i ≡ true = sym (er .same) ∙ not-false r h in

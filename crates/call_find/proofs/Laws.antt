@@ -38,7 +38,7 @@ use Rattle.call_find.specs.declared.ItemRecord.{ItemRecord}
 use Rattle.call_find.specs.declared.Search.{Search}
 use Rattle.call_find.specs.declared.Seen.{Seen}
 use Rattle.call_find.specs.Records.{wordsOf, itemsOr30, recordItems, placeOf, callFind}
-use Rattle.call_find.specs.Scan.{Started, Ready, sought, seenTo, unseen, scan, placeFrom, ended, Finishes}
+use Rattle.call_find.specs.Scan.{Started, StartReady, sought, seenTo, unseen, scan, placeFrom, ended, Finishes}
 use Rattle.call_find.proofs.Scan.{over, over-one, scan-items, scan-bad, from-first}
 
 -- ---- refused before the records
@@ -99,7 +99,7 @@ module _ (n : ℕ) (x : Raw) (good : stateIn n x ≡ ok (fromRaw x)) where
 
 -- ---- for `find`
 
-module _ (form sheet : List ℕ) (xs : List ItemRecord) (x : Raw) (k : ℕ) (g : Search) (z : g .number ≡ 0) (y : Ready form sheet k g) (c : Seen)
+module _ (form sheet : List ℕ) (xs : List ItemRecord) (x : Raw) (k : ℕ) (g : Search) (z : g .number ≡ 0) (y : StartReady form sheet k g) (c : Seen)
     (ec : c ≡ scan form sheet x g xs 0 unseen) where
   abbrev node : Option Key
   node = getElem? (y .result .trees) k >>? keyOf

@@ -30,40 +30,40 @@ use Rattle.call_find.specs.declared.Seen.{Seen}
 abbrev pub stoppedAt : ℕ → ℕ → Search
 stoppedAt n k = record { number = n; place = k; area = 0; key = noKey; codes = replicate 128 0 }
 
-pub record Refuses (form sheet : List ℕ) (g : Search) : Type 0 where
+pub record StartRefused (form sheet : List ℕ) (g : Search) : Type 0 where
   pub refusal : Refusal
   pub same : (formIn form >>= λ _. sheetIn sheet) ≡ refused refusal
   pub number : g .number ≡ refusal .number
   pub place : g .place ≡ placeCode (refusal .place)
 
 -- the names of the node, and what the matching asks
-pub record Ready (form sheet : List ℕ) (k : ℕ) (g : Search) : Type 0 where
+pub record StartReady (form sheet : List ℕ) (k : ℕ) (g : Search) : Type 0 where
   pub result : Accepted
   pub accepts : checkForm form ≡ accepted result
   pub key : KeyAt form result k (g .key)
-  pub names : HasNames form (g .codes) (g .key .first) (g .key .count)
+  pub names : HasNames form (g .codes) (g .key .names .first) (g .key .names .count)
   pub made : sheetFault sheet ≡ 0
   pub area : length (sheetArea sheet) ≡ g .area
 
 pub record Started (form sheet : List ℕ) (k : ℕ) (g : Search) : Type 0 where
-  pub good : g .number ≡ 0 → Ready form sheet k g
-  pub bad : (g .number ≡ 0 → ⊥) → Refuses form sheet g
+  pub good : g .number ≡ 0 → StartReady form sheet k g
+  pub bad : (g .number ≡ 0 → ⊥) → StartRefused form sheet g
 
 -- what one record needs of the start
-pub record Names (form sheet : List ℕ) (g : Search) : Type 0 where
-  pub names : HasNames form (g .codes) (g .key .first) (g .key .count)
+pub record CanMatch (form sheet : List ℕ) (g : Search) : Type 0 where
+  pub names : HasNames form (g .codes) (g .key .names .first) (g .key .names .count)
   pub made : sheetFault sheet ≡ 0
   pub area : length (sheetArea sheet) ≡ g .area
 
 abbrev pub Able : List ℕ → List ℕ → Search → Type 0
-Able form sheet g = g .number ≡ 0 → Names form sheet g
+Able form sheet g = g .number ≡ 0 → CanMatch form sheet g
 
 -- ---- one record
 -- a place that is present and in scope
 unfoldable pub reached : Raw → ℕ → Bool
 reached s i = leb (s .start) i && (ltb i (s .end) && presentAt (s .marks) i)
 
-pub record Reaches (s : Raw) (i : ℕ) (r : Bool) : Type 0 where
+pub record ReachedAt (s : Raw) (i : ℕ) (r : Bool) : Type 0 where
   pub same : r ≡ reached s i
   pub near : r ≡ true → i < 256
 
@@ -73,7 +73,7 @@ marked test i c none = 1
 marked test i c (some y) = if eqb c 0 then (if test y then i + 2 else 0) else c
 
 abbrev pub sought : List ℕ → Search → Item → Bool
-sought form g = matchesArg (keyNames form (g .key)) (g .key .adjacent)
+sought form g = matchesArg (keyNames form (g .key)) (g .key .names .adjacent)
 
 unfoldable pub judged : List ℕ → List ℕ → Raw → Search → ItemRecord → ℕ → ℕ → ℕ
 judged form sheet s g x i c =

@@ -4,13 +4,19 @@
 ghost use mathlib.Core.Path.{_≡_};
 ghost use mathlib.Core.Option.{some};
 ghost use Prim.Native.Nat.{_+_, _≤_, _<_};
-ghost use lib.ListN.{replicate};
-ghost use Rattle.call_answers.specs.Answers.{coded, placeOrNone, answerWith, plainAnswer};
+ghost use Rattle.call_answers.specs.Answers.{placeOrNone, plainAnswer};
 ghost use Rattle.call_find.specs.Records.{wordsOf, callFind};
-ghost use Rattle.call_find.specs.Scan.{stoppedAt, Started, Reaches, Able, judged, unseen, turned, Finishes};
+ghost use Rattle.call_find.specs.Scan.{stoppedAt, Started, ReachedAt, Able, judged, unseen, turned, Finishes};
 use call_answers::Answer;
+use call_answers::BAD_ITEM;
+use call_answers::BAD_STATE;
+use call_answers::NOT_THERE;
+use call_answers::answered;
+use call_answers::narrow;
+use call_answers::refused;
 use call_form::Key;
 use rules::State;
+use state_marks::is_present;
 use wire::wide;
 
 // An item as the seven words of its record.
@@ -55,23 +61,12 @@ fn words_of(x: ItemRecord) -> [u32; 7]
     ]
 }
 
-fn no_codes() -> [u32; 128]
-    ensures { λ r. ⌜ r ≡ replicate 128 0 ⌝ }
-{
-    [0u32; 128]
-}
-
 // Refused before the records.
 fn stopped(number: u32, place: u32) -> Search
     ensures { λ r. ⌜ r ≡ stoppedAt number place ⌝ }
 {
-    let key = Key {
-        kind: 0,
-        first: 0,
-        count: 0,
-        adjacent: false,
-    };
-    let codes = no_codes();
+    let key = call_form::no_key();
+    let codes = form_codes::no_codes();
     Search {
         number,
         place,
@@ -94,7 +89,7 @@ fn started(form: &[u8], sheet: &[u8], node: usize) -> Search
         return stopped(fault, 0);
     }
     let key = call_form::key_at(form, node);
-    let codes = call_form::codes_of(form);
+    let codes = form_codes::codes_of(form);
     let area = sheet.len() - wire::area_start(2, split_sheet::count(sheet));
     Search {
         number: 0,
@@ -107,7 +102,7 @@ fn started(form: &[u8], sheet: &[u8], node: usize) -> Search
 
 // Whether a place is present and in scope.
 fn is_reached(s: State, i: usize) -> bool
-    ensures { λ r. ⌜ Reaches s i r ⌝ }
+    ensures { λ r. ⌜ ReachedAt s i r ⌝ }
 {
     if i < wide(s.start) {
         return false;
@@ -118,7 +113,7 @@ fn is_reached(s: State, i: usize) -> bool
     if 256 <= i {
         return false;
     }
-    s.marks[i] != 1
+    is_present(s.marks[i])
 }
 
 fn nothing_seen() -> Seen
@@ -154,16 +149,7 @@ fn judge(
         return 0;
     }
     let key = search.key;
-    if take_search::matches(
-        form,
-        &search.codes,
-        sheet,
-        &words,
-        0,
-        key.first,
-        key.count,
-        key.adjacent,
-    ) {
+    if take_search::matches(form, &search.codes, sheet, &words, 0, key.names) {
         return i + 2;
     }
     0
@@ -199,37 +185,6 @@ fn turn(
     }
 }
 
-fn refused(number: u32, place: u32) -> Answer
-    ensures { λ r. ⌜ r ≡ answerWith number place (coded 0 0 0) ⌝ }
-{
-    Answer {
-        number,
-        place,
-        found: 0,
-        first: 0,
-        second: 0,
-    }
-}
-
-fn answered(found: u32, first: u32) -> Answer
-    ensures { λ r. ⌜ r ≡ answerWith 0 0 (coded found first 0) ⌝ }
-{
-    Answer {
-        number: 0,
-        place: 0,
-        found,
-        first,
-        second: 0,
-    }
-}
-
-fn narrow(x: usize) -> u32
-    requires { ⌜ x ≤ 256 ⌝ }
-    ensures { λ r. ⌜ r ≡ x ⌝ }
-{
-    x as u32
-}
-
 // After all records: refusals 30, 29 and 28, or what was found.
 fn finish(s: State, search: Search, seen: Seen) -> Answer
     requires { ⌜ seen .found ≤ seen .count + 1 ⌝ }
@@ -239,18 +194,18 @@ fn finish(s: State, search: Search, seen: Seen) -> Answer
         return refused(search.number, search.place);
     }
     if seen.found == 1 {
-        return refused(30, 0);
+        return refused(BAD_ITEM, 0);
     }
     if !state_marks::good(s, seen.count) {
-        return refused(29, 0);
+        return refused(BAD_STATE, 0);
     }
     if search.key.kind == 0 {
-        return refused(28, 0);
+        return refused(NOT_THERE, 0);
     }
     if seen.found == 0 {
-        return answered(0, 0);
+        return answered(0, 0, 0);
     }
-    answered(1, narrow(seen.found - 2))
+    answered(1, narrow(seen.found - 2), 0)
 }
 
 // The first present item in scope that has one of the names of a flag or an argument; an adjacent argument's only where the

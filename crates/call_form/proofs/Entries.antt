@@ -27,13 +27,13 @@ use Rattle.state_marks.specs.Lent.{numbersOf}
 use Rattle.take_search.specs.Items.{Table}
 use Rattle.take_search.specs.Search.{HasItem}
 use Rattle.take.specs.Takes.{Items}
-use Rattle.call_answers.specs.Answers.{Coded, coded, codedOr0, yesCode, takenCode, answerWith, answerOf, stateAnswerOf}
+use Rattle.call_answers.specs.Answers.{Coded, coded, codedOr0, yesCode, takenCode, answerWith, stateWith, answerOf, stateAnswerOf}
 use Rattle.call_answers.specs.declared.Answer.{Answer}
 use Rattle.call_answers.specs.declared.StateAnswer.{StateAnswer}
 use Rattle.call_table.specs.Given.{HasState}
-use Rattle.call_form.specs.Given.{Given, Tests}
+use Rattle.call_form.specs.Given.{HasForm, Tests}
 use Rattle.call_form.specs.Keys.{keyNames, rulesKey, KeyAt, Keyed, commandAt}
-use Rattle.call_form.specs.Hands.{stateWith, Hands, Says}
+use Rattle.call_form.specs.Answered.{TakeAnswer, TestAnswer}
 use Rattle.call_form.specs.declared.Key.{Key}
 use Rattle.form_layout.proofs.Sizes.{accepted-names}
 use Rattle.call_form.proofs.Tests.{refused-state, refused-answer, passed}
@@ -75,7 +75,7 @@ module _ (form sheet words : List ℕ) (x : Raw) (r : Refused) (t : Tests form s
 
   -- ---- past the tests
   module _ (z : r .number ≡ 0) where
-    pub tests-given : Given form sheet words x
+    pub tests-given : HasForm form sheet words x
     tests-given = t .good z
 
     pub tests-state : HasState sheet words x
@@ -118,14 +118,14 @@ module _ (form sheet words : List ℕ) (x : Raw) (r : Refused) (t : Tests form s
       here : KeyAt form (t .good z .result) k key
       here = n .at (t .good z .result) (t .good z .accepts)
 
-      pub key-inside : key .first + key .count ≤ nameCount form
+      pub key-inside : key .names .first + key .names .count ≤ nameCount form
       key-inside = here .inside
 
       pub flag-none : (key .kind ≡ 1 → ⊥) → (y : StateAnswer) → y ≡ stateWith 28 0 (coded 0 0 0) x → stateAnswerOf yesCode (callTakeFlag form sheet words x k) ≡ some y
       unfolding callTakeFlag if_then_else_
       flag-none w = none-state _ yesCode (asked-none _ _ (here .flag ∙ rw (ne-eqb (key .kind) 1 w)))
 
-      pub flag-some : key .kind ≡ 1 → (y : StateAnswer) → Hands yesCode sheet words x (λ is. takeFlag parsedMark is (keyNames form key) (fromRaw x)) y
+      pub flag-some : key .kind ≡ 1 → (y : StateAnswer) → TakeAnswer yesCode sheet words x (λ is. takeFlag parsedMark is (keyNames form key) (fromRaw x)) y
           → stateAnswerOf yesCode (callTakeFlag form sheet words x k) ≡ some y
       unfolding callTakeFlag if_then_else_
       flag-some w y h = done _ (stateAnswerOf yesCode) _ (asked-some _ _ (keyNames form key) (here .flag ∙ rw (eq-eqb (key .kind) 1 w))) ∙ h .same these items-here
@@ -134,7 +134,7 @@ module _ (form sheet words : List ℕ) (x : Raw) (r : Refused) (t : Tests form s
       unfolding callTakeArg if_then_else_
       arg-none w = none-state _ takenCode (asked-none _ _ (here .argument ∙ rw (ne-eqb (key .kind) 2 w)))
 
-      pub arg-some : key .kind ≡ 2 → (y : StateAnswer) → Hands takenCode sheet words x (λ is. takeArg parsedMark is (keyNames form key) (key .adjacent) (fromRaw x)) y
+      pub arg-some : key .kind ≡ 2 → (y : StateAnswer) → TakeAnswer takenCode sheet words x (λ is. takeArg parsedMark is (keyNames form key) (key .names .adjacent) (fromRaw x)) y
           → stateAnswerOf takenCode (callTakeArg form sheet words x k) ≡ some y
       unfolding callTakeArg if_then_else_
       arg-some w y h = done _ (stateAnswerOf takenCode) _ (asked-some _ _ (rulesKey form key) (here .argument ∙ rw (eq-eqb (key .kind) 2 w))) ∙ h .same these items-here
@@ -169,7 +169,7 @@ module _ (form sheet words : List ℕ) (x : Raw) (r : Refused) (t : Tests form s
               here = from-here;
             }
 
-            pub matches-some : Says sheet words i (matchesArg (keyNames form key) (key .adjacent)) y
+            pub matches-some : TestAnswer sheet words i (matchesArg (keyNames form key) (key .names .adjacent)) y
                 → answerOf yesCode (callMatches form sheet words x k i) ≡ some y
             unfolding callMatches answerOf handed took codedOr0
             matches-some says =
@@ -189,7 +189,7 @@ module _ (form sheet words : List ℕ) (x : Raw) (r : Refused) (t : Tests form s
         pub cmd-name : HasName form k
         cmd-name = has-name form k cmd-there (t .good z .result) (t .good z .accepts)
 
-        pub cmd-some : (word : List ℕ) → nameBytesAt (readForm form) k ≡ some word → (y : StateAnswer) → Hands yesCode sheet words x (λ is. takeCmd parsedMark is word (fromRaw x)) y
+        pub cmd-some : (word : List ℕ) → nameBytesAt (readForm form) k ≡ some word → (y : StateAnswer) → TakeAnswer yesCode sheet words x (λ is. takeCmd parsedMark is word (fromRaw x)) y
             → stateAnswerOf yesCode (callTakeCmd form sheet words x k) ≡ some y
         unfolding callTakeCmd
         cmd-some word v y h =

@@ -24,7 +24,7 @@ use Rattle.form_layout.specs.Layout.{nodeOf, HasName, nameBytesAt, GoodNames}
 use Rattle.form_layout.proofs.Sizes.{sized, nodes-length, names-length}
 use Rattle.form_codes.specs.Codes.{namesFrom, namedAt}
 use Rattle.eval_told.proofs.NodeLaw.{node-tree}
-use Rattle.call_form.specs.Keys.{noKey, KeyAt, Keyed, commandAt}
+use Rattle.call_form.specs.Keys.{keyWith, noKey, KeyAt, Keyed, commandAt}
 use Rattle.call_form.specs.declared.Key.{Key}
 use Rattle.form_layout.proofs.Sizes.{accepted-names}
 
@@ -42,9 +42,6 @@ form-eight b e = omega (arith, well-made b (e .0) (e .1) .counts .exact)
 
 pub name-below : (b : List ℕ) (k n : ℕ) → n ≡ nameCount b → k < n → k < nameCount b
 name-below b k n m h = omega (arith, m, h)
-
-pub names-fit : (b w : List ℕ) → GoodNames b → w ≡ replicate 128 0 → nameCount b ≤ length w
-names-fit b w c e = omega (arith, sized b (c .good) .counts .names, ap length e, length-replicate {A = ℕ} 128 0)
 
 -- ---- a tree's names, by the kind of its node
 abbrev partNames : Form → Node → Named
@@ -113,7 +110,7 @@ module _ (b : List ℕ) (k : ℕ) where
     few : x .kind ≤ 2 → x .p + x .q ≤ nameCount b
     few h = omega (arith, kinds .inside h, names-length b)
 
-    flag-here : x .kind ≡ 1 → KeyAt b a k (record { kind = 1; first = x .p; count = x .q; adjacent = false })
+    flag-here : x .kind ≡ 1 → KeyAt b a k (keyWith 1 (x .p) (x .q) false)
     unfolding if_then_else_ namedAt namesFrom
     flag-here e =
         let is : flagNames tree ≡ some (namedAt b (x .p) (x .q)) = kinds .flag ∙ rw (eq-eqb (x .kind) 1 e) in
@@ -124,7 +121,7 @@ module _ (b : List ℕ) (k : ℕ) where
           any = here keyOf ∙ flag-key tree _ is;
         }
 
-    argument-here : x .kind ≡ 2 → KeyAt b a k (record { kind = 2; first = x .p; count = x .q; adjacent = eqb (x .r % 2) 1 })
+    argument-here : x .kind ≡ 2 → KeyAt b a k (keyWith 2 (x .p) (x .q) (eqb (x .r % 2) 1))
     unfolding if_then_else_ namedAt namesFrom
     argument-here e =
         let is : argumentKey tree ≡ some (record { named = namedAt b (x .p) (x .q); adjacent = eqb (x .r % 2) 1 }) = kinds .argument ∙ rw (eq-eqb (x .kind) 2 e) in
@@ -153,10 +150,10 @@ module _ (b : List ℕ) (k : ℕ) where
   key-past n m h r e = record { at = λ a g. rw e (past-nodes (omega (arith, m, h)) a g) }
 
   module _ (x : layout.Node) (at : getElem? (readForm b .nodes) k ≡ some (nodeOf x)) where
-    pub key-flag : x .kind ≡ 1 → Keyed b k (record { kind = 1; first = x .p; count = x .q; adjacent = false })
+    pub key-flag : x .kind ≡ 1 → Keyed b k (keyWith 1 (x .p) (x .q) false)
     key-flag e = record { at = λ a g. flag-here (nodeOf x) at a g e }
 
-    pub key-argument : x .kind ≡ 2 → Keyed b k (record { kind = 2; first = x .p; count = x .q; adjacent = eqb (x .r % 2) 1 })
+    pub key-argument : x .kind ≡ 2 → Keyed b k (keyWith 2 (x .p) (x .q) (eqb (x .r % 2) 1))
     key-argument e = record { at = λ a g. argument-here (nodeOf x) at a g e }
 
     pub key-other : (x .kind ≡ 1 → ⊥) → (x .kind ≡ 2 → ⊥) → (r : Key) → r ≡ noKey → Keyed b k r

@@ -21,6 +21,8 @@ use Rattle.rules.specs.declared.State.{State as Raw}
 use Rattle.rules.proofs.StepLaws.{Free, Finds, free-below, find-good, remove-step, get-free, current-good}
 use Rattle.state_marks.specs.declared.Numbers.{Numbers}
 use Rattle.state_marks.specs.Lent.{rawOf, numbersOf, stateOf, Fine}
+use Rattle.state_marks.specs.Written.{fieldMark, commandMark}
+use Rattle.state_marks.proofs.Mark.{field-parsed, field-told, command-parsed, command-told}
 use Rattle.state_marks.proofs.Laws.{raw-back}
 use Rattle.state_value.proofs.Given.{given-fine}
 use Rattle.form_layout.specs.Layout.{GoodNames}
@@ -34,15 +36,16 @@ use Rattle.take.specs.declared.Value.the-variants.{Missing, Taken as Value·Tak
 use Rattle.take.specs.declared.Argument.{Argument}
 use Rattle.split_arg.specs.declared.Part.{Part}
 use Rattle.split_arg.specs.Items.{recordAt}
-use Rattle.call_answers.specs.Answers.{Coded, coded, codedOr0, yesNo, yesCode, takenCode, answerWith, stateAnswerOf}
+use Rattle.call_answers.specs.Answers.{Coded, coded, codedOr0, yesNo, yesCode, takenCode, answerWith, stateWith, stateAnswerOf}
+use Rattle.call_answers.specs.declared.Answer.{Answer}
 use Rattle.call_answers.specs.declared.StateAnswer.{StateAnswer}
 use Rattle.call_table.specs.Given.{HasState}
-use Rattle.call_form.specs.Given.{Given}
-use Rattle.call_form.specs.Hands.{stateWith, SmallValue, valueAnswer, Hands, Says}
+use Rattle.call_form.specs.Given.{HasForm}
+use Rattle.call_form.specs.Answered.{SmallValue, valueAnswer, TakeAnswer, TestAnswer}
 use Rattle.form_layout.proofs.Sizes.{accepted-names}
 
 -- ---- what an accepted form and a good state give the takes
-module _ (form sheet words : List ℕ) (x : Raw) (g : Given form sheet words x) where
+module _ (form sheet words : List ℕ) (x : Raw) (g : HasForm form sheet words x) where
   pub given-names : GoodNames form
   given-names = accepted-names form (g .result) (g .accepts)
 
@@ -53,17 +56,22 @@ module _ (sheet words : List ℕ) (x : Raw) (g : HasState sheet words x) where
   pub sheet-made : sheetFault sheet ≡ 0
   sheet-made = g .table .made
 
-  pub ready : (p : Numbers) → p ≡ numbersOf x → Ready (sheetArea sheet) words (x .marks) p 1
-  unfolding parsed
-  ready p e =
+  ready : (mark : ℕ) → parsed mark ≡ true → (p : Numbers) → p ≡ numbersOf x → Ready (sheetArea sheet) words (x .marks) p mark
+  ready mark told p e =
       let h = g .table .holds in
       rw e (record {
         items = h .items;
         table = h .table;
         same = h .count;
         fine = given-fine (x .count) x (g .good);
-        told = refl;
+        told = told;
       })
+
+  pub field-ready : (p : Numbers) → p ≡ numbersOf x → Ready (sheetArea sheet) words (x .marks) p fieldMark
+  field-ready = ready fieldMark field-parsed
+
+  pub command-ready : (p : Numbers) → p ≡ numbersOf x → Ready (sheetArea sheet) words (x .marks) p commandMark
+  command-ready = ready commandMark command-parsed
 
 -- ---- what is handed back
 module _ {A : Type 0} (code : A → Coded) (x : Raw) where
@@ -79,34 +87,36 @@ module _ {A : Type 0} (code : A → Coded) (x : Raw) where
 
 module _ (sheet words : List ℕ) (x : Raw) (p : Numbers) (e : p ≡ numbersOf x) (long : length (x .marks) ≡ 256) (m : List ℕ) (y : Raw) where
   module _ (t : Flag) (j : y ≡ rawOf m (t .numbers)) (f : ℕ) (yes : f ≡ yesNo (t .found)) (r : StateAnswer) (c : r ≡ stateWith 0 0 (coded f 0 0) y) where
-    pub flag-hands : (n : Named) → TakesFlag 1 (sheetArea sheet) words n (x .marks) p m t
-        → Hands yesCode sheet words x (λ is. takeFlag parsedMark is n (fromRaw x)) r
-    unfolding parsedMark stateOf
+    pub flag-hands : (n : Named) → TakesFlag fieldMark (sheetArea sheet) words n (x .marks) p m t
+        → TakeAnswer yesCode sheet words x (λ is. takeFlag parsedMark is n (fromRaw x)) r
+    unfolding stateOf
     flag-hands n h = record {
       same = λ is i.
           let o = h .same is (rw e i) in
-          took-hands yesCode x _ (t .found) m (t .numbers) (rw e at o) (h .left .fine) (h .left .long ∙ long)
-          ∙ rw (c, j, yes) refl;
+          let z : stateAnswerOf yesCode (handed x (takeFlag fieldMark is n (fromRaw x))) ≡ some r =
+          took-hands yesCode x _ (t .found) m (t .numbers) (rw e at o) (h .left .fine) (h .left .long ∙ long) ∙ rw (c, j, yes) refl in
+          subst (λ (k : ℕ). stateAnswerOf yesCode (handed x (takeFlag k is n (fromRaw x))) ≡ some r) field-told z;
     }
 
-    pub cmd-hands : (w : List ℕ) → TakesCmd 1 (sheetArea sheet) words w (x .marks) p m t
-        → Hands yesCode sheet words x (λ is. takeCmd parsedMark is w (fromRaw x)) r
-    unfolding parsedMark stateOf
+    pub cmd-hands : (w : List ℕ) → TakesCmd commandMark (sheetArea sheet) words w (x .marks) p m t
+        → TakeAnswer yesCode sheet words x (λ is. takeCmd parsedMark is w (fromRaw x)) r
+    unfolding stateOf
     cmd-hands w h = record {
       same = λ is i.
           let o = h .same is (rw e i) in
-          took-hands yesCode x _ (t .found) m (t .numbers) (rw e at o) (h .left .fine) (h .left .long ∙ long)
-          ∙ rw (c, j, yes) refl;
+          let z : stateAnswerOf yesCode (handed x (takeCmd commandMark is w (fromRaw x))) ≡ some r =
+          took-hands yesCode x _ (t .found) m (t .numbers) (rw e at o) (h .left .fine) (h .left .long ∙ long) ∙ rw (c, j, yes) refl in
+          subst (λ (k : ℕ). stateAnswerOf yesCode (handed x (takeCmd k is w (fromRaw x))) ≡ some r) command-told z;
     }
 
   module _ (t : Argument) (j : y ≡ rawOf m (t .numbers)) (r : StateAnswer) (c : r ≡ valueAnswer (t .value) y x) where
-    module _ (n : Named) (adjacent : Bool) (h : TakesArg 1 (sheetArea sheet) words n adjacent (x .marks) p m t) where
+    module _ (n : Named) (adjacent : Bool) (h : TakesArg fieldMark (sheetArea sheet) words n adjacent (x .marks) p m t) where
       module _ (is : List Item) (i : Items (sheetArea sheet) words (numbersOf x) is) where
-        arg-same : takeArg 1 is n adjacent (fromRaw x) ≡ valueOf (sheetArea sheet) m (t .numbers) (t .value)
+        arg-same : takeArg fieldMark is n adjacent (fromRaw x) ≡ valueOf (sheetArea sheet) m (t .numbers) (t .value)
         unfolding stateOf
         arg-same = let o = h .same is (rw e i) in rw e at o
 
-        arg-told : (v : Value) → t .value ≡ v → stateAnswerOf takenCode (handed x (takeArg 1 is n adjacent (fromRaw x))) ≡ some r
+        arg-told : (v : Value) → t .value ≡ v → stateAnswerOf takenCode (handed x (takeArg fieldMark is n adjacent (fromRaw x))) ≡ some r
         arg-told Missing k =
             took-hands takenCode x _ none m (t .numbers) (arg-same ∙ rw k refl) (h .left .fine) (h .left .long ∙ long) ∙ rw (c, j, k) refl
         arg-told (Value·Taken a b) k =
@@ -115,9 +125,12 @@ module _ (sheet words : List ℕ) (x : Raw) (p : Numbers) (e : p ≡ numbersOf x
             ∙ rw (c, j, k) refl
         arg-told (NoArgument a) k = refused-hands takenCode x _ 22 a (arg-same ∙ rw k refl) ∙ rw (c, k) refl
 
-      pub arg-hands : Hands takenCode sheet words x (λ is. takeArg parsedMark is n adjacent (fromRaw x)) r
-      unfolding parsedMark
-      arg-hands = record { same = λ is i. arg-told is i (t .value) refl }
+      pub arg-hands : TakeAnswer takenCode sheet words x (λ is. takeArg parsedMark is n adjacent (fromRaw x)) r
+      arg-hands = record {
+        same = λ is i.
+            subst (λ (k : ℕ). stateAnswerOf takenCode (handed x (takeArg k is n adjacent (fromRaw x))) ≡ some r) field-told
+            (arg-told is i (t .value) refl);
+      }
 
 -- ---- the places that `take_arg` tells
 abbrev Within : ℕ → Outcome (Took (Option Taken)) → Type 0
@@ -192,8 +205,9 @@ module _ (v : Value) where
 
 -- ---- `matches_arg`
 pub matched-says :
-    (sheet words : List ℕ) (i : ℕ) (n : Named) (adjacent found : Bool) (f : ℕ)
+    (sheet words : List ℕ) (i : ℕ) (n : Named) (adjacent found : Bool) (f : ℕ) (r : Answer)
     → ((x : Item) → itemFrom (sheetArea sheet) (recordAt words i) ≡ some x → found ≡ matchesArg n adjacent x)
     → f ≡ yesNo found
-    → Says sheet words i (matchesArg n adjacent) (answerWith 0 0 (coded f 0 0))
-matched-says sheet words i n adjacent found f h e = record { same = λ x k. rw (e, h x k) refl }
+    → r ≡ answerWith 0 0 (coded f 0 0)
+    → TestAnswer sheet words i (matchesArg n adjacent) r
+matched-says sheet words i n adjacent found f r h e c = record { same = λ x k. rw (c, e, h x k) refl }

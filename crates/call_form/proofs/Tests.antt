@@ -13,12 +13,11 @@ use Rattle.rules.specs.Take.{Took}
 use Rattle.rules.specs.Calls.{formIn, stateIn, fromRaw, handed, onForm}
 use Rattle.rules.specs.declared.Refused.{Refused}
 use Rattle.rules.specs.declared.State.{State as Raw}
-use Rattle.call_answers.specs.Answers.{Coded, coded, codedOr0, answerWith, answerOf, stateAnswerOf}
+use Rattle.call_answers.specs.Answers.{Coded, coded, codedOr0, answerWith, stateWith, answerOf, stateAnswerOf}
 use Rattle.rules.proofs.GivenLaws.{check-accepted, form-passed}
 use Rattle.call_table.specs.Given.{itemsGiven, GivesState}
 use Rattle.call_table.proofs.Laws.{onTable, on-table, state-given}
-use Rattle.call_form.specs.Given.{Given, givenIn, Tests}
-use Rattle.call_form.specs.Hands.{stateWith}
+use Rattle.call_form.specs.Given.{HasForm, givenIn, Tests}
 
 -- ---- refused before the end
 abbrev refusalOf : {A : Type 0} → Refusal → Outcome A → Refusal
@@ -103,7 +102,7 @@ module _ {A : Type 0} (form sheet words : List ℕ) (x : Raw) (f : Accepted → 
         let b = t .bad z in
         rw (call-refused (b .refusal) form sheet words x f (b .same), b .number, b .place) refl
 
-  pub passed : (g : Given form sheet words x) → onForm form sheet words x f ≡ handed x (f (g .result) (g .state .table .holds .items) (fromRaw x))
+  pub passed : (g : HasForm form sheet words x) → onForm form sheet words x f ≡ handed x (f (g .result) (g .state .table .holds .items) (fromRaw x))
   unfolding onForm
   passed g = ap (handed x)
       (form-passed form (g .result) (λ a. onTable sheet words (λ is. stateIn (length is) x >>= f a is)) (g .accepts)

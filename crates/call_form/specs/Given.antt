@@ -13,7 +13,7 @@ use Rattle.rules.specs.declared.State.{State as Raw}
 use Rattle.call_table.specs.Given.{itemsGiven, HasState}
 
 -- an accepted form, and a state over the items of the slice
-pub record Given (form sheet words : List ℕ) (x : Raw) : Type 0 where
+pub record HasForm (form sheet words : List ℕ) (x : Raw) : Type 0 where
   pub result : Accepted
   pub accepts : checkForm form ≡ accepted result
   pub state : HasState sheet words x
@@ -30,5 +30,5 @@ pub record Refuses (o : Outcome State) (r : Refused) : Type 0 where
   pub place : r .place ≡ placeCode (refusal .place)
 
 pub record Tests (form sheet words : List ℕ) (x : Raw) (r : Refused) : Type 0 where
-  pub good : r .number ≡ 0 → Given form sheet words x
+  pub good : r .number ≡ 0 → HasForm form sheet words x
   pub bad : (r .number ≡ 0 → ⊥) → Refuses (givenIn form sheet words x) r

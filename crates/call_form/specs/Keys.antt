@@ -1,5 +1,5 @@
 -- What a call looks for: the names of a flag or of an argument, or the name of a command.
-use mathlib.Core.Bool.{false}
+use mathlib.Core.Bool.{Bool, false}
 use mathlib.Core.List.{List}
 use mathlib.Core.Option.{Option, some, none}
 use mathlib.Core.Path.{_≡_}
@@ -16,17 +16,21 @@ use Rattle.form_codes.specs.Codes.{namedAt}
 use Rattle.call_form.specs.declared.Key.{Key}
 
 abbrev pub keyNames : List ℕ → Key → Named
-keyNames b r = namedAt b (r .first) (r .count)
+keyNames b r = namedAt b (r .names .first) (r .names .count)
 
 abbrev pub rulesKey : List ℕ → Key → RulesKey
-rulesKey b r = record { named = keyNames b r; adjacent = r .adjacent }
+rulesKey b r = record { named = keyNames b r; adjacent = r .names .adjacent }
+
+-- a key of `count` names from `first` on
+abbrev pub keyWith : ℕ → ℕ → ℕ → Bool → Key
+keyWith kind first count adjacent = record { kind = kind; names = record { first = first; count = count; adjacent = adjacent } }
 
 abbrev pub noKey : Key
-noKey = record { kind = 0; first = 0; count = 0; adjacent = false }
+noKey = keyWith 0 0 0 false
 
 -- node k of an accepted form
 pub record KeyAt (b : List ℕ) (a : Accepted) (k : ℕ) (r : Key) : Type 0 where
-  pub inside : r .first + r .count ≤ nameCount b
+  pub inside : r .names .first + r .names .count ≤ nameCount b
   pub flag : (getElem? (a .trees) k >>? flagNames) ≡ (if eqb (r .kind) 1 then some (keyNames b r) else none)
   pub argument : (getElem? (a .trees) k >>? argumentKey) ≡ (if eqb (r .kind) 2 then some (rulesKey b r) else none)
   pub any : (getElem? (a .trees) k >>? keyOf) ≡ (if eqb (r .kind) 0 then none else some (rulesKey b r))

@@ -1,3 +1,3 @@
 pub mod Given
 pub mod Keys
-pub mod Hands
+pub mod Answered

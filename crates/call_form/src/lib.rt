@@ -3,45 +3,44 @@
 ghost use mathlib.Core.Path.{_≡_};
 ghost use mathlib.Core.Option.{some};
 ghost use Prim.Native.Nat.{_+_, _≤_};
-ghost use lib.ListN.{replicate};
 ghost use Rattle.rules.specs.Base.{isSome};
 ghost use Rattle.rules.specs.Form.{nameCount};
 ghost use Rattle.rules.specs.Accept.{Accepted, accepted, checkForm};
 ghost use Rattle.rules.specs.Run.{parsedMark};
 ghost use Rattle.rules.specs.Take.{matchesArg, takeFlag, takeArg, takeCmd};
 ghost use Rattle.rules.specs.Calls.{fromRaw, callMatches, callTakeFlag, callTakeArg, callTakeCmd};
-ghost use Rattle.state_marks.specs.Lent.{rawOf, numbersOf};
 ghost use Rattle.form_layout.specs.Layout.{GoodNames};
-ghost use Rattle.form_codes.specs.Codes.{CodedNames};
 ghost use Rattle.take_search.specs.Search.{HasItem};
-ghost use Rattle.call_answers.specs.Answers.{coded, yesNo, yesCode, takenCode, answerWith, answerOf, stateAnswerOf};
+ghost use Rattle.call_answers.specs.Answers.{yesCode, takenCode, answerOf, stateAnswerOf};
 ghost use Rattle.call_table.specs.Given.{HasState};
-ghost use Rattle.call_form.specs.Given.{Given, Tests};
+ghost use Rattle.call_form.specs.Given.{HasForm, Tests};
 ghost use Rattle.call_form.specs.Keys.{keyNames, noKey, Keyed, commandAt};
-ghost use Rattle.call_form.specs.Hands.{stateWith, SmallValue, valueAnswer, Hands, Says};
+ghost use Rattle.call_form.specs.Answered.{SmallValue, valueAnswer, TakeAnswer, TestAnswer};
 use call_answers::Answer;
+use call_answers::NO_ARGUMENT;
+use call_answers::NOT_THERE;
 use call_answers::StateAnswer;
+use call_answers::answered;
+use call_answers::changed;
+use call_answers::narrow;
+use call_answers::refused;
+use call_answers::unchanged;
+use call_answers::yes_no;
+use form_codes::codes_of;
 use rules::Refused;
 use rules::State;
-use state_marks::Numbers;
+use state_marks::COMMAND;
+use state_marks::FIELD;
+use state_marks::joined;
+use state_marks::numbers_of;
 use take::Value;
+use take_search::Names;
 use wire::wide;
 
-// The names of a node: records of the form. Kind 1 is a flag, 2 an argument, 0 neither. An adjacent argument takes only an
-// item that has its value in its own word.
+// What a node looks for. Kind 1 is a flag, 2 an argument, 0 neither.
 pub struct Key {
     pub kind: u32,
-    pub first: usize,
-    pub count: usize,
-    pub adjacent: bool,
-}
-
-// A place fits in a word.
-fn narrow(x: usize) -> u32
-    requires { ⌜ x ≤ 256 ⌝ }
-    ensures { λ r. ⌜ r ≡ x ⌝ }
-{
-    x as u32
+    pub names: Names,
 }
 
 // A place as a number: itself plus 1.
@@ -50,81 +49,6 @@ fn place_code(x: usize) -> u32
     ensures { λ r. ⌜ r ≡ x + 1 ⌝ }
 {
     x as u32 + 1
-}
-
-fn yes_no(b: bool) -> u32
-    ensures { λ r. ⌜ r ≡ yesNo b ⌝ }
-{
-    if b {
-        return 1;
-    }
-    0
-}
-
-// Refused under a number, at a place.
-fn refused(number: u32, place: u32) -> Answer
-    ensures { λ r. ⌜ r ≡ answerWith number place (coded 0 0 0) ⌝ }
-{
-    Answer {
-        number,
-        place,
-        found: 0,
-        first: 0,
-        second: 0,
-    }
-}
-
-// The same, with the state that was given.
-fn unchanged(number: u32, place: u32, s: State) -> StateAnswer
-    ensures { λ r. ⌜ r ≡ stateWith number place (coded 0 0 0) s ⌝ }
-{
-    StateAnswer {
-        number,
-        place,
-        found: 0,
-        first: 0,
-        second: 0,
-        state: s,
-    }
-}
-
-// Answered, with the state that is left.
-fn changed(found: u32, first: u32, s: State) -> StateAnswer
-    ensures { λ r. ⌜ r ≡ stateWith 0 0 (coded found first 0) s ⌝ }
-{
-    StateAnswer {
-        number: 0,
-        place: 0,
-        found,
-        first,
-        second: 0,
-        state: s,
-    }
-}
-
-fn numbers(s: State) -> Numbers
-    ensures { λ r. ⌜ r ≡ numbersOf s ⌝ }
-{
-    Numbers {
-        count: s.count,
-        remaining: s.remaining,
-        current: s.current,
-        start: s.start,
-        end: s.end,
-    }
-}
-
-fn joined(marks: [u16; 256], p: Numbers) -> State
-    ensures { λ r. ⌜ r ≡ rawOf marks p ⌝ }
-{
-    State {
-        marks: marks,
-        count: p.count,
-        remaining: p.remaining,
-        current: p.current,
-        start: p.start,
-        end: p.end,
-    }
 }
 
 // The tests of the input, in the order of the numbers: 1 to 4, then 6, 5, 7, 30 and 29.
@@ -139,31 +63,15 @@ fn given(form: &[u8], sheet: &[u8], items: &[u32], s: State) -> Refused
     Refused { number, place: 0 }
 }
 
-fn no_codes() -> [u32; 128]
-    ensures { λ r. ⌜ r ≡ replicate 128 0 ⌝ }
-{
-    [0u32; 128]
-}
-
-// The codes of a form's names.
-pub fn codes_of(form: &[u8]) -> [u32; 128]
-    requires { ⌜ GoodNames (now form) ⌝ }
-    ensures { λ r. ⌜ CodedNames (now (form .entry)) r ⌝ }
-{
-    let mut words = no_codes();
-    form_codes::codes(form, &mut words);
-    words
-}
-
-fn no_key() -> Key
+pub fn no_key() -> Key
     ensures { λ r. ⌜ r ≡ noKey ⌝ }
 {
-    Key {
-        kind: 0,
+    let names = Names {
         first: 0,
         count: 0,
         adjacent: false,
-    }
+    };
+    Key { kind: 0, names }
 }
 
 // The names of node k, if it is a flag or an argument.
@@ -177,18 +85,22 @@ pub fn key_at(form: &[u8], k: usize) -> Key
     let x = form_layout::node_at(form, k);
     let kind = x.kind;
     match kind {
-        1 => Key {
-            kind: 1,
-            first: x.p,
-            count: x.q,
-            adjacent: false,
-        },
-        2 => Key {
-            kind: 2,
-            first: x.p,
-            count: x.q,
-            adjacent: x.r % 2 == 1,
-        },
+        1 => {
+            let names = Names {
+                first: x.p,
+                count: x.q,
+                adjacent: false,
+            };
+            Key { kind: 1, names }
+        }
+        2 => {
+            let names = Names {
+                first: x.p,
+                count: x.q,
+                adjacent: x.r % 2 == 1,
+            };
+            Key { kind: 2, names }
+        }
         _ => no_key(),
     }
 }
@@ -207,32 +119,17 @@ fn is_command(form: &[u8], k: usize) -> bool
 
 // Whether item i has one of the names.
 fn matched(form: &[u8], sheet: &[u8], items: &[u32], i: usize, key: Key) -> Answer
-    requires { ⌜ GoodNames (now form) × (key .first + key .count ≤ nameCount (now form)) × HasItem (now sheet) (now items) i ⌝ }
-    ensures { λ r. ⌜ Says (now (sheet .entry)) (now (items .entry)) i (matchesArg (keyNames (now (form .entry)) key) (key .adjacent)) r ⌝ }
+    requires { ⌜ GoodNames (now form) × (key .names .first + key .names .count ≤ nameCount (now form)) × HasItem (now sheet) (now items) i ⌝ }
+    ensures { λ r. ⌜ TestAnswer (now (sheet .entry)) (now (items .entry)) i (matchesArg (keyNames (now (form .entry)) key) (key .names .adjacent)) r ⌝ }
 {
     let codes = codes_of(form);
-    let found = take_search::matches(
-        form,
-        &codes,
-        sheet,
-        items,
-        i,
-        key.first,
-        key.count,
-        key.adjacent,
-    );
-    Answer {
-        number: 0,
-        place: 0,
-        found: yes_no(found),
-        first: 0,
-        second: 0,
-    }
+    let found = take_search::matches(form, &codes, sheet, items, i, key.names);
+    answered(yes_no(found), 0, 0)
 }
 
 fn flag_taken(form: &[u8], sheet: &[u8], items: &[u32], s: State, key: Key) -> StateAnswer
-    requires { ⌜ Given (now form) (now sheet) (now items) s × (key .first + key .count ≤ nameCount (now form)) ⌝ }
-    ensures { λ r. ⌜ Hands yesCode (now (sheet .entry)) (now (items .entry)) s (λ is. takeFlag parsedMark is (keyNames (now (form .entry)) key) (fromRaw s)) r ⌝ }
+    requires { ⌜ HasForm (now form) (now sheet) (now items) s × (key .names .first + key .names .count ≤ nameCount (now form)) ⌝ }
+    ensures { λ r. ⌜ TakeAnswer yesCode (now (sheet .entry)) (now (items .entry)) s (λ is. takeFlag parsedMark is (keyNames (now (form .entry)) key) (fromRaw s)) r ⌝ }
 {
     let codes = codes_of(form);
     let mut marks = s.marks;
@@ -242,13 +139,13 @@ fn flag_taken(form: &[u8], sheet: &[u8], items: &[u32], s: State, key: Key) -> S
         sheet,
         items,
         &mut marks,
-        numbers(s),
-        key.first,
-        key.count,
-        1,
+        numbers_of(s),
+        key.names.first,
+        key.names.count,
+        FIELD,
     );
     let left = taken.numbers;
-    changed(yes_no(taken.found), 0, joined(marks, left))
+    changed(yes_no(taken.found), 0, 0, joined(marks, left))
 }
 
 // What is told of a value, with the state that is left. Refused with 22, the place is the key's, and the state is the one that
@@ -258,15 +155,15 @@ fn value_answer(value: Value, left: State, s: State) -> StateAnswer
     ensures { λ r. ⌜ r ≡ valueAnswer value left s ⌝ }
 {
     match value {
-        Value::Missing => changed(0, 0, left),
-        Value::Taken(place, _) => changed(1, narrow(place), left),
-        Value::NoArgument(place) => unchanged(22, place_code(place), s),
+        Value::Missing => changed(0, 0, 0, left),
+        Value::Taken(place, _) => changed(1, narrow(place), 0, left),
+        Value::NoArgument(place) => unchanged(NO_ARGUMENT, place_code(place), s),
     }
 }
 
 fn arg_taken(form: &[u8], sheet: &[u8], items: &[u32], s: State, key: Key) -> StateAnswer
-    requires { ⌜ Given (now form) (now sheet) (now items) s × (key .first + key .count ≤ nameCount (now form)) ⌝ }
-    ensures { λ r. ⌜ Hands takenCode (now (sheet .entry)) (now (items .entry)) s (λ is. takeArg parsedMark is (keyNames (now (form .entry)) key) (key .adjacent) (fromRaw s)) r ⌝ }
+    requires { ⌜ HasForm (now form) (now sheet) (now items) s × (key .names .first + key .names .count ≤ nameCount (now form)) ⌝ }
+    ensures { λ r. ⌜ TakeAnswer takenCode (now (sheet .entry)) (now (items .entry)) s (λ is. takeArg parsedMark is (keyNames (now (form .entry)) key) (key .names .adjacent) (fromRaw s)) r ⌝ }
 {
     let codes = codes_of(form);
     let mut marks = s.marks;
@@ -276,11 +173,9 @@ fn arg_taken(form: &[u8], sheet: &[u8], items: &[u32], s: State, key: Key) -> St
         sheet,
         items,
         &mut marks,
-        numbers(s),
-        key.first,
-        key.count,
-        key.adjacent,
-        1,
+        numbers_of(s),
+        key.names,
+        FIELD,
     );
     let left = taken.numbers;
     let value = taken.value;
@@ -289,12 +184,12 @@ fn arg_taken(form: &[u8], sheet: &[u8], items: &[u32], s: State, key: Key) -> St
 
 fn cmd_taken(sheet: &[u8], items: &[u32], s: State, word: &[u8]) -> StateAnswer
     requires { ⌜ HasState (now sheet) (now items) s ⌝ }
-    ensures { λ r. ⌜ Hands yesCode (now (sheet .entry)) (now (items .entry)) s (λ is. takeCmd parsedMark is (now (word .entry)) (fromRaw s)) r ⌝ }
+    ensures { λ r. ⌜ TakeAnswer yesCode (now (sheet .entry)) (now (items .entry)) s (λ is. takeCmd parsedMark is (now (word .entry)) (fromRaw s)) r ⌝ }
 {
     let mut marks = s.marks;
-    let taken = take::take_cmd(sheet, items, &mut marks, numbers(s), word, 1);
+    let taken = take::take_cmd(sheet, items, &mut marks, numbers_of(s), word, COMMAND);
     let left = taken.numbers;
-    changed(yes_no(taken.found), 0, joined(marks, left))
+    changed(yes_no(taken.found), 0, 0, joined(marks, left))
 }
 
 // Whether the item at a place has one of the names of a flag or an argument.
@@ -314,10 +209,10 @@ pub fn matches_arg(
     }
     let key = key_at(form, node);
     if key.kind == 0 {
-        return refused(28, 0);
+        return refused(NOT_THERE, 0);
     }
     if wide(s.count) <= place {
-        return refused(28, 0);
+        return refused(NOT_THERE, 0);
     }
     matched(form, sheet, items, place, key)
 }
@@ -332,7 +227,7 @@ pub fn take_flag(form: &[u8], sheet: &[u8], items: &[u32], s: State, node: usize
     }
     let key = key_at(form, node);
     if key.kind != 1 {
-        return unchanged(28, 0, s);
+        return unchanged(NOT_THERE, 0, s);
     }
     flag_taken(form, sheet, items, s, key)
 }
@@ -347,7 +242,7 @@ pub fn take_arg(form: &[u8], sheet: &[u8], items: &[u32], s: State, node: usize)
     }
     let key = key_at(form, node);
     if key.kind != 2 {
-        return unchanged(28, 0, s);
+        return unchanged(NOT_THERE, 0, s);
     }
     arg_taken(form, sheet, items, s, key)
 }
@@ -361,7 +256,7 @@ pub fn take_cmd(form: &[u8], sheet: &[u8], items: &[u32], s: State, record: usiz
         return unchanged(checked.number, checked.place, s);
     }
     if !is_command(form, record) {
-        return unchanged(28, 0, s);
+        return unchanged(NOT_THERE, 0, s);
     }
     cmd_taken(sheet, items, s, form_layout::name_bytes(form, record))
 }

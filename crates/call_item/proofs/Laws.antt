@@ -28,6 +28,8 @@ use Rattle.split_arg.specs.declared.Part.{Part}
 use Rattle.state_marks.specs.declared.Numbers.{Numbers}
 use Rattle.state_marks.specs.Lent.{rawOf, numbersOf, stateOf}
 use Rattle.state_marks.proofs.Laws.{raw-back, fine-long}
+use Rattle.state_marks.specs.Written.{fieldMark}
+use Rattle.state_marks.proofs.Mark.{field-parsed, field-told}
 use Rattle.state_marks.proofs.Marks.{present-at}
 use Rattle.state_value.specs.Options.{conflictOf}
 use Rattle.state_value.specs.declared.ConflictOption.{ConflictOption}
@@ -39,8 +41,8 @@ use Rattle.take.specs.declared.Operand.the-variants.{Missing, Taken}
 use Rattle.call_table.specs.Given.{Gives, HasState, GivesState}
 use Rattle.call_table.specs.declared.Input.{Input}
 use Rattle.call_table.proofs.Laws.{table-refused, table-given, state-refused, state-given, item-at}
-use Rattle.call_answers.specs.Answers.{Coded, coded, codedOr0, answerWith, answerOf, plainAnswer, stateAnswerOf, yesNo, conflictCode, operandCode, placeOrNone}
-use Rattle.call_item.specs.Calls.{unchangedWith, HasPlace, Earlier, freeAt, gotOf, gotWords, Gets, nothingGot}
+use Rattle.call_answers.specs.Answers.{Coded, coded, codedOr0, answerWith, stateWith, answerOf, plainAnswer, stateAnswerOf, yesNo, conflictCode, operandCode, placeOrNone}
+use Rattle.call_item.specs.Calls.{HasPlace, Earlier, freeAt, gotOf, gotWords, Gets, nothingGot}
 
 -- ---- a state that is handed back as it was
 
@@ -66,7 +68,7 @@ module _ {A : Type 0} (s words : List ℕ) (x : Raw) (f : List Item → State �
   answer-refused code n g h = ap (answerOf code) (items-refused n g h)
 
   pub state-answer-refused : (code : A → Coded) (n : ℕ) → GivesState s words x n → (n ≡ 0 → ⊥)
-      → stateAnswerOf code (onItems s words x f) ≡ some (unchangedWith n x)
+      → stateAnswerOf code (onItems s words x f) ≡ some (stateWith n 0 (coded 0 0 0) x)
   unfolding stateAnswerOf codedOr0
   state-answer-refused code n g h = ap (stateAnswerOf code) (items-refused n g h)
 
@@ -121,13 +123,12 @@ operand-below k is s a u g e = let f = find-good is isOperand s g in go (f .0) (
         subst (λ (b : RulesOperand). b .place < length is) w (free-below (length is) s (y .place) g (h .free))
 
 module _ (s words : List ℕ) (x : Raw) (n : ℕ) (g : GivesState s words x n) where
-  pub positional-refused : (n ≡ 0 → ⊥) → stateAnswerOf operandCode (callTakePositional s words x) ≡ some (unchangedWith n x)
+  pub positional-refused : (n ≡ 0 → ⊥) → stateAnswerOf operandCode (callTakePositional s words x) ≡ some (stateWith n 0 (coded 0 0 0) x)
   unfolding callTakePositional
   positional-refused h = state-answer-refused s words x _ operandCode n g h
 
   module _ (e : n ≡ 0) where
-    pub positional-ready : (p : Numbers) → p ≡ numbersOf x → Ready (sheetArea s) words (x .marks) p 1
-    unfolding parsed
+    pub positional-ready : (p : Numbers) → p ≡ numbersOf x → Ready (sheetArea s) words (x .marks) p fieldMark
     positional-ready p q =
         let h = g .good e in
         rw q (record {
@@ -135,15 +136,16 @@ module _ (s words : List ℕ) (x : Raw) (n : ℕ) (g : GivesState s words x n) w
           table = h .table .holds .table;
           same = h .table .holds .count;
           fine = given-fine (x .count) x (h .good);
-          told = refl;
+          told = field-parsed;
         })
 
-    module _ (p : Numbers) (q : p ≡ numbersOf x) (m : List ℕ) (r : Positional) (t : TakesPositional 1 (sheetArea s) words (x .marks) p m r) where
+    module _ (p : Numbers) (q : p ≡ numbersOf x) (m : List ℕ) (r : Positional) (t : TakesPositional fieldMark (sheetArea s) words (x .marks) p m r) where
       -- what the rules take
       taken : (h : HasState s words x) → takePositionalWord parsedMark (h .table .holds .items) (fromRaw x) ≡ operandOf (sheetArea s) m (r .numbers) (r .operand)
-      unfolding stateOf parsedMark
+      unfolding stateOf
       taken h =
-          sym (ap (λ (y : Numbers). takePositionalWord 1 (h .table .holds .items) (stateOf (x .marks) y)) q)
+          ap (λ (k : ℕ). takePositionalWord k (h .table .holds .items) (fromRaw x)) (sym field-told)
+          ∙ sym (ap (λ (y : Numbers). takePositionalWord fieldMark (h .table .holds .items) (stateOf (x .marks) y)) q)
           ∙ t .same (h .table .holds .items) (h .table .holds .table, h .table .holds .count ∙ ap (λ (y : Numbers). y .count) (sym q))
 
       handed-back : (o : Outcome (Took (Option RulesOperand))) → operandOf (sheetArea s) m (r .numbers) (r .operand) ≡ o
@@ -153,7 +155,7 @@ module _ (s words : List ℕ) (x : Raw) (n : ℕ) (g : GivesState s words x n) w
           let h = g .good e in
           items-given s words x _ h ∙ ap (λ (y : Outcome (Took (Option RulesOperand))). handed x (y >>= operandOr20)) (taken h ∙ d)
 
-      pub positional-missing : r .operand ≡ Missing → stateAnswerOf operandCode (callTakePositional s words x) ≡ some (unchangedWith 20 x)
+      pub positional-missing : r .operand ≡ Missing → stateAnswerOf operandCode (callTakePositional s words x) ≡ some (stateWith 20 0 (coded 0 0 0) x)
       unfolding handed operandOr20 took stateAnswerOf codedOr0 _>>=_
       positional-missing d = ap (stateAnswerOf operandCode) (handed-back _ (ap (operandOf (sheetArea s) m (r .numbers)) d))
 
@@ -241,9 +243,9 @@ module _ (x : Raw) (i a : ℕ) (start : a ≡ x .start) where
     unfolding freeAt
     free-behind h = rw (le-leb (x .start) i (omega arith), le-ltb i (x .end) (omega arith))
 
-    pub free-here : i < b → not (eqb (getD (x .marks) i 0) 1) ≡ freeAt x i
-    unfolding freeAt present parsed
-    free-here h = rw (le-leb (x .start) i (omega arith), lt-ltb i (x .end) (omega arith))
+    pub free-here : i < b → (f : Bool) → f ≡ present (getD (x .marks) i 0) → f ≡ freeAt x i
+    unfolding freeAt
+    free-here h f e = rw (le-leb (x .start) i (omega arith), lt-ltb i (x .end) (omega arith)) e
 
 -- a record as a list of its words
 next : (l : List ℕ) (k m : ℕ) → suc k ≡ m → k < length l → drop k l ≡ getD l k 0 ∷ drop m l

@@ -16,12 +16,7 @@ use Rattle.rules.specs.declared.State.{State as Raw}
 use Rattle.rules.specs.Codes.{placeOf}
 use Rattle.split_arg.specs.Items.{recordAt}
 use Rattle.take_search.specs.Items.{Table}
-use Rattle.call_answers.specs.declared.StateAnswer.{StateAnswer}
 use Rattle.call_item.specs.declared.Got.{Got}
-
--- refused, with the state that was given
-abbrev pub unchangedWith : ℕ → Raw → StateAnswer
-unchangedWith n x = record { number = n; place = 0; found = 0; first = 0; second = 0; state = x }
 
 -- ---- `only_once`
 -- the same name: two characters, or two long names

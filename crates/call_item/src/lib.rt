@@ -9,17 +9,26 @@ ghost use Rattle.rules.specs.Split.{Item as RulesItem};
 ghost use Rattle.rules.specs.State.{matchShort, matchLong};
 ghost use Rattle.rules.specs.Calls.{itemFrom, callConflict, callTakePositional, callOnlyOnce};
 ghost use Rattle.split_arg.specs.Items.{recordAt};
-ghost use Rattle.state_marks.specs.Lent.{rawOf, numbersOf};
 ghost use Rattle.take_search.specs.Items.{partBytes, HasPart};
 ghost use Rattle.take_search.specs.Search.{HasItem};
-ghost use Rattle.call_answers.specs.Answers.{yesNo, coded, answerWith, answerOf, stateAnswerOf, plainAnswer, conflictCode, operandCode, placeOrNone};
-ghost use Rattle.call_item.specs.Calls.{unchangedWith, sameNamed, HasPlace, Earlier, freeAt, Gets, nothingGot};
+ghost use Rattle.call_answers.specs.Answers.{answerOf, stateAnswerOf, plainAnswer, conflictCode, operandCode, placeOrNone};
+ghost use Rattle.call_item.specs.Calls.{sameNamed, HasPlace, Earlier, freeAt, Gets, nothingGot};
 use call_answers::Answer;
+use call_answers::MISSING;
+use call_answers::NOT_THERE;
 use call_answers::StateAnswer;
+use call_answers::answered;
+use call_answers::changed;
+use call_answers::refused;
+use call_answers::unchanged;
+use call_answers::yes_no;
 use rules::State;
 use split_arg::Item;
 use split_arg::Part;
-use state_marks::Numbers;
+use state_marks::FIELD;
+use state_marks::is_present;
+use state_marks::joined;
+use state_marks::numbers_of;
 use state_value::ConflictOption;
 use take::Operand;
 use wire::wide;
@@ -32,83 +41,13 @@ pub struct Got {
     pub item: [u32; 7],
 }
 
-fn bit(b: bool) -> u32
-    ensures { λ r. ⌜ r ≡ yesNo b ⌝ }
-{
-    if b { 1 } else { 0 }
-}
-
-fn numbers(s: State) -> Numbers
-    ensures { λ r. ⌜ r ≡ numbersOf s ⌝ }
-{
-    Numbers {
-        count: s.count,
-        remaining: s.remaining,
-        current: s.current,
-        start: s.start,
-        end: s.end,
-    }
-}
-
-fn joined(marks: [u16; 256], p: Numbers) -> State
-    ensures { λ r. ⌜ r ≡ rawOf marks p ⌝ }
-{
-    State {
-        marks: marks,
-        count: p.count,
-        remaining: p.remaining,
-        current: p.current,
-        start: p.start,
-        end: p.end,
-    }
-}
-
-// Refused, there is no answer.
-fn refused(number: u32) -> Answer
-    ensures { λ r. ⌜ r ≡ answerWith number 0 (coded 0 0 0) ⌝ }
-{
-    Answer {
-        number,
-        place: 0,
-        found: 0,
-        first: 0,
-        second: 0,
-    }
-}
-
-fn answered(found: u32, first: u32, second: u32) -> Answer
-    ensures { λ r. ⌜ r ≡ answerWith 0 0 (coded found first second) ⌝ }
-{
-    Answer {
-        number: 0,
-        place: 0,
-        found,
-        first,
-        second,
-    }
-}
-
-// Refused, the state is the one that was given.
-fn unchanged(number: u32, s: State) -> StateAnswer
-    ensures { λ r. ⌜ r ≡ unchangedWith number s ⌝ }
-{
-    StateAnswer {
-        number,
-        place: 0,
-        found: 0,
-        first: 0,
-        second: 0,
-        state: s,
-    }
-}
-
 // The first present place in scope and its winner, if it is in conflict.
 pub fn conflict(sheet: &[u8], items: &[u32], s: State) -> Answer
     ensures { λ r. ⌜ answerOf conflictCode (callConflict (now (sheet .entry)) (now (items .entry)) s) ≡ some r ⌝ }
 {
     let number = call_table::given_state(sheet, items, s);
     if number != 0 {
-        return refused(number);
+        return refused(number, 0);
     }
     let c = state_value::conflict(s);
     match c {
@@ -123,22 +62,20 @@ pub fn take_positional_word(sheet: &[u8], items: &[u32], s: State) -> StateAnswe
 {
     let number = call_table::given_state(sheet, items, s);
     if number != 0 {
-        return unchanged(number, s);
+        return unchanged(number, 0, s);
     }
     let mut marks = s.marks;
-    let taken = take::take_positional_word(items, &mut marks, numbers(s), 1);
+    let taken = take::take_positional_word(items, &mut marks, numbers_of(s), FIELD);
     let operand = taken.operand;
     let Operand::Taken(place, strict, _) = operand else {
-        return unchanged(20, s);
+        return unchanged(MISSING, 0, s);
     };
-    StateAnswer {
-        number: 0,
-        place: 0,
-        found: 1,
-        first: place as u32,
-        second: bit(strict),
-        state: joined(marks, taken.numbers),
-    }
+    changed(
+        1,
+        place as u32,
+        yes_no(strict),
+        joined(marks, taken.numbers),
+    )
 }
 
 // Whether record j is a Short with this character.
@@ -202,13 +139,13 @@ pub fn only_once(sheet: &[u8], items: &[u32], place: usize) -> Answer
 {
     let g = call_table::given(sheet, items);
     if g.number != 0 {
-        return refused(g.number);
+        return refused(g.number, 0);
     }
     if g.count <= place {
-        return refused(28);
+        return refused(NOT_THERE, 0);
     }
     if 0xffff_ffff < place {
-        return refused(28);
+        return refused(NOT_THERE, 0);
     }
     let found = earlier(sheet, items, place);
     if found == 0 {
@@ -256,7 +193,7 @@ fn is_free(s: State, i: usize) -> bool
     if wide(s.end) <= i {
         return false;
     }
-    s.marks[i] != 1
+    is_present(s.marks[i])
 }
 
 // The item at a place that is in scope and present.

@@ -37,7 +37,7 @@ use Rattle.eval_told.specs.Told.{Told, told, toldWith}
 use Rattle.eval_told.specs.Nodes.{treeAt}
 use Rattle.eval_told.proofs.NodeLaw.{at-tree}
 use Rattle.eval_list.specs.Lists.{Writes}
-use Rattle.run_fields.specs.Line.{Fields}
+use Rattle.run_fields.specs.Line.{Placed}
 use Rattle.call_node.specs.Node.{Answered, evaluatedAnswer, unchangedBy, answerOf, Admitted, Admits, Cleared, Runs}
 use Rattle.call_node.specs.declared.NodeAnswer.{NodeAnswer}
 use Rattle.call_node.proofs.Leaves.{few-leaves}
@@ -128,7 +128,7 @@ told-handed n r x e = go (r .outcome) refl
     go (fault d) h = absurd (Option·none-ne-some x (rw (h, told) at e))
 
 module _ (b s words o : List ℕ) (x : Raw) (k : ℕ) (c : Cleared b s words o x k) (p : Numbers) (ep : p ≡ numbersOf x) where
-  pub node-stands : (n : ℕ) → n ≡ x .count → (known : List ℕ) → Known b (sheetArea s) words n known → Fields b known s words (x .marks) p 1 k o 0
+  pub node-stands : (n : ℕ) → n ≡ x .count → (known : List ℕ) → Known b (sheetArea s) words n known → Placed b known s words (x .marks) p (record { node = k; at = 0; mark = 1 }) o
   unfolding parsed
   node-stands n same known w =
       let i = c .input in

@@ -4,17 +4,14 @@ ghost use mathlib.Core.Option.{some};
 ghost use Prim.Native.Nat.{_≤_};
 ghost use lib.ListN.{length, replicate};
 ghost use Rattle.rules.specs.Sheet.{sheetArea, sheetFault};
-ghost use Rattle.rules.specs.Tree.{Tree};
 ghost use Rattle.rules.specs.Calls.{callEval};
 ghost use Rattle.state_marks.specs.Lent.{rawOf, numbersOf};
 ghost use Rattle.form_layout.specs.Layout.{GoodNames};
 ghost use Rattle.form_codes.specs.Codes.{CodedNames};
 ghost use Rattle.take_table.specs.Known.{Known};
 ghost use Rattle.call_table.specs.Given.{Holds};
-ghost use Rattle.eval_told.specs.Nodes.{treeAt};
-ghost use Rattle.eval_list.specs.Lists.{Writes};
-ghost use Rattle.run_fields.specs.Line.{Fields, written};
 ghost use Rattle.call_node.specs.Node.{evaluatedAnswer, unchangedBy, answerOf, Admits, Cleared, Runs};
+use eval_list::Field;
 use eval_told::Ran;
 use rules::Refused;
 use rules::State;
@@ -134,45 +131,6 @@ fn admit(
     refused(0)
 }
 
-// The words of a value are written.
-fn wrote(ran: Ran, len: u32) -> Ran
-    ensures { λ r. ⌜ r ≡ written ran len ⌝ }
-{
-    let left = ran.numbers;
-    Ran {
-        number: ran.number,
-        place: ran.place,
-        tries: ran.tries,
-        len,
-        word: 0,
-        numbers: left,
-    }
-}
-
-// One node: its words go to `out` from `at` on.
-fn run_value(
-    form: &[u8],
-    known: &[u64],
-    sheet: &[u8],
-    items: &[u32],
-    marks: &mut [u16; 256],
-    p: Numbers,
-    node: usize,
-    at: usize,
-    out: &mut [u32],
-    mark: u16,
-) -> Ran
-    requires { ⌜ Fields (now form) (now known) (now sheet) (now items) (now marks) p mark node (now out) at ⌝ }
-    ensures { λ r. ⌜ ((t : Tree) → treeAt (now (form .entry)) node ≡ some t → Writes mark (sheetArea (now (sheet .entry))) (now (items .entry)) t (now (marks .entry)) p (now (marks .exit)) (now (out .entry)) at (now (out .exit)) r) ⌝ }
-{
-    if run_fields::is_list(form, node) {
-        return eval_list::run_list(form, known, sheet, items, marks, p, node, at, out, mark);
-    }
-    let ran = eval_node::run_node(form, known, sheet, items, marks, p, node, mark);
-    let len = eval_node::put(out, at, ran.len, ran.word);
-    wrote(ran, len)
-}
-
 fn answered(ran: Ran, marks: [u16; 256]) -> NodeAnswer
     ensures { λ r. ⌜ r ≡ answerOf ran marks ⌝ }
 {
@@ -214,18 +172,13 @@ fn run_admitted(
 {
     let known = known_of(form, sheet, items, wide(s.count));
     let mut marks = s.marks;
-    let ran = run_value(
-        form,
-        &known,
-        sheet,
-        items,
-        &mut marks,
-        numbers(s),
+    let p = numbers(s);
+    let field = Field {
         node,
-        0,
-        answers,
-        1,
-    );
+        at: 0,
+        mark: 1,
+    };
+    let ran = run_fields::run_value(form, &known, sheet, items, &mut marks, p, field, answers);
     answered(ran, marks)
 }
 

@@ -23,10 +23,10 @@ use Rattle.state_value.specs.declared.Scope.{Scope}
 use Rattle.state_value.specs.declared.ScopeOption.{ScopeOption}
 use Rattle.state_value.specs.declared.ScopeOption.the-variants as scope
 use Rattle.state_value.proofs.Given.{ok-handed}
-use Rattle.call_answers.specs.Answers.{Coded, coded, yesNo, yesCode, pickCode, scopeCode, scopeOrNone, codedOr0, answerWith, answerOf, stateAnswerOf}
+use Rattle.call_answers.specs.Answers.{Coded, coded, yesNo, yesCode, pickCode, scopeCode, scopeOrNone, codedOr0, answerWith, stateWith, answerOf, stateAnswerOf}
 use Rattle.call_answers.specs.declared.Answer.{Answer}
 use Rattle.call_answers.specs.declared.StateAnswer.{StateAnswer}
-use Rattle.call_state.specs.Entries.{bothIn, stateWith}
+use Rattle.call_state.specs.Entries.{bothIn}
 
 -- ---- refused and accepted
 
@@ -35,7 +35,7 @@ module _ {A : Type 0} (code : A → Coded) (x : Raw) (o : Outcome (Took A)) wher
   unfolding answerOf handed codedOr0
   refused-answer n e r f = rw (e, f)
 
-  refused-state : (n : ℕ) → o ≡ refused (refuse n none) → (r : StateAnswer) → r ≡ stateWith n (coded 0 0 0) x → stateAnswerOf code (handed x o) ≡ some r
+  refused-state : (n : ℕ) → o ≡ refused (refuse n none) → (r : StateAnswer) → r ≡ stateWith n 0 (coded 0 0 0) x → stateAnswerOf code (handed x o) ≡ some r
   unfolding stateAnswerOf handed codedOr0
   refused-state n e r f = rw (e, f)
 
@@ -43,7 +43,7 @@ module _ {A : Type 0} (code : A → Coded) (x : Raw) (o : Outcome (Took A)) wher
   unfolding answerOf handed codedOr0 took
   accepted-answer a s e r f = rw (e, f)
 
-  accepted-state : (a : A) (s : State) → o ≡ took a s → (r : StateAnswer) → r ≡ stateWith 0 (code a) (toRaw s) → stateAnswerOf code (handed x o) ≡ some r
+  accepted-state : (a : A) (s : State) → o ≡ took a s → (r : StateAnswer) → r ≡ stateWith 0 0 (code a) (toRaw s) → stateAnswerOf code (handed x o) ≡ some r
   unfolding stateAnswerOf handed codedOr0 took
   accepted-state a s e r f = rw (e, f)
 
@@ -52,7 +52,7 @@ unfolding _>>=_
 then-took o u e = rw e
 
 -- a step that gives a state
-stepped : (x : Raw) (o : Outcome State) (y : Raw) → handedOver o ≡ ok y → (r : StateAnswer) → r ≡ stateWith 0 (coded 1 0 0) y
+stepped : (x : Raw) (o : Outcome State) (y : Raw) → handedOver o ≡ ok y → (r : StateAnswer) → r ≡ stateWith 0 0 (coded 1 0 0) y
     → stateAnswerOf yesCode (handed x (o >>= took true)) ≡ some r
 stepped x o y h r f =
     let (u, e, z) = ok-handed o y h in
@@ -131,11 +131,11 @@ module _ (n a b : ℕ) where
 
 module _ (n : ℕ) (x : Raw) (b : Bool) (e : n ≡ x .count) (g : Tested (stateIn n x) x b) where
   module _ (bad : not b ≡ true) where
-    pub remove-bad : (i : ℕ) (r : StateAnswer) → r ≡ stateWith 29 (coded 0 0 0) x → stateAnswerOf yesCode (callRemove x i) ≡ some r
+    pub remove-bad : (i : ℕ) (r : StateAnswer) → r ≡ stateWith 29 0 (coded 0 0 0) x → stateAnswerOf yesCode (callRemove x i) ≡ some r
     unfolding callRemove _>>=_
     remove-bad i r f = refused-state yesCode x _ 29 (rw (in-bad n x b e g bad)) r f
 
-    pub scope-bad : (i j : ℕ) (r : StateAnswer) → r ≡ stateWith 29 (coded 0 0 0) x → stateAnswerOf yesCode (callSetScope x i j) ≡ some r
+    pub scope-bad : (i j : ℕ) (r : StateAnswer) → r ≡ stateWith 29 0 (coded 0 0 0) x → stateAnswerOf yesCode (callSetScope x i j) ≡ some r
     unfolding callSetScope _>>=_
     scope-bad i j r f = refused-state yesCode x _ 29 (rw (in-bad n x b e g bad)) r f
 
@@ -148,26 +148,26 @@ module _ (n : ℕ) (x : Raw) (b : Bool) (e : n ≡ x .count) (g : Tested (stateI
     fine = in-good n x b e g good
 
     module _ (m i : ℕ) (same : m ≡ x .count) (r : StateAnswer) where
-      pub remove-past : m ≤ i → r ≡ stateWith 28 (coded 0 0 0) x → stateAnswerOf yesCode (callRemove x i) ≡ some r
+      pub remove-past : m ≤ i → r ≡ stateWith 28 0 (coded 0 0 0) x → stateAnswerOf yesCode (callRemove x i) ≡ some r
       unfolding callRemove _>>=_
       remove-past h f = refused-state yesCode x _ 28 (rw (fine, no-place (x .count) i (omega arith))) r f
 
-      pub remove-done : (y : Raw) → i < m → handedOver (remove parsedMark (fromRaw x) i) ≡ ok y → r ≡ stateWith 0 (coded 1 0 0) y
+      pub remove-done : (y : Raw) → i < m → handedOver (remove parsedMark (fromRaw x) i) ≡ ok y → r ≡ stateWith 0 0 (coded 1 0 0) y
           → stateAnswerOf yesCode (callRemove x i) ≡ some r
       unfolding callRemove _>>=_
       remove-done y h d f = rw (fine, place-there (x .count) i (omega arith)) (stepped x (remove parsedMark (fromRaw x) i) y d r f)
 
     module _ (i j : ℕ) (r : StateAnswer) where
-      pub falling : j < i → r ≡ stateWith 28 (coded 0 0 0) x → stateAnswerOf yesCode (callSetScope x i j) ≡ some r
+      pub falling : j < i → r ≡ stateWith 28 0 (coded 0 0 0) x → stateAnswerOf yesCode (callSetScope x i j) ≡ some r
       unfolding callSetScope _>>=_
       falling h f = refused-state yesCode x _ 28 (rw (fine, scope-falls (x .count) i j h)) r f
 
-      pub leaving : ltb n j ≡ true → r ≡ stateWith 28 (coded 0 0 0) x → stateAnswerOf yesCode (callSetScope x i j) ≡ some r
+      pub leaving : ltb n j ≡ true → r ≡ stateWith 28 0 (coded 0 0 0) x → stateAnswerOf yesCode (callSetScope x i j) ≡ some r
       unfolding callSetScope _>>=_
       leaving h f = refused-state yesCode x _ 28 (rw (fine, scope-leaves (x .count) i j (omega (arith, ltb-true n j h)))) r f
 
       pub scope-done : (y : Raw) → i ≤ j → ltb n j ≡ false → handedOver (setScope (fromRaw x) i j) ≡ ok y
-          → r ≡ stateWith 0 (coded 1 0 0) y → stateAnswerOf yesCode (callSetScope x i j) ≡ some r
+          → r ≡ stateWith 0 0 (coded 1 0 0) y → stateAnswerOf yesCode (callSetScope x i j) ≡ some r
       unfolding callSetScope _>>=_
       scope-done y h l d f =
           rw (fine, scope-there (x .count) i j h (omega (arith, ltb-false n j l))) (stepped x (setScope (fromRaw x) i j) y d r f)
@@ -209,7 +209,7 @@ module _ (x y : Raw) (b : Bool) (g : Tested (bothIn x y) y b) where
     unfolding callPickWinner
     pick-bad r f = refused-answer pickCode x _ 29 (both-bad bad _) r f
 
-    pub conflicts-bad : (w : ℕ) (r : StateAnswer) → r ≡ stateWith 29 (coded 0 0 0) x → stateAnswerOf yesCode (callSaveConflicts x y w) ≡ some r
+    pub conflicts-bad : (w : ℕ) (r : StateAnswer) → r ≡ stateWith 29 0 (coded 0 0 0) x → stateAnswerOf yesCode (callSaveConflicts x y w) ≡ some r
     unfolding callSaveConflicts
     conflicts-bad w r f = refused-state yesCode x _ 29 (both-bad bad _) r f
 
@@ -225,12 +225,12 @@ module _ (x y : Raw) (b : Bool) (g : Tested (bothIn x y) y b) where
         accepted-answer pickCode x _ (pickOf p) (fromRaw x) (rw (both-fine good .0, both-fine good .1, d)) r (rw (code-place (p .place), ← h) f)
 
     module _ (n w : ℕ) (e : n ≡ x .count) (r : StateAnswer) where
-      pub conflicts-past : n ≤ w → r ≡ stateWith 28 (coded 0 0 0) x → stateAnswerOf yesCode (callSaveConflicts x y w) ≡ some r
+      pub conflicts-past : n ≤ w → r ≡ stateWith 28 0 (coded 0 0 0) x → stateAnswerOf yesCode (callSaveConflicts x y w) ≡ some r
       unfolding callSaveConflicts _>>=_
       conflicts-past h f =
           refused-state yesCode x _ 28 (rw (both-fine good .0, both-fine good .1, no-place (x .count) w (omega arith))) r f
 
-      pub conflicts-done : (z : Raw) → w < n → z ≡ toRaw (saveConflicts (fromRaw x) (fromRaw y) w) → r ≡ stateWith 0 (coded 1 0 0) z
+      pub conflicts-done : (z : Raw) → w < n → z ≡ toRaw (saveConflicts (fromRaw x) (fromRaw y) w) → r ≡ stateWith 0 0 (coded 1 0 0) z
           → stateAnswerOf yesCode (callSaveConflicts x y w) ≡ some r
       unfolding callSaveConflicts _>>=_
       conflicts-done z h d f =

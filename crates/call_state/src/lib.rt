@@ -6,75 +6,20 @@ ghost use Rattle.utf8.specs.Utf8.{if_then_else_};
 ghost use Rattle.rules.specs.Outcome.{ok, refused as refusedWith, refuse};
 ghost use Rattle.rules.specs.Calls.{fromRaw};
 ghost use Rattle.rules.specs.Calls.{callRemove, callPickWinner, callSaveConflicts, callSetScope, callAdjacentScope, callAvailableFrom};
-ghost use Rattle.call_answers.specs.Answers.{coded, yesNo, yesCode, pickCode, scopeCode, scopeOrNone, answerWith, answerOf, stateAnswerOf};
-ghost use Rattle.call_state.specs.Entries.{bothIn, stateWith};
+ghost use Rattle.call_answers.specs.Answers.{yesCode, pickCode, scopeCode, scopeOrNone, answerOf, stateAnswerOf};
+ghost use Rattle.call_state.specs.Entries.{bothIn};
 use call_answers::Answer;
+use call_answers::BAD_STATE;
+use call_answers::NOT_THERE;
 use call_answers::StateAnswer;
+use call_answers::answered;
+use call_answers::changed;
+use call_answers::refused;
+use call_answers::unchanged;
+use call_answers::yes_no;
 use rules::State;
 use state_value::ScopeOption;
 use wire::wide;
-
-fn yes_no(b: bool) -> u32
-    ensures { λ r. ⌜ r ≡ yesNo b ⌝ }
-{
-    if b {
-        return 1;
-    }
-    0
-}
-
-// Refused under a number, at no place.
-fn refused(number: u32) -> Answer
-    ensures { λ r. ⌜ r ≡ answerWith number 0 (coded 0 0 0) ⌝ }
-{
-    Answer {
-        number,
-        place: 0,
-        found: 0,
-        first: 0,
-        second: 0,
-    }
-}
-
-fn answered(found: u32, first: u32, second: u32) -> Answer
-    ensures { λ r. ⌜ r ≡ answerWith 0 0 (coded found first second) ⌝ }
-{
-    Answer {
-        number: 0,
-        place: 0,
-        found,
-        first,
-        second,
-    }
-}
-
-// Refused under a number, at no place, with the state that was given.
-fn unchanged(number: u32, s: State) -> StateAnswer
-    ensures { λ r. ⌜ r ≡ stateWith number (coded 0 0 0) s ⌝ }
-{
-    StateAnswer {
-        number,
-        place: 0,
-        found: 0,
-        first: 0,
-        second: 0,
-        state: s,
-    }
-}
-
-// Done, with the new state.
-fn changed(s: State) -> StateAnswer
-    ensures { λ r. ⌜ r ≡ stateWith 0 (coded 1 0 0) s ⌝ }
-{
-    StateAnswer {
-        number: 0,
-        place: 0,
-        found: 1,
-        first: 0,
-        second: 0,
-        state: s,
-    }
-}
 
 // Refusal 29: whether both states are good ones over the first's items.
 fn both_good(s: State, t: State) -> bool
@@ -92,12 +37,12 @@ pub fn remove(s: State, place: usize) -> StateAnswer
     ensures { λ r. ⌜ stateAnswerOf yesCode (callRemove s place) ≡ some r ⌝ }
 {
     if !state_marks::good(s, wide(s.count)) {
-        return unchanged(29, s);
+        return unchanged(BAD_STATE, 0, s);
     }
     if wide(s.count) <= place {
-        return unchanged(28, s);
+        return unchanged(NOT_THERE, 0, s);
     }
-    changed(state_value::remove(s, place))
+    changed(1, 0, 0, state_value::remove(s, place))
 }
 
 // Whether the first state wins, and the place that decides.
@@ -105,7 +50,7 @@ pub fn pick_winner(s: State, t: State) -> Answer
     ensures { λ r. ⌜ answerOf pickCode (callPickWinner s t) ≡ some r ⌝ }
 {
     if !both_good(s, t) {
-        return refused(29);
+        return refused(BAD_STATE, 0);
     }
     let picked = state_value::pick_winner(s, t);
     answered(yes_no(picked.first), picked.place, 0)
@@ -116,12 +61,12 @@ pub fn save_conflicts(s: State, loser: State, winner: usize) -> StateAnswer
     ensures { λ r. ⌜ stateAnswerOf yesCode (callSaveConflicts s loser winner) ≡ some r ⌝ }
 {
     if !both_good(s, loser) {
-        return unchanged(29, s);
+        return unchanged(BAD_STATE, 0, s);
     }
     if wide(s.count) <= winner {
-        return unchanged(28, s);
+        return unchanged(NOT_THERE, 0, s);
     }
-    changed(state_value::save_conflicts(s, loser, winner))
+    changed(1, 0, 0, state_value::save_conflicts(s, loser, winner))
 }
 
 // The places from..to become the scope.
@@ -130,12 +75,12 @@ pub fn set_scope(s: State, from: usize, to: usize) -> StateAnswer
 {
     let count = wide(s.count);
     if !state_marks::good(s, count) {
-        return unchanged(29, s);
+        return unchanged(BAD_STATE, 0, s);
     }
     if to < from || count < to {
-        return unchanged(28, s);
+        return unchanged(NOT_THERE, 0, s);
     }
-    changed(state_value::set_scope(s, from, to))
+    changed(1, 0, 0, state_value::set_scope(s, from, to))
 }
 
 // From the scope's start up to the first place that is present here and in the original.
@@ -143,7 +88,7 @@ pub fn adjacent_scope(s: State, original: State) -> Answer
     ensures { λ r. ⌜ answerOf scopeOrNone (callAdjacentScope s original) ≡ some r ⌝ }
 {
     if !both_good(s, original) {
-        return refused(29);
+        return refused(BAD_STATE, 0);
     }
     let scope = state_value::adjacent_scope(s, original);
     match scope {
@@ -158,10 +103,10 @@ pub fn adjacently_available_from(s: State, from: usize) -> Answer
 {
     let count = wide(s.count);
     if !state_marks::good(s, count) {
-        return refused(29);
+        return refused(BAD_STATE, 0);
     }
     if count < from {
-        return refused(28);
+        return refused(NOT_THERE, 0);
     }
     let scope = state_value::adjacently_available_from(s, from);
     answered(1, scope.start, scope.end)

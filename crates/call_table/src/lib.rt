@@ -11,6 +11,9 @@ ghost use Rattle.rules.specs.Sheet.{sheetArea, sheetFault};
 ghost use Rattle.rules.specs.Calls.{itemFrom, itemsFrom, recordsIn};
 ghost use Rattle.split_arg.specs.Items.{recordAt};
 ghost use Rattle.call_table.specs.Given.{Trims, Checks, Gives, GivesState};
+use call_answers::BAD_ITEM;
+use call_answers::BAD_STATE;
+use call_answers::SHORT_SLICE;
 use rules::State;
 use wire::wide;
 
@@ -158,14 +161,14 @@ pub fn given(sheet: &[u8], items: &[u32]) -> Input
     }
     if items.len() < 1792 {
         return Input {
-            number: 7,
+            number: SHORT_SLICE,
             count: 0,
         };
     }
     let c = check(sheet, items);
     if !c.good {
         return Input {
-            number: 30,
+            number: BAD_ITEM,
             count: 0,
         };
     }
@@ -184,7 +187,7 @@ pub fn given_state(sheet: &[u8], items: &[u32], s: State) -> u32
         return g.number;
     }
     if !state_marks::good(s, g.count) {
-        return 29;
+        return BAD_STATE;
     }
     0
 }

@@ -22,7 +22,7 @@ use Rattle.split_arg.specs.Items.{recordAt}
 use Rattle.split_arg.proofs.Records.{word-of}
 use Rattle.take_search.specs.Search.{HasItem}
 use Rattle.call_table.proofs.Laws.{start-within, area-length}
-use Rattle.call_text.specs.Text.{itemPart, Finds}
+use Rattle.call_text.specs.Text.{itemPart, FindsText}
 
 pub record TextIn (area : List ℕ) (offset size : ℕ) (x : Item) : Type 0 where
   pub inside : offset + size ≤ length area
@@ -75,7 +75,7 @@ module _
     item-small = omega (arith, text-inside, good-sheet s (h .made) .fits, good-sheet s (h .made) .few, start-most 2 n (inl refl))
 
     pub item-finds : (x : Item) → itemFrom (sheetArea s) (recordAt words i) ≡ some x
-        → Finds s 0 (textOf x) (some (itemPart s words i)) (record { number = 0; place = 0; source = 0; offset = a + o; length = z })
+        → FindsText s 0 (textOf x) (some (itemPart s words i)) (record { number = 0; place = 0; source = 0; offset = a + o; length = z })
     unfolding sheetArea wireArea itemPart
     item-finds x here = record {
       number = refl;

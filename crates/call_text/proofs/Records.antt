@@ -17,15 +17,15 @@ use Rattle.form_names.specs.Names.{nameOf}
 use Rattle.form_layout.specs.Layout.{HasName}
 use Rattle.form_layout.proofs.Sizes.{sized, from-drop, name-fits}
 use Rattle.call_text.specs.declared.TextPart.{TextPart}
-use Rattle.call_text.specs.Text.{refusedPart, recordPart, Tells}
+use Rattle.call_text.specs.Text.{refusedPart, recordPart, TellsText}
 
 module _ (b : List ℕ) (k : ℕ) (h : HasName b k) (x : names.Name) (e : getElem? (readForm b .names) k ≡ some (nameOf x)) where
   pub other-type : (x .kind ≡ 2 → ⊥) → (r : TextPart) → r ≡ refusedPart 28 0
-      → (a : Accepted) → a .form ≡ readForm b → Tells b 1 (recordText a k) (recordPart b a k) r
+      → (a : Accepted) → a .form ≡ readForm b → TellsText b 1 (recordText a k) (recordPart b a k) r
   unfolding recordText recordPart _>>?_ if_then_else_
   other-type z r q a g =
       let none-there : recordText a k ≡ none = rw (g, e, ne-eqb (x .kind) 2 z) refl in
-      subst (λ (o : Option (List ℕ)). Tells b 1 o (recordPart b a k) r) (sym none-there) (rw (g, e, ne-eqb (x .kind) 2 z) refl, q)
+      subst (λ (o : Option (List ℕ)). TellsText b 1 o (recordPart b a k) r) (sym none-there) (rw (g, e, ne-eqb (x .kind) 2 z) refl, q)
 
   module _ (at : ℕ) (ea : at ≡ areaAt b) where
     record-inside : at + x .offset + x .size ≤ length b
@@ -37,11 +37,11 @@ module _ (b : List ℕ) (k : ℕ) (h : HasName b k) (x : names.Name) (e : getEle
     record-small = omega (arith, record-inside, sized b (h .good))
 
     pub text-type : x .kind ≡ 2 → (a : Accepted) → a .form ≡ readForm b
-        → Tells b 1 (recordText a k) (recordPart b a k) (record { number = 0; place = 0; source = 1; offset = at + x .offset; length = x .size })
+        → TellsText b 1 (recordText a k) (recordPart b a k) (record { number = 0; place = 0; source = 1; offset = at + x .offset; length = x .size })
     unfolding recordText recordPart nameBytes readForm _>>?_ if_then_else_
     text-type z a g =
         let bytes : recordText a k ≡ some (nameBytes (readForm b .area) (nameOf x)) = rw (g, e, eq-eqb (x .kind) 2 z) refl in
-        subst (λ (o : Option (List ℕ)). Tells b 1 o (recordPart b a k) (record { number = 0; place = 0; source = 1; offset = at + x .offset; length = x .size })) (sym bytes)
+        subst (λ (o : Option (List ℕ)). TellsText b 1 o (recordPart b a k) (record { number = 0; place = 0; source = 1; offset = at + x .offset; length = x .size })) (sym bytes)
         (record {
           number = refl;
           place = refl;

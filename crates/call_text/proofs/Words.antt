@@ -32,7 +32,7 @@ use Rattle.call_table.proofs.Laws.{onTable, table-refused, table-given}
 use Rattle.rules.proofs.GivenLaws.{check-accepted, form-passed}
 use Rattle.form_layout.proofs.Sizes.{check-names}
 use Rattle.call_text.specs.declared.TextPart.{TextPart}
-use Rattle.call_text.specs.Text.{textSays, TextOf, sourceOf, partText, refusedPart, itemPart, recordPart, callPart, partTold, PartOf, Finds, Tells}
+use Rattle.call_text.specs.Text.{textSays, TextOf, sourceOf, partText, refusedPart, itemPart, recordPart, callPart, partTold, PartOf, FindsText, TellsText}
 
 -- what is asked for in the end
 abbrev wordText : ℕ → Accepted → List Item → Option (List ℕ)
@@ -72,7 +72,7 @@ module _ (b s words : List ℕ) (w : ℕ) where
       → callPart b s words w ≡ asked p
       → sourceOf b s which ≡ l
       → which ≡ (if ltb w 256 then 0 else 1)
-      → Tells l which o p x
+      → TellsText l which o p x
       → PartOf b s words w x
   unfolding asked placeOf textSays partText if_then_else_
   part-told l which none p x said found el ew t = part-refused 28 0 (λ z. omega arith) said (found ∙ ap asked (t .0)) x (t .1)
@@ -155,7 +155,7 @@ module _ (b s words : List ℕ) (w : ℕ) where
               from-sheet : (o : Option (List ℕ)) (p : Option TextPart) (x : TextPart)
                   → (getElem? is n >>? λ x. some (textOf x)) ≡ o
                   → (getElem? is n >>? λ _. some (itemPart s words n)) ≡ p
-                  → Tells s 0 o p x
+                  → TellsText s 0 o p x
                   → PartOf b s words w x
               unfolding sourceOf if_then_else_
               from-sheet o p x k q t =
@@ -183,14 +183,14 @@ module _ (b s words : List ℕ) (w : ℕ) where
                 }
 
                 pub item-part : (x : TextPart)
-                    → ((y : Item) → itemFrom (sheetArea s) (recordAt words n) ≡ some y → Finds s 0 (textOf y) (some (itemPart s words n)) x)
+                    → ((y : Item) → itemFrom (sheetArea s) (recordAt words n) ≡ some y → FindsText s 0 (textOf y) (some (itemPart s words n)) x)
                     → PartOf b s words w x
                 unfolding _>>?_
                 item-part x f =
                     from-sheet (some (textOf (there .0))) (some (itemPart s words n)) x (rw (there .1)) (rw (there .1)) (f (there .0) here)
 
             module _ (above : 256 ≤ n) where
-              from-form : (x : TextPart) → Tells b 1 (recordText (passed .0) (n - 256)) (recordPart b (passed .0) (n - 256)) x → PartOf b s words w x
+              from-form : (x : TextPart) → TellsText b 1 (recordText (passed .0) (n - 256)) (recordPart b (passed .0) (n - 256)) x → PartOf b s words w x
               unfolding sourceOf if_then_else_
               from-form x t =
                   part-told b 1 (recordText (passed .0) (n - 256)) (recordPart b (passed .0) (n - 256)) x
@@ -203,13 +203,13 @@ module _ (b s words : List ℕ) (w : ℕ) where
                     let gone : getElem? (passed .0 .form .names) (n - 256) ≡ none =
                     rw (accepted-form b (passed .0) (passed .1)) (lookup-none (readForm b .names) (n - 256) (omega (arith, names-length b))) in
                     let none-there : recordText (passed .0) (n - 256) ≡ none = rw gone in
-                    from-form x (subst (λ (o : Option (List ℕ)). Tells b 1 o (recordPart b (passed .0) (n - 256)) x) (sym none-there) (rw gone, q))
+                    from-form x (subst (λ (o : Option (List ℕ)). TellsText b 1 o (recordPart b (passed .0) (n - 256)) x) (sym none-there) (rw gone, q))
 
                 pub has-record : n - 256 < m → HasName b (n - 256)
                 has-record h = has-name b (check-names b r e z) (n - 256) m em h
 
                 pub record-part : (x : TextPart)
-                    → ((a : Accepted) → a .form ≡ readForm b → Tells b 1 (recordText a (n - 256)) (recordPart b a (n - 256)) x)
+                    → ((a : Accepted) → a .form ≡ readForm b → TellsText b 1 (recordText a (n - 256)) (recordPart b a (n - 256)) x)
                     → PartOf b s words w x
                 record-part x f = from-form x (f (passed .0) (accepted-form b (passed .0) (passed .1)))
 

@@ -78,7 +78,7 @@ pub record PartOf (form sheet items : List ℕ) (word : ℕ) (r : TextPart) : Ty
   pub exact : partTold (callPart form sheet items word) ≡ some r
 
 -- ---- within one slice
-pub record Finds (l : List ℕ) (which : ℕ) (t : List ℕ) (p : Option TextPart) (r : TextPart) : Type 0 where
+pub record FindsText (l : List ℕ) (which : ℕ) (t : List ℕ) (p : Option TextPart) (r : TextPart) : Type 0 where
   pub number : r .number ≡ 0
   pub place : r .place ≡ 0
   pub source : r .source ≡ which
@@ -87,6 +87,6 @@ pub record Finds (l : List ℕ) (which : ℕ) (t : List ℕ) (p : Option TextPar
   pub exact : p ≡ some r
 
 -- where there is no text, 28
-abbrev pub Tells : List ℕ → ℕ → Option (List ℕ) → Option TextPart → TextPart → Type 0
-Tells l source none p r = (p ≡ none) × (r ≡ refusedPart 28 0)
-Tells l source (some t) p r = Finds l source t p r
+abbrev pub TellsText : List ℕ → ℕ → Option (List ℕ) → Option TextPart → TextPart → Type 0
+TellsText l source none p r = (p ≡ none) × (r ≡ refusedPart 28 0)
+TellsText l source (some t) p r = FindsText l source t p r

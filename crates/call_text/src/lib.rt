@@ -10,7 +10,8 @@ ghost use Rattle.rules.specs.Take.{textOf};
 ghost use Rattle.split_arg.specs.Items.{recordAt};
 ghost use Rattle.form_layout.specs.Layout.{HasName};
 ghost use Rattle.take_search.specs.Search.{HasItem};
-ghost use Rattle.call_text.specs.Text.{refusedPart, itemPart, recordPart, Finds, Tells, PartOf, TextOf};
+ghost use Rattle.call_text.specs.Text.{refusedPart, itemPart, recordPart, FindsText, TellsText, PartOf, TextOf};
+use call_answers::NOT_THERE;
 use wire::wide;
 
 // Which slice holds the text (0 the sheet, 1 the form), and where in that slice. Refused, these three are 0. A place is
@@ -39,7 +40,7 @@ fn refused(number: u32, place: u32) -> TextPart
 // The text of item i.
 fn item_part(sheet: &[u8], items: &[u32], i: usize) -> TextPart
     requires { ⌜ HasItem (now sheet) (now items) i ⌝ }
-    ensures { λ r. ⌜ ((x : RulesItem) → itemFrom (sheetArea (now (sheet .entry))) (recordAt (now (items .entry)) i) ≡ some x → Finds (now (sheet .entry)) 0 (textOf x) (some (itemPart (now (sheet .entry)) (now (items .entry)) i)) r) ⌝ }
+    ensures { λ r. ⌜ ((x : RulesItem) → itemFrom (sheetArea (now (sheet .entry))) (recordAt (now (items .entry)) i) ≡ some x → FindsText (now (sheet .entry)) 0 (textOf x) (some (itemPart (now (sheet .entry)) (now (items .entry)) i)) r) ⌝ }
 {
     let area = wire::area_start(2, split_sheet::count(sheet));
     let at = 7 * i;
@@ -56,11 +57,11 @@ fn item_part(sheet: &[u8], items: &[u32], i: usize) -> TextPart
 // The bytes of name record k, if its type is text.
 fn record_part(form: &[u8], k: usize) -> TextPart
     requires { ⌜ HasName (now form) k ⌝ }
-    ensures { λ r. ⌜ ((a : Accepted) → a .form ≡ readForm (now (form .entry)) → Tells (now (form .entry)) 1 (recordText a k) (recordPart (now (form .entry)) a k) r) ⌝ }
+    ensures { λ r. ⌜ ((a : Accepted) → a .form ≡ readForm (now (form .entry)) → TellsText (now (form .entry)) 1 (recordText a k) (recordPart (now (form .entry)) a k) r) ⌝ }
 {
     let x = form_layout::name_at(form, k);
     if x.kind != 2 {
-        return refused(28, 0);
+        return refused(NOT_THERE, 0);
     }
     let offset = form_layout::area_at(form) + x.offset;
     TextPart {
@@ -87,13 +88,13 @@ pub fn text_part(form: &[u8], sheet: &[u8], items: &[u32], word: u32) -> TextPar
     let n = wide(word);
     if n < 256 {
         if given.count <= n {
-            return refused(28, 0);
+            return refused(NOT_THERE, 0);
         }
         return item_part(sheet, items, n);
     }
     let k = n - 256;
     if form_layout::name_count(form) <= k {
-        return refused(28, 0);
+        return refused(NOT_THERE, 0);
     }
     record_part(form, k)
 }

@@ -19,18 +19,24 @@ use Rattle.form_layout.specs.Layout.{nodeOf}
 use Rattle.state_marks.specs.declared.Numbers.{Numbers}
 use Rattle.eval_told.specs.declared.Ran.{Ran}
 use Rattle.eval_told.specs.Nodes.{treeAt, isScalar, Standing}
-use Rattle.eval_list.specs.Lists.{Listed, Writes, OverScalar, OverList, WritesOver, Both}
+use Rattle.eval_list.specs.declared.Field.{Field}
+use Rattle.eval_list.specs.Lists.{Listed, Writes, WritesField, OverScalar, OverList, WritesOver, inPlace, EitherList}
 use Rattle.eval_shortcut.proofs.Trees.{Single, Double, form-good, node-inside, sound-at, optional-tree}
 use Rattle.eval_list.proofs.Trees.{list-scalar, optional-long, many-tree, some-tree, other-tree}
 
 module _
     {b known s items m : List ℕ}
     {p : Numbers}
-    {mark n : ℕ}
+    {field : Field}
     {o : List ℕ}
-    {at : ℕ}
-    (r : Listed b known s items m p mark n o at)
+    (r : Listed b known s items m p field o)
   where
+    abbrev mark : ℕ
+    mark = field .mark
+
+    abbrev n : ℕ
+    n = field .node
+
     pub there : (lengthGood b ≡ true) × (n < nodeCount b)
     there = (form-good b n (r .stands .tree) (r .stands .node), node-inside b n (r .stands .tree) (r .stands .node))
 
@@ -53,12 +59,10 @@ module _
     pub done :
         {make : Tree → Tree} {i : ℕ} {m′ o′ : List ℕ} {q : Ran}
         → Single make b n i (r .stands .tree)
-        → WritesOver make mark b s items i m p m′ o at o′ q
-        → (t : Tree)
-        → treeAt b n ≡ some t
-        → Writes mark (sheetArea s) items t m p m′ o at o′ q
+        → WritesOver make b s items (inPlace field i) m p m′ o o′ q
+        → WritesField b s items field m p m′ o o′ q
     done {m′} {o′} {q} w f t g =
-        subst (λ (u : Tree). Writes mark (sheetArea s) items u m p m′ o at o′ q)
+        subst (λ (u : Tree). Writes mark (sheetArea s) items u m p m′ o (field .at) o′ q)
         (w .same ∙ Option·some-injective (r .stands .tree) t (sym (r .stands .node) ∙ g))
         (f (w .child) (w .node))
 
@@ -68,7 +72,7 @@ module _
         → ((c : Tree) → leaves (make c) ≡ leaves c)
         → ((c : Tree) → kindOf (make c) ≡ (kindOf c >>? listKind))
         → Single make b n i (r .stands .tree)
-        → OverScalar make b known s items m p mark i o at
+        → OverScalar make b known s items m p (inPlace field i) o
     over make i same kind w =
         let z = subst Sound (sym (w .same)) sound in
         let l : leaves (w .child) ≤ 64 = subst (λ (k : ℕ). k ≤ 64) (ap leaves (sym (w .same)) ∙ same (w .child)) (r .stands .light) in
@@ -90,11 +94,11 @@ module _
       pub some-is : x .kind ≡ 6 → Single (Some (eqb (x .r) 1)) b n (x .p) T
       some-is k = some-tree b n T (r .stands .node) (nodeOf x) h k
 
-      pub many-ready : x .kind ≡ 5 → OverScalar (Many (eqb (x .r) 1)) b known s items m p mark (x .p) o at
+      pub many-ready : x .kind ≡ 5 → OverScalar (Many (eqb (x .r) 1)) b known s items m p (inPlace field (x .p)) o
       unfolding leaves kindOf
       many-ready k = over (Many (eqb (x .r) 1)) (x .p) (λ c. refl) (λ c. refl) (many-is k)
 
-      pub some-ready : x .kind ≡ 6 → OverScalar (Some (eqb (x .r) 1)) b known s items m p mark (x .p) o at
+      pub some-ready : x .kind ≡ 6 → OverScalar (Some (eqb (x .r) 1)) b known s items m p (inPlace field (x .p)) o
       unfolding leaves kindOf
       some-ready k = over (Some (eqb (x .r) 1)) (x .p) (λ c. refl) (λ c. refl) (some-is k)
 
@@ -105,7 +109,7 @@ module _
       pub optional-less : x .kind ≡ 4 → {t : ℕ} → n * 2 + 1 ≡ t → x .p * 2 + 2 < t
       optional-less k e = omega (arith, optional-is k .less)
 
-      pub optional-ready : x .kind ≡ 4 → OverList (Optional (eqb (x .r) 1)) b known s items m p mark (x .p) o at
+      pub optional-ready : x .kind ≡ 4 → OverList (Optional (eqb (x .r) 1)) b known s items m p (inPlace field (x .p)) o
       unfolding leaves kindOf
       optional-ready k =
           let w = optional-is k in
@@ -125,7 +129,7 @@ module _
         pub choice-less : {t : ℕ} → n * 2 + 1 ≡ t → max (x .p) (x .q) * 2 + 2 < t
         choice-less e = omega (arith, choice-is .less, choice-is .less₂)
 
-        pub choice-ready : Both b known s items m p mark (x .p) (x .q) o at
+        pub choice-ready : EitherList b known s items m p (inPlace field (x .p)) (x .q) o
         unfolding leaves kindOf
         choice-ready =
             let w = choice-is in
@@ -145,12 +149,10 @@ module _
 
         pub choice-done :
             {m′ o′ : List ℕ} {q : Ran}
-            → ((t u : Tree) → treeAt b (x .p) ≡ some t → treeAt b (x .q) ≡ some u → Writes mark (sheetArea s) items (Choice t u) m p m′ o at o′ q)
-            → (t : Tree)
-            → treeAt b n ≡ some t
-            → Writes mark (sheetArea s) items t m p m′ o at o′ q
+            → ((t u : Tree) → treeAt b (x .p) ≡ some t → treeAt b (x .q) ≡ some u → Writes mark (sheetArea s) items (Choice t u) m p m′ o (field .at) o′ q)
+            → WritesField b s items field m p m′ o o′ q
         choice-done {m′} {o′} {q} f t g =
             let w = choice-is in
-            subst (λ (u : Tree). Writes mark (sheetArea s) items u m p m′ o at o′ q)
+            subst (λ (u : Tree). Writes mark (sheetArea s) items u m p m′ o (field .at) o′ q)
             (w .same ∙ Option·some-injective T t (sym (r .stands .node) ∙ g))
             (f (w .first) (w .second) (w .node) (w .node₂))

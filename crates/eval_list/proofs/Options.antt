@@ -28,7 +28,8 @@ use Rattle.eval_told.proofs.Visits.{visit-told, runs-numbered}
 use Rattle.eval_told.proofs.Repeats.{told-value}
 use Rattle.eval_combine.specs.declared.Optioned.{Optioned}
 use Rattle.eval_combine.specs.Made.{Given, optionalWords, OptionalOf}
-use Rattle.eval_list.specs.Lists.{Writes, OverList}
+use Rattle.eval_list.specs.declared.Field.{Field}
+use Rattle.eval_list.specs.Lists.{Writes, WritesField, OverList}
 use Rattle.eval_list.proofs.Words.{set-zero, sets-over, sets-read}
 use Rattle.eval_list.proofs.Runs.{told-none, node-runs, node-short}
 
@@ -84,14 +85,19 @@ module _
     {catch : Bool}
     {b known s items m : List ℕ}
     {p : Numbers}
-    {mark child : ℕ}
+    {child : Field}
     {o : List ℕ}
-    {at : ℕ}
-    (r : OverList (Optional catch) b known s items m p mark child o at)
+    (r : OverList (Optional catch) b known s items m p child o)
     {m′ o′ : List ℕ}
     {ran : Ran}
-    (h : (t : Tree) → treeAt b child ≡ some t → Writes mark (sheetArea s) items t m p m′ o at o′ ran)
+    (h : WritesField b s items child m p m′ o o′ ran)
   where
+    abbrev mark : ℕ
+    mark = child .mark
+
+    abbrev at : ℕ
+    at = child .at
+
     abbrev state : takes.Ready (sheetArea s) items m p mark
     state = r .below .stands .state
 
@@ -110,7 +116,7 @@ module _
           go zero z = refl
           go (suc n) z = absurd (false≢true (sym (f .refused (λ u. omega arith) .1) ∙ e))
 
-      module _ (t : Tree) (g : treeAt b child ≡ some t) where
+      module _ (t : Tree) (g : treeAt b (child .node) ≡ some t) where
         sound : Sound (Optional catch t)
         sound =
             subst (λ (u : Tree). Sound (Optional catch u))

@@ -34,8 +34,10 @@ use Rattle.eval_told.specs.Nodes.{treeAt}
 use Rattle.eval_told.specs.Lists.{ToldList, toldList}
 use Rattle.eval_told.proofs.Visits.{visit-told}
 use Rattle.eval_told.proofs.ListLaws.{length-words, then-values, many-value, many-refused, some-value, some-none, some-refused}
+use Rattle.eval_node.specs.declared.Repeat.{Repeat}
 use Rattle.eval_node.specs.declared.Repeated.{Repeated}
 use Rattle.eval_node.specs.Cycle.{listed, Room, Repeating, Repeats}
+use Rattle.eval_list.specs.declared.Field.{Field}
 use Rattle.eval_list.specs.Lists.{Writes, OverScalar, WritesOver, refusedList, Counted}
 use Rattle.eval_list.proofs.Words.{sets-head}
 use Rattle.eval_list.proofs.Runs.{node-good}
@@ -102,21 +104,29 @@ SomeBy all r =
     → length vs ≡ all .count
     → evalSome catch run s ≡ (repeated catch false run s then someBy r)
 
+-- the repeat of a list
+abbrev written : Bool → Field → Repeat
+written catch child = record { child = child .node; catch = catch; stops = false; writes = true; at = child .at }
+
 -- ---- what a list of the child's values says
 module _
     (catch : Bool)
-    (mark : ℕ)
+    (child : Field)
     (area items : List ℕ)
     (t : Tree)
     (m : List ℕ)
     (p : Numbers)
-    (state : takes.Ready area items m p mark)
-    (m′ o : List ℕ)
-    (at : ℕ)
-    (o′ : List ℕ)
+    (state : takes.Ready area items m p (child .mark))
+    (m′ o o′ : List ℕ)
     (all : Repeated)
-    (h : Repeats mark area items t catch false true m p m′ o at o′ all)
+    (h : Repeats (child .mark) area items t (written catch child) m p m′ o o′ all)
   where
+    abbrev mark : ℕ
+    mark = child .mark
+
+    abbrev at : ℕ
+    at = child .at
+
     abbrev repeats : List Item → Run (List Value)
     repeats is = repeated catch false (eval mark is t) (stateOf m p)
 
@@ -281,70 +291,68 @@ tree-same : (b : List ℕ) (n : ℕ) (t u : Tree) → treeAt b n ≡ some t → 
 tree-same b n t u e f = Option·some-injective t u (sym e ∙ f)
 
 -- what `run_repeat` answers
-abbrev RepeatsOver : ℕ → List ℕ → List ℕ → List ℕ → ℕ → Bool → List ℕ → Numbers → List ℕ → List ℕ → ℕ → List ℕ → Repeated → Type 0
-RepeatsOver mark b s items child catch m p m′ o at o′ all =
-    (t : Tree) → treeAt b child ≡ some t → Repeats mark (sheetArea s) items t catch false true m p m′ o at o′ all
+abbrev RepeatsOver : List ℕ → List ℕ → List ℕ → Field → Bool → List ℕ → Numbers → List ℕ → List ℕ → List ℕ → Repeated → Type 0
+RepeatsOver b s items child catch m p m′ o o′ all =
+    (t : Tree) → treeAt b (child .node) ≡ some t → Repeats (child .mark) (sheetArea s) items t (written catch child) m p m′ o o′ all
 
 module _
     {make : Tree → Tree}
     (flat : (t : Tree) → Sound (make t) → Flat t)
     {b known s items m : List ℕ}
     {p : Numbers}
-    {mark child : ℕ}
+    {child : Field}
     {o : List ℕ}
-    {at : ℕ}
-    (r : OverScalar make b known s items m p mark child o at)
+    (r : OverScalar make b known s items m p child o)
   where
-    pub asks : Repeating b known s items m p mark child true o at
+    pub asks : {catch : Bool} → Repeating b known s items m p (child .mark) (written catch child) o
     asks = record { below = r .below; flat = flat (r .below .stands .tree) (r .sound) .flat; space = λ e. r .space }
 
-    child-sound : (t : Tree) → treeAt b child ≡ some t → Sound (make t)
-    child-sound t g = subst (λ (u : Tree). Sound (make u)) (tree-same b child _ t (r .below .stands .node) g) (r .sound)
+    child-sound : (t : Tree) → treeAt b (child .node) ≡ some t → Sound (make t)
+    child-sound t g = subst (λ (u : Tree). Sound (make u)) (tree-same b (child .node) _ t (r .below .stands .node) g) (r .sound)
 
-    pub counts : {catch : Bool} {m′ o′ : List ℕ} {all : Repeated} → RepeatsOver mark b s items child catch m p m′ o at o′ all → (all .size ≤ 514) × (at < length o′)
+    pub counts : {catch : Bool} {m′ o′ : List ℕ} {all : Repeated} → RepeatsOver b s items child catch m p m′ o o′ all → (all .size ≤ 514) × (child .at < length o′)
     counts {catch} {m′} {o′} {all} h =
-        count-ready catch mark (sheetArea s) items (r .below .stands .tree) m p (r .below .stands .state) m′ o at o′ all
+        count-ready catch child (sheetArea s) items (r .below .stands .tree) m p (r .below .stands .state) m′ o o′ all
         (h (r .below .stands .tree) (r .below .stands .node)) (r .space)
 
 module _
     {catch : Bool}
     {b known s items m : List ℕ}
     {p : Numbers}
-    {mark child : ℕ}
+    {child : Field}
     {o : List ℕ}
-    {at : ℕ}
     {m′ o′ : List ℕ}
     {all : Repeated}
   where
     module _
-        (r : OverScalar (Many catch) b known s items m p mark child o at)
-        (h : RepeatsOver mark b s items child catch m p m′ o at o′ all)
+        (r : OverScalar (Many catch) b known s items m p child o)
+        (h : RepeatsOver b s items child catch m p m′ o o′ all)
       where
         pub many-refuses :
             (all .number ≡ 0 → ⊥)
             → {q : Ran}
             → q ≡ refusedList (all .number) (all .place) (all .tries) (all .numbers)
-            → WritesOver (Many catch) mark b s items child m p m′ o at o′ q
+            → WritesOver (Many catch) b s items child m p m′ o o′ q
         many-refuses n {q} e t g =
-            many-denied catch mark (sheetArea s) items t m p (r .below .stands .state) m′ o at o′ all (h t g)
+            many-denied catch child (sheetArea s) items t m p (r .below .stands .state) m′ o o′ all (h t g)
             (child-sound (sound-many catch) r t g) n q e
 
-        pub many-ends : all .number ≡ 0 → {o″ : List ℕ} {q : Ran} → Counted all o′ at o″ q → WritesOver (Many catch) mark b s items child m p m′ o at o″ q
+        pub many-ends : all .number ≡ 0 → {o″ : List ℕ} {q : Ran} → Counted all o′ (child .at) o″ q → WritesOver (Many catch) b s items child m p m′ o o″ q
         many-ends n {o″} {q} c t g =
-            many-made catch mark (sheetArea s) items t m p (r .below .stands .state) m′ o at o′ all (h t g)
+            many-made catch child (sheetArea s) items t m p (r .below .stands .state) m′ o o′ all (h t g)
             (child-sound (sound-many catch) r t g) n o″ q c
 
     module _
-        (r : OverScalar (Some catch) b known s items m p mark child o at)
-        (h : RepeatsOver mark b s items child catch m p m′ o at o′ all)
+        (r : OverScalar (Some catch) b known s items m p child o)
+        (h : RepeatsOver b s items child catch m p m′ o o′ all)
       where
         pub some-refuses :
             (all .number ≡ 0 → ⊥)
             → {q : Ran}
             → q ≡ refusedList (all .number) (all .place) (all .tries) (all .numbers)
-            → WritesOver (Some catch) mark b s items child m p m′ o at o′ q
+            → WritesOver (Some catch) b s items child m p m′ o o′ q
         some-refuses n {q} e t g =
-            some-denied catch mark (sheetArea s) items t m p (r .below .stands .state) m′ o at o′ all (h t g)
+            some-denied catch child (sheetArea s) items t m p (r .below .stands .state) m′ o o′ all (h t g)
             (child-sound (sound-some catch) r t g) n q e
 
         module _ (n : all .number ≡ 0) {k : ℕ} (by : SomeBy all k) where
@@ -352,12 +360,12 @@ module _
               (k ≡ 0 → ⊥)
               → {q : Ran}
               → q ≡ refusedList k 0 (all .tries) (all .numbers)
-              → WritesOver (Some catch) mark b s items child m p m′ o at o′ q
+              → WritesOver (Some catch) b s items child m p m′ o o′ q
           some-nothing w {q} e t g =
-              some-empty catch mark (sheetArea s) items t m p (r .below .stands .state) m′ o at o′ all (h t g)
+              some-empty catch child (sheetArea s) items t m p (r .below .stands .state) m′ o o′ all (h t g)
               (child-sound (sound-some catch) r t g) n k by w q e
 
-          pub some-ends : k ≡ 0 → {o″ : List ℕ} {q : Ran} → Counted all o′ at o″ q → WritesOver (Some catch) mark b s items child m p m′ o at o″ q
+          pub some-ends : k ≡ 0 → {o″ : List ℕ} {q : Ran} → Counted all o′ (child .at) o″ q → WritesOver (Some catch) b s items child m p m′ o o″ q
           some-ends w {o″} {q} c t g =
-              some-made catch mark (sheetArea s) items t m p (r .below .stands .state) m′ o at o′ all (h t g)
+              some-made catch child (sheetArea s) items t m p (r .below .stands .state) m′ o o′ all (h t g)
               (child-sound (sound-some catch) r t g) n k by w o″ q c

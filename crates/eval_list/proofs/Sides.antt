@@ -25,7 +25,8 @@ use Rattle.eval_told.proofs.Visits.{visit-told, runs-numbered}
 use Rattle.eval_combine.specs.declared.Chosen.{Chosen}
 use Rattle.eval_combine.specs.Made.{Sides, choiceWords, ChoiceOf}
 use Rattle.eval_node.specs.Cycle.{Room}
-use Rattle.eval_list.specs.Lists.{Listed, Writes, Both, Aside, settled}
+use Rattle.eval_list.specs.declared.Field.{Field}
+use Rattle.eval_list.specs.Lists.{Listed, Writes, WritesField, inPlace, EitherList, Aside, settled}
 use Rattle.eval_node.proofs.Words.{sets-back}
 use Rattle.eval_list.proofs.Words.{sets-read, settled-refused, settled-first, settled-second}
 use Rattle.eval_list.proofs.Runs.{node-runs, node-short, node-tries, writes-long}
@@ -48,16 +49,22 @@ module _ (number : ℕ) (first : Bool) (a b : List ℕ) where
 module _
     {b known s items m : List ℕ}
     {p : Numbers}
-    {mark left right : ℕ}
+    {left : Field}
+    {right : ℕ}
     {o : List ℕ}
-    {at : ℕ}
-    (r : Both b known s items m p mark left right o at)
+    (r : EitherList b known s items m p left right o)
     {m₁ o₁ : List ℕ}
     {x : Ran}
-    (h : (t : Tree) → treeAt b left ≡ some t → Writes mark (sheetArea s) items t m p m₁ o at o₁ x)
+    (h : WritesField b s items left m p m₁ o o₁ x)
     {n : ℕ}
     (en : n ≡ x .len)
   where
+    abbrev mark : ℕ
+    mark = left .mark
+
+    abbrev at : ℕ
+    at = left .at
+
     abbrev state : takes.Ready (sheetArea s) items m p mark
     state = r .first .stands .state
 
@@ -82,7 +89,7 @@ module _
           ∙ ap₂ (λ (l : List ℕ) (k : ℕ). sets l at (replicate k 0)) (w .put) (en ∙ w .len)
           ∙ sets-back (w .value) o at (r .first .space .zeros)
 
-      pub second-ready : Listed b known s items m p mark right o₂ at
+      pub second-ready : Listed b known s items m p (inPlace left right) o₂
       second-ready =
           record {
             stands = r .second .stands;
@@ -90,7 +97,7 @@ module _
             space = subst (λ (l : List ℕ). Room l at) (sym cleared) (r .second .space);
           }
 
-      module _ {m₂ o₃ : List ℕ} {y : Ran} (k : (t : Tree) → treeAt b right ≡ some t → Writes mark (sheetArea s) items t m p m₂ o₂ at o₃ y) where
+      module _ {m₂ o₃ : List ℕ} {y : Ran} (k : WritesField b s items (inPlace left right) m p m₂ o₂ o₃ y) where
         abbrev other : Writes mark (sheetArea s) items (r .second .stands .tree) m p m₂ o₂ at o₃ y
         other = k (r .second .stands .tree) (r .second .stands .node)
 
@@ -118,7 +125,7 @@ module _
             {o₄ : List ℕ}
             (e : o₄ ≡ settled (made .ran .number) (made .first) o₃ at (take n kept) j)
             (t u : Tree)
-            (g : treeAt b left ≡ some t)
+            (g : treeAt b (left .node) ≡ some t)
             (v : treeAt b right ≡ some u)
           where
             sound : Sound (Choice t u)

@@ -21,12 +21,13 @@ use Rattle.eval_told.specs.Told.{told, toldWith}
 use Rattle.eval_told.specs.Nodes.{treeAt, isScalar, Standing, Scalar}
 use Rattle.eval_node.specs.Cycle.{Room}
 use Rattle.eval_node.specs.declared.Repeated.{Repeated}
+use Rattle.eval_list.specs.declared.Field.{Field}
 
 -- ---- a node whose value is a list or an optional list, and room for its words
-pub record Listed (b known s words m : List ℕ) (p : Numbers) (mark n : ℕ) (o : List ℕ) (at : ℕ) : Type 0 where
-  pub stands : Standing b known s words m p mark n
+pub record Listed (b known s words m : List ℕ) (p : Numbers) (f : Field) (o : List ℕ) : Type 0 where
+  pub stands : Standing b known s words m p (f .mark) (f .node)
   pub long : isScalar (kindOf (stands .tree)) ≡ false
-  pub space : Room o at
+  pub space : Room o (f .at)
 
 -- what its run tells, with the words of its value, which are written from `at` on. A refusal has no words
 pub record Writes (mark : ℕ) (area words : List ℕ) (t : Tree) (m : List ℕ) (p : Numbers) (m′ o : List ℕ) (at : ℕ) (o′ : List ℕ) (r : Ran) : Type 0 where
@@ -37,25 +38,34 @@ pub record Writes (mark : ℕ) (area words : List ℕ) (t : Tree) (m : List ℕ)
   pub fits : length value ≤ 515
   pub left : Left m p m′ (r .numbers)
 
--- ---- a node with one child: no list in a repeat, a list in an optional
-pub record OverScalar (make : Tree → Tree) (b known s words m : List ℕ) (p : Numbers) (mark child : ℕ) (o : List ℕ) (at : ℕ) : Type 0 where
-  pub below : Scalar b known s words m p mark child
-  pub sound : Sound (make (below .stands .tree))
-  pub space : Room o at
+-- of a field, for the tree of its node
+abbrev pub WritesField : List ℕ → List ℕ → List ℕ → Field → List ℕ → Numbers → List ℕ → List ℕ → List ℕ → Ran → Type 0
+WritesField b s words f m p m′ o o′ r =
+    (t : Tree) → treeAt b (f .node) ≡ some t → Writes (f .mark) (sheetArea s) words t m p m′ o (f .at) o′ r
 
-pub record OverList (make : Tree → Tree) (b known s words m : List ℕ) (p : Numbers) (mark child : ℕ) (o : List ℕ) (at : ℕ) : Type 0 where
-  pub below : Listed b known s words m p mark child o at
+-- ---- a node with one child: no list in a repeat, a list in an optional
+pub record OverScalar (make : Tree → Tree) (b known s words m : List ℕ) (p : Numbers) (child : Field) (o : List ℕ) : Type 0 where
+  pub below : Scalar b known s words m p (child .mark) (child .node)
+  pub sound : Sound (make (below .stands .tree))
+  pub space : Room o (child .at)
+
+pub record OverList (make : Tree → Tree) (b known s words m : List ℕ) (p : Numbers) (child : Field) (o : List ℕ) : Type 0 where
+  pub below : Listed b known s words m p child o
   pub sound : Sound (make (below .stands .tree))
 
 -- what it answers, for the tree of the child
-abbrev pub WritesOver : (Tree → Tree) → ℕ → List ℕ → List ℕ → List ℕ → ℕ → List ℕ → Numbers → List ℕ → List ℕ → ℕ → List ℕ → Ran → Type 0
-WritesOver make mark b s words child m p m′ o at o′ r =
-    (t : Tree) → treeAt b child ≡ some t → Writes mark (sheetArea s) words (make t) m p m′ o at o′ r
+abbrev pub WritesOver : (Tree → Tree) → List ℕ → List ℕ → List ℕ → Field → List ℕ → Numbers → List ℕ → List ℕ → List ℕ → Ran → Type 0
+WritesOver make b s words child m p m′ o o′ r =
+    (t : Tree) → treeAt b (child .node) ≡ some t → Writes (child .mark) (sheetArea s) words (make t) m p m′ o (child .at) o′ r
 
 -- ---- a choice between lists
-pub record Both (b known s words m : List ℕ) (p : Numbers) (mark left right : ℕ) (o : List ℕ) (at : ℕ) : Type 0 where
-  pub first : Listed b known s words m p mark left o at
-  pub second : Listed b known s words m p mark right o at
+-- another node in a field's place
+abbrev pub inPlace : Field → ℕ → Field
+inPlace f n = record { node = n; at = f .at; mark = f .mark }
+
+pub record EitherList (b known s words m : List ℕ) (p : Numbers) (left : Field) (right : ℕ) (o : List ℕ) : Type 0 where
+  pub first : Listed b known s words m p left o
+  pub second : Listed b known s words m p (inPlace left right) o
   pub sound : Sound (Choice (first .stands .tree) (second .stands .tree))
 
 -- ---- what the small functions make

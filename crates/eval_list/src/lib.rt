@@ -8,11 +8,19 @@ ghost use lib.Seq.{sets};
 ghost use Rattle.rules.specs.Sheet.{sheetArea};
 ghost use Rattle.rules.specs.Tree.{Tree, Optional, Many, Some, Choice};
 ghost use Rattle.eval_told.specs.Nodes.{treeAt};
-ghost use Rattle.eval_list.specs.Lists.{Listed, Writes, OverScalar, OverList, WritesOver, Both, refusedList, Counted, Aside, settled};
+ghost use Rattle.eval_list.specs.Lists.{Listed, Writes, WritesField, OverScalar, OverList, WritesOver, EitherList, refusedList, Counted, Aside, settled};
+use eval_node::Repeat;
 use eval_node::Repeated;
 use eval_told::Ran;
 use state_marks::Numbers;
 use wire::wide;
+
+// A node, the word of the answer slice that its value begins at, and the mark of what it uses.
+pub struct Field {
+    pub node: usize,
+    pub at: usize,
+    pub mark: u16,
+}
 
 fn blank() -> [u32; 515]
     ensures { λ r. ⌜ length r ≡ 515 ⌝ }
@@ -103,35 +111,26 @@ fn run_many(
     items: &[u32],
     marks: &mut [u16; 256],
     p: Numbers,
-    child: usize,
     catch: bool,
-    at: usize,
+    child: Field,
     out: &mut [u32],
-    mark: u16,
 ) -> Ran
-    requires { ⌜ OverScalar (Many catch) (now form) (now known) (now sheet) (now items) (now marks) p mark child (now out) at ⌝ }
-    ensures { λ r. ⌜ WritesOver (Many catch) mark (now (form .entry)) (now (sheet .entry)) (now (items .entry)) child (now (marks .entry)) p (now (marks .exit)) (now (out .entry)) at (now (out .exit)) r ⌝ }
+    requires { ⌜ OverScalar (Many catch) (now form) (now known) (now sheet) (now items) (now marks) p child (now out) ⌝ }
+    ensures { λ r. ⌜ WritesOver (Many catch) (now (form .entry)) (now (sheet .entry)) (now (items .entry)) child (now (marks .entry)) p (now (marks .exit)) (now (out .entry)) (now (out .exit)) r ⌝ }
 {
-    let all = eval_node::run_repeat(
-        form,
-        known,
-        sheet,
-        items,
-        marks,
-        p,
-        child,
+    let how = Repeat {
+        child: child.node,
         catch,
-        false,
-        true,
-        at,
-        out,
-        mark,
-    );
+        stops: false,
+        writes: true,
+        at: child.at,
+    };
+    let all = eval_node::run_repeat(form, known, sheet, items, marks, p, how, out, child.mark);
     if all.number != 0 {
         let left = all.numbers;
         return refused(all.number, all.place, all.tries, left);
     }
-    counted(all, at, out)
+    counted(all, child.at, out)
 }
 
 // A list of no values is refused.
@@ -142,30 +141,21 @@ fn run_some(
     items: &[u32],
     marks: &mut [u16; 256],
     p: Numbers,
-    child: usize,
     catch: bool,
-    at: usize,
+    child: Field,
     out: &mut [u32],
-    mark: u16,
 ) -> Ran
-    requires { ⌜ OverScalar (Some catch) (now form) (now known) (now sheet) (now items) (now marks) p mark child (now out) at ⌝ }
-    ensures { λ r. ⌜ WritesOver (Some catch) mark (now (form .entry)) (now (sheet .entry)) (now (items .entry)) child (now (marks .entry)) p (now (marks .exit)) (now (out .entry)) at (now (out .exit)) r ⌝ }
+    requires { ⌜ OverScalar (Some catch) (now form) (now known) (now sheet) (now items) (now marks) p child (now out) ⌝ }
+    ensures { λ r. ⌜ WritesOver (Some catch) (now (form .entry)) (now (sheet .entry)) (now (items .entry)) child (now (marks .entry)) p (now (marks .exit)) (now (out .entry)) (now (out .exit)) r ⌝ }
 {
-    let all = eval_node::run_repeat(
-        form,
-        known,
-        sheet,
-        items,
-        marks,
-        p,
-        child,
+    let how = Repeat {
+        child: child.node,
         catch,
-        false,
-        true,
-        at,
-        out,
-        mark,
-    );
+        stops: false,
+        writes: true,
+        at: child.at,
+    };
+    let all = eval_node::run_repeat(form, known, sheet, items, marks, p, how, out, child.mark);
     let left = all.numbers;
     if all.number != 0 {
         return refused(all.number, all.place, all.tries, left);
@@ -174,7 +164,7 @@ fn run_some(
     if number != 0 {
         return refused(number, 0, all.tries, left);
     }
-    counted(all, at, out)
+    counted(all, child.at, out)
 }
 
 // A node whose value is a list or an optional list: its words go to `out` from `at` on, where all is 0.
@@ -185,23 +175,25 @@ pub fn run_list(
     items: &[u32],
     marks: &mut [u16; 256],
     p: Numbers,
-    node: usize,
-    at: usize,
+    field: Field,
     out: &mut [u32],
-    mark: u16,
 ) -> Ran
-    requires { ⌜ Listed (now form) (now known) (now sheet) (now items) (now marks) p mark node (now out) at ⌝ }
-    ensures { λ r. ⌜ ((t : Tree) → treeAt (now (form .entry)) node ≡ some t → Writes mark (sheetArea (now (sheet .entry))) (now (items .entry)) t (now (marks .entry)) p (now (marks .exit)) (now (out .entry)) at (now (out .exit)) r) ⌝ }
+    requires { ⌜ Listed (now form) (now known) (now sheet) (now items) (now marks) p field (now out) ⌝ }
+    ensures { λ r. ⌜ WritesField (now (form .entry)) (now (sheet .entry)) (now (items .entry)) field (now (marks .entry)) p (now (marks .exit)) (now (out .entry)) (now (out .exit)) r ⌝ }
 {
-    let x = form_layout::node_at(form, node);
+    let x = form_layout::node_at(form, field.node);
     let kind = x.kind;
-    let i = x.p;
     let catch = x.r == 1;
+    let child = Field {
+        node: x.p,
+        at: field.at,
+        mark: field.mark,
+    };
     match kind {
-        4 => run_optional_list(form, known, sheet, items, marks, p, i, catch, at, out, mark),
-        5 => run_many(form, known, sheet, items, marks, p, i, catch, at, out, mark),
-        6 => run_some(form, known, sheet, items, marks, p, i, catch, at, out, mark),
-        _ => run_either(form, known, sheet, items, marks, p, i, x.q, at, out, mark),
+        4 => run_optional_list(form, known, sheet, items, marks, p, catch, child, out),
+        5 => run_many(form, known, sheet, items, marks, p, catch, child, out),
+        6 => run_some(form, known, sheet, items, marks, p, catch, child, out),
+        _ => run_either(form, known, sheet, items, marks, p, child, x.q, out),
     }
 }
 
@@ -213,20 +205,18 @@ fn run_optional_list(
     items: &[u32],
     marks: &mut [u16; 256],
     p: Numbers,
-    child: usize,
     catch: bool,
-    at: usize,
+    child: Field,
     out: &mut [u32],
-    mark: u16,
 ) -> Ran
-    requires { ⌜ OverList (Optional catch) (now form) (now known) (now sheet) (now items) (now marks) p mark child (now out) at ⌝ }
-    ensures { λ r. ⌜ WritesOver (Optional catch) mark (now (form .entry)) (now (sheet .entry)) (now (items .entry)) child (now (marks .entry)) p (now (marks .exit)) (now (out .entry)) at (now (out .exit)) r ⌝ }
+    requires { ⌜ OverList (Optional catch) (now form) (now known) (now sheet) (now items) (now marks) p child (now out) ⌝ }
+    ensures { λ r. ⌜ WritesOver (Optional catch) (now (form .entry)) (now (sheet .entry)) (now (items .entry)) child (now (marks .entry)) p (now (marks .exit)) (now (out .entry)) (now (out .exit)) r ⌝ }
 {
     let before = *marks;
-    let ran = run_list(form, known, sheet, items, marks, p, child, at, out, mark);
+    let ran = run_list(form, known, sheet, items, marks, p, child, out);
     let made = eval_combine::optional(ran, p, catch, &before, marks);
     if made.present {
-        shift(out, at, wide(ran.len));
+        shift(out, child.at, wide(ran.len));
     }
     let answer = made.ran;
     answer
@@ -240,24 +230,35 @@ fn run_either(
     items: &[u32],
     marks: &mut [u16; 256],
     p: Numbers,
-    left: usize,
+    left: Field,
     right: usize,
-    at: usize,
     out: &mut [u32],
-    mark: u16,
 ) -> Ran
-    requires { ⌜ Both (now form) (now known) (now sheet) (now items) (now marks) p mark left right (now out) at ⌝ }
-    ensures { λ r. ⌜ ((t u : Tree) → treeAt (now (form .entry)) left ≡ some t → treeAt (now (form .entry)) right ≡ some u → Writes mark (sheetArea (now (sheet .entry))) (now (items .entry)) (Choice t u) (now (marks .entry)) p (now (marks .exit)) (now (out .entry)) at (now (out .exit)) r) ⌝ }
+    requires { ⌜ EitherList (now form) (now known) (now sheet) (now items) (now marks) p left right (now out) ⌝ }
+    ensures { λ r. ⌜ ((t u : Tree) → treeAt (now (form .entry)) (left .node) ≡ some t → treeAt (now (form .entry)) right ≡ some u → Writes (left .mark) (sheetArea (now (sheet .entry))) (now (items .entry)) (Choice t u) (now (marks .entry)) p (now (marks .exit)) (now (out .entry)) (left .at) (now (out .exit)) r) ⌝ }
 {
     let before = *marks;
-    let x = run_list(form, known, sheet, items, marks, p, left, at, out, mark);
+    let x = run_list(form, known, sheet, items, marks, p, left, out);
     let first = *marks;
     let n = wide(x.len);
-    let kept = set_aside(out, at, n);
+    let kept = set_aside(out, left.at, n);
     *marks = before;
-    let y = run_list(form, known, sheet, items, marks, p, right, at, out, mark);
+    let other = Field {
+        node: right,
+        at: left.at,
+        mark: left.mark,
+    };
+    let y = run_list(form, known, sheet, items, marks, p, other, out);
     let made = eval_combine::choose(x, y, p, &before, &first, marks);
     let answer = made.ran;
-    settle(out, at, answer.number, made.first, &kept, n, wide(y.len));
+    settle(
+        out,
+        left.at,
+        answer.number,
+        made.first,
+        &kept,
+        n,
+        wide(y.len),
+    );
     answer
 }

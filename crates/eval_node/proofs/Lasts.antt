@@ -32,9 +32,14 @@ use Rattle.eval_shortcut.specs.Children.{Wraps, Wrapped}
 use Rattle.eval_shortcut.proofs.Trees.{sound-at}
 use Rattle.eval_shortcut.proofs.Given.{Says}
 use Rattle.eval_shortcut.proofs.Steps.{inside, wrapped, child-told, child-left, child-tries}
+use Rattle.eval_node.specs.declared.Repeat.{Repeat}
 use Rattle.eval_node.specs.declared.Repeated.{Repeated}
 use Rattle.eval_node.specs.Values.{refusedList, countedValues, lastValue, moreTries}
 use Rattle.eval_node.specs.Cycle.{listed, Repeating, Repeats}
+
+-- the repeat of `count` and of `last`
+abbrev pub unwritten : ℕ → Repeat
+unwritten n = record { child = n; catch = false; stops = true; writes = false; at = 0 }
 
 -- ---- a repeat's refusal has a number
 fine-numbered : {A : Type 0} (h : ℕ) (P : A → Type 0) (o : Outcome A) → Fine h P o → Numbered o
@@ -65,20 +70,18 @@ module _
     (flat : hasRepeat (z .stands .tree) ≡ false)
   where
     -- nothing is written
-    abbrev pub repeat-asks : (o : List ℕ) (at : ℕ) → Repeating b known s ws m p mark n false o at
-    repeat-asks o at = record { below = z; flat = flat; space = λ e. absurd (false≢true e) }
+    abbrev pub repeat-asks : (o : List ℕ) → Repeating b known s ws m p mark (unwritten n) o
+    repeat-asks o = record { below = z; flat = flat; space = λ e. absurd (false≢true e) }
 
     module _
-        (m′ o : List ℕ)
-        (at : ℕ)
-        (o′ : List ℕ)
+        (m′ o o′ : List ℕ)
         (all : Repeated)
-        (f : (t : Tree) → treeAt b n ≡ some t → Repeats mark (sheetArea s) ws t false true false m p m′ o at o′ all)
+        (f : (t : Tree) → treeAt b n ≡ some t → Repeats mark (sheetArea s) ws t (unwritten n) m p m′ o o′ all)
       where
         abbrev tree : Tree
         tree = z .stands .tree
 
-        abbrev answer : Repeats mark (sheetArea s) ws tree false true false m p m′ o at o′ all
+        abbrev answer : Repeats mark (sheetArea s) ws tree (unwritten n) m p m′ o o′ all
         answer = f tree (z .stands .node)
 
         module _ (is : List Item) (i : Items (sheetArea s) ws p is) where
@@ -162,15 +165,13 @@ module _ (b known s ws m : List ℕ) (p : Numbers) (mark n : ℕ) (z : Wraps Cou
   count-flat : hasRepeat (z .below .stands .tree) ≡ false
   count-flat = sound-count (z .below .stands .tree) (z .sound) .flat
 
-  pub count-asks : (o : List ℕ) (at : ℕ) → Repeating b known s ws m p mark n false o at
+  pub count-asks : (o : List ℕ) → Repeating b known s ws m p mark (unwritten n) o
   count-asks = repeat-asks b known s ws m p mark n (z .below) count-flat
 
   module _
-      (m′ o : List ℕ)
-      (at : ℕ)
-      (o′ : List ℕ)
+      (m′ o o′ : List ℕ)
       (all : Repeated)
-      (f : (t : Tree) → treeAt b n ≡ some t → Repeats mark (sheetArea s) ws t false true false m p m′ o at o′ all)
+      (f : (t : Tree) → treeAt b n ≡ some t → Repeats mark (sheetArea s) ws t (unwritten n) m p m′ o o′ all)
       (r : Ran)
     where
       count-wraps :
@@ -191,13 +192,13 @@ module _ (b known s ws m : List ℕ) (p : Numbers) (mark n : ℕ) (z : Wraps Cou
       pub count-refuses : (all .number ≡ 0 → ⊥) → r ≡ refusedList all → Wrapped Count mark b s ws n m p m′ r
       count-refuses e q =
           count-wraps
-          (λ is i. rw q (count-denied b known s ws m p mark n (z .below) count-flat m′ o at o′ all f is i e))
+          (λ is i. rw q (count-denied b known s ws m p mark n (z .below) count-flat m′ o o′ all f is i e))
           (ap (λ (x : Ran). x .numbers) q)
 
       pub count-ends : all .number ≡ 0 → r ≡ countedValues all → Wrapped Count mark b s ws n m p m′ r
       count-ends e q =
           count-wraps
-          (λ is i. rw q (count-counted b known s ws m p mark n (z .below) count-flat m′ o at o′ all f is i e))
+          (λ is i. rw q (count-counted b known s ws m p mark n (z .below) count-flat m′ o o′ all f is i e))
           (ap (λ (x : Ran). x .numbers) q)
 
 -- ---- last
@@ -205,15 +206,13 @@ module _ (b known s ws m : List ℕ) (p : Numbers) (mark n : ℕ) (z : Wraps Las
   last-flat : hasRepeat (z .below .stands .tree) ≡ false
   last-flat = sound-last (z .below .stands .tree) (z .sound) .flat
 
-  pub last-asks : (o : List ℕ) (at : ℕ) → Repeating b known s ws m p mark n false o at
+  pub last-asks : (o : List ℕ) → Repeating b known s ws m p mark (unwritten n) o
   last-asks = repeat-asks b known s ws m p mark n (z .below) last-flat
 
   module _
-      (m′ o : List ℕ)
-      (at : ℕ)
-      (o′ : List ℕ)
+      (m′ o o′ : List ℕ)
       (all : Repeated)
-      (f : (t : Tree) → treeAt b n ≡ some t → Repeats mark (sheetArea s) ws t false true false m p m′ o at o′ all)
+      (f : (t : Tree) → treeAt b n ≡ some t → Repeats mark (sheetArea s) ws t (unwritten n) m p m′ o o′ all)
     where
       last-wraps :
           (m″ : List ℕ) (r : Ran)
@@ -235,26 +234,26 @@ module _ (b known s ws m : List ℕ) (p : Numbers) (mark n : ℕ) (z : Wraps Las
       last-refuses e r q =
           rw q
           (last-wraps m′ (refusedList all)
-          (λ is i. last-denied b known s ws m p mark n (z .below) last-flat m′ o at o′ all f is i e)
+          (λ is i. last-denied b known s ws m p mark n (z .below) last-flat m′ o o′ all f is i e)
           (f (z .below .stands .tree) (z .below .stands .node) .left))
 
       pub last-ends : all .number ≡ 0 → (all .count ≡ 0 → ⊥) → (r : Ran) → r ≡ lastValue all → Wrapped Last mark b s ws n m p m′ r
       last-ends e c r q =
           rw q
           (last-wraps m′ (lastValue all)
-          (λ is i. last-there b known s ws m p mark n (z .below) last-flat m′ o at o′ all f is i e c)
+          (λ is i. last-there b known s ws m p mark n (z .below) last-flat m′ o o′ all f is i e c)
           (f (z .below .stands .tree) (z .below .stands .node) .left))
 
       pub again-ready : Scalar b known s ws m′ (all .numbers) mark n
-      again-ready = last-ready b known s ws m p mark n (z .below) last-flat m′ o at o′ all f
+      again-ready = last-ready b known s ws m p mark n (z .below) last-flat m′ o o′ all f
 
       module _ (m″ : List ℕ) (ran : Ran) (said : Says b s ws m′ (all .numbers) mark n m″ ran) where
         pub again-fits : all .tries + ran .tries < 4294967296
-        again-fits = last-fits b known s ws m p mark n (z .below) last-flat m′ o at o′ all f m″ ran said
+        again-fits = last-fits b known s ws m p mark n (z .below) last-flat m′ o o′ all f m″ ran said
 
         pub again-ends : all .number ≡ 0 → all .count ≡ 0 → (r : Ran) → r ≡ moreTries ran (all .tries) → Wrapped Last mark b s ws n m p m″ r
         again-ends e c r q =
             rw q
             (last-wraps m″ (moreTries ran (all .tries))
-            (λ is i. last-tried b known s ws m p mark n (z .below) last-flat m′ o at o′ all f m″ ran said is i e c)
-            (last-left b known s ws m p mark n (z .below) last-flat m′ o at o′ all f m″ ran said))
+            (λ is i. last-tried b known s ws m p mark n (z .below) last-flat m′ o o′ all f m″ ran said is i e c)
+            (last-left b known s ws m p mark n (z .below) last-flat m′ o o′ all f m″ ran said))

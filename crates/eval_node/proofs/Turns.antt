@@ -40,6 +40,7 @@ use Rattle.eval_shortcut.proofs.Words.{scalar-short}
 use Rattle.eval_shortcut.proofs.Given.{Says}
 use Rattle.eval_shortcut.proofs.Absent.{absent-by}
 use Rattle.eval_shortcut.proofs.Steps.{few-left, child-runs, child-told, child-left}
+use Rattle.eval_node.specs.declared.Repeat.{Repeat}
 use Rattle.eval_node.specs.declared.Repeated.{Repeated}
 use Rattle.eval_node.specs.Values.{Wrote, noValue, Fits, oneMore, endedWith, passedOn, nextFrom}
 use Rattle.eval_node.specs.Cycle.{listed, Room, Repeating, Repeats}
@@ -203,32 +204,47 @@ kept-more writes at o₀ o vs all v ran o′ width k e few w =
     writing false p q r = r ∙ q
 
 -- ---- what is still to be run is the whole
-pub record Turning (b known sh ws m₀ : List ℕ) (n : ℕ) (catch stops writes : Bool) (at : ℕ) (o₀ : List ℕ) (mark : ℕ) (p : Numbers) (m o : List ℕ)
+pub record Turning (b known sh ws m₀ : List ℕ) (how : Repeat) (o₀ : List ℕ) (mark : ℕ) (p : Numbers) (m o : List ℕ)
     (s : Numbers) (from last : ℕ) (all : Repeated) : Type 0 where
-  pub asked : Repeating b known sh ws m₀ p mark n writes o₀ at
+  pub asked : Repeating b known sh ws m₀ p mark how o₀
   pub fuel : ℕ
   pub bound : ℕ
   pub trace : List Visit
   pub values : List Value
   pub whole :
-      repeated catch stops (eval mark (asked .below .stands .state .items) (asked .below .stands .tree)) (stateOf m₀ p)
+      repeated (how .catch) (how .stops) (eval mark (asked .below .stands .state .items) (asked .below .stands .tree)) (stateOf m₀ p)
       ≡ prefixed (all .tries) trace values
-      (repeat catch stops fuel (countedOf last) (eval mark (asked .below .stands .state .items) (asked .below .stands .tree)) (stateOf m s))
+      (repeat (how .catch) (how .stops) fuel (countedOf last) (eval mark (asked .below .stands .state .items) (asked .below .stands .tree)) (stateOf m s))
   pub ahead : (l : ℕ) → l ≤ s .remaining → fewer l (countedOf last) ≡ true → l < bound
   pub more : bound < fuel
   pub few : length values + bound ≤ 257
   pub left : Left m₀ p m s
   pub hint : Hint (asked .below .stands .tree) (sheetArea sh) ws m s from
-  pub kept : Kept writes at o₀ o values all
+  pub kept : Kept (how .writes) (how .at) o₀ o values all
 
-module _ (b known sh ws m₀ : List ℕ) (n : ℕ) (catch stops writes : Bool) (at : ℕ) (o₀ : List ℕ) (mark : ℕ) (p : Numbers) where
+module _ (b known sh ws m₀ : List ℕ) (how : Repeat) (o₀ : List ℕ) (mark : ℕ) (p : Numbers) where
+  abbrev n : ℕ
+  n = how .child
+
+  abbrev catch : Bool
+  catch = how .catch
+
+  abbrev stops : Bool
+  stops = how .stops
+
+  abbrev writes : Bool
+  writes = how .writes
+
+  abbrev at : ℕ
+  at = how .at
+
   pub turn-first :
-      Repeating b known sh ws m₀ p mark n writes o₀ at
+      Repeating b known sh ws m₀ p mark how o₀
       → (from : ℕ)
       → from ≡ p .start
       → (all : Repeated)
       → all ≡ noValue p
-      → Turning b known sh ws m₀ n catch stops writes at o₀ mark p m₀ o₀ p from 4294967295 all
+      → Turning b known sh ws m₀ how o₀ mark p m₀ o₀ p from 4294967295 all
   unfolding repeated stateOf fromRaw
   turn-first z from h all e =
       let f = few-left m₀ p (z .below .stands .state .fine) in
@@ -258,7 +274,7 @@ module _ (b known sh ws m₀ : List ℕ) (n : ℕ) (catch stops writes : Bool) (
       (s : Numbers)
       (from last : ℕ)
       (all : Repeated)
-      (i : Turning b known sh ws m₀ n catch stops writes at o₀ mark p m o s from last all)
+      (i : Turning b known sh ws m₀ how o₀ mark p m o s from last all)
     where
       abbrev tree : Tree
       tree = i .asked .below .stands .tree
@@ -369,7 +385,7 @@ module _ (b known sh ws m₀ : List ℕ) (n : ℕ) (catch stops writes : Bool) (
         Decides w = optionWay (ran .number) catch (s .remaining) (ran .numbers .remaining) (countedOf last) ≡ w
 
         abbrev Answers : List ℕ → List ℕ → Repeated → Type 0
-        Answers m″ o′ r = (t : Tree) → treeAt b n ≡ some t → Repeats mark (sheetArea sh) ws t catch stops writes m₀ p m″ o₀ at o′ r
+        Answers m″ o′ r = (t : Tree) → treeAt b n ≡ some t → Repeats mark (sheetArea sh) ws t how m₀ p m″ o₀ o′ r
 
         -- what was told of the items at hand is told of any
         answers :
@@ -578,7 +594,7 @@ module _ (b known sh ws m₀ : List ℕ) (n : ℕ) (catch stops writes : Bool) (
                   c ≡ false
                   → (next : ℕ)
                   → next ≡ nextFrom from (s .remaining) (ran .numbers)
-                  → Turning b known sh ws m₀ n catch stops writes at o₀ mark p m′ o′ (ran .numbers) next (ran .numbers .remaining) r
+                  → Turning b known sh ws m₀ how o₀ mark p m′ o′ (ran .numbers) next (ran .numbers .remaining) r
               unfolding stateOf fromRaw fewer
               turn-next q next en =
                   let x = turn-counted catch stops (fuelled .0) (countedOf last) run (stateOf m s) (answered ran m′) ran-told ran-numbered

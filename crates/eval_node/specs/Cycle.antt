@@ -1,5 +1,5 @@
 -- What the run of a repeat asks for, and what it answers.
-use mathlib.Core.Bool.{Bool, true, false}
+use mathlib.Core.Bool.{true, false}
 use mathlib.Core.List.{List, flatten}
 use mathlib.Core.Option.{some}
 use mathlib.Core.Path.{_≡_}
@@ -16,6 +16,7 @@ use Rattle.take.specs.Takes.{Left, Items}
 use Rattle.eval_told.specs.Told.{scalarWords}
 use Rattle.eval_told.specs.Nodes.{Scalar}
 use Rattle.eval_told.specs.Lists.{ToldList, toldList, lastWords}
+use Rattle.eval_node.specs.declared.Repeat.{Repeat}
 use Rattle.eval_node.specs.declared.Repeated.{Repeated}
 
 -- ---- repeats
@@ -34,20 +35,20 @@ pub record Room (o : List ℕ) (at : ℕ) : Type 0 where
   pub zeros : (k : ℕ) → at ≤ k → getD o k 0 ≡ 0
 
 -- a child without a repeat, and room if the values are written
-pub record Repeating (b known s words m : List ℕ) (p : Numbers) (mark child : ℕ) (writes : Bool) (o : List ℕ) (at : ℕ) : Type 0 where
-  pub below : Scalar b known s words m p mark child
+pub record Repeating (b known s words m : List ℕ) (p : Numbers) (mark : ℕ) (how : Repeat) (o : List ℕ) : Type 0 where
+  pub below : Scalar b known s words m p mark (how .child)
   pub flat : hasRepeat (below .stands .tree) ≡ false
-  pub space : writes ≡ true → Room o at
+  pub space : how .writes ≡ true → Room o (how .at)
 
 -- what the run of a repeat leaves. Its values are written from the word behind `at` on, where it is told to
-pub record Repeats (mark : ℕ) (area words : List ℕ) (t : Tree) (catch stops writes : Bool) (m : List ℕ) (p : Numbers) (m′ o : List ℕ) (at : ℕ) (o′ : List ℕ) (r : Repeated) : Type 0 where
+pub record Repeats (mark : ℕ) (area words : List ℕ) (t : Tree) (how : Repeat) (m : List ℕ) (p : Numbers) (m′ o o′ : List ℕ) (r : Repeated) : Type 0 where
   pub values : List (List ℕ)
   pub same : (is : List Item) → Items area words p is
-      → toldList (repeated catch stops (eval mark is t) (stateOf m p)) ≡ some (listed r m′ values)
+      → toldList (repeated (how .catch) (how .stops) (eval mark is t) (stateOf m p)) ≡ some (listed r m′ values)
   pub count : r .count ≡ length values
-  pub size : writes ≡ true → r .size ≡ length (flatten values)
+  pub size : how .writes ≡ true → r .size ≡ length (flatten values)
   pub last : lastWords values ≡ scalarWords (r .len) (r .word)
-  pub put : o′ ≡ (if writes then sets o (at + 1) (flatten values) else o)
+  pub put : o′ ≡ (if how .writes then sets o (how .at + 1) (flatten values) else o)
   pub few : length values ≤ 257
   pub fits : length (flatten values) ≤ 514
   pub cost : r .tries ≤ 16512

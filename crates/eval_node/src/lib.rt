@@ -16,8 +16,25 @@ ghost use Rattle.eval_node.specs.Cycle.{Repeating, Repeats};
 ghost use Rattle.eval_node.specs.Values.{Put, Wrote, noValue, Fits, oneMore, endedWith, passedOn, refusedList, countedValues, lastValue, moreTries, nextFrom};
 use eval_structs::Counting;
 use eval_told::Ran;
+use form_layout::Node;
 use state_marks::Numbers;
 use wire::wide;
+
+// A repeat: of which child, whether a refusal of the child is caught, whether a success that used nothing ends it, and whether
+// the values are written, from the word behind `at` on.
+pub struct Repeat {
+    pub child: usize,
+    pub catch: bool,
+    pub stops: bool,
+    pub writes: bool,
+    pub at: usize,
+}
+
+// A repeat's child, and the node that a turn evaluates first: a leaf beneath the child, or the child itself.
+struct Chain {
+    child: usize,
+    leaf: usize,
+}
 
 // How a repeat ended: how many values were counted, how many words of them were written, and the last of them.
 pub struct Repeated {
@@ -233,16 +250,16 @@ pub fn run_node(
         1 => eval_params::eval_flag(known, marks, p, node, x.r == 1, mark),
         2 => eval_params::eval_argument(known, sheet, items, marks, p, node, 2 <= x.r, mark),
         3 => eval_params::eval_positional(sheet, items, marks, p, x.p, x.r == 2, mark),
-        4 => run_optional(form, known, sheet, items, marks, p, x.p, x.r == 1, mark),
-        7 => run_count(form, known, sheet, items, marks, p, x.p, mark),
-        8 => run_last(form, known, sheet, items, marks, p, x.p, mark),
-        9 => run_choice(form, known, sheet, items, marks, p, x.p, x.q, mark),
-        10 => run_fallback(form, known, sheet, items, marks, p, node, x.p, mark),
-        _ => run_guard(form, known, sheet, items, marks, p, x.p, x.lo, x.hi, mark),
+        4 => optional(form, known, sheet, items, marks, p, x.p, x.r == 1, mark),
+        7 => count(form, known, sheet, items, marks, p, x.p, mark),
+        8 => last(form, known, sheet, items, marks, p, x.p, mark),
+        9 => choice(form, known, sheet, items, marks, p, x.p, x.q, mark),
+        10 => fallback(form, known, sheet, items, marks, p, node, x.p, mark),
+        _ => guard(form, known, sheet, items, marks, p, x, mark),
     }
 }
 
-fn run_optional(
+fn optional(
     form: &[u8],
     known: &[u64],
     sheet: &[u8],
@@ -269,7 +286,7 @@ fn run_optional(
     answer
 }
 
-fn run_fallback(
+fn fallback(
     form: &[u8],
     known: &[u64],
     sheet: &[u8],
@@ -291,11 +308,11 @@ fn run_fallback(
         let word = eval_combine::fallback_word(form, node);
         return eval_combine::fallback_unchanged(ran, p, word);
     }
-    fallback_by_copy(form, known, sheet, items, marks, p, node, child, mark)
+    fallback_copied(form, known, sheet, items, marks, p, node, child, mark)
 }
 
 // A fallback whose child may have used something though it is refused: the marks are copied.
-fn fallback_by_copy(
+fn fallback_copied(
     form: &[u8],
     known: &[u64],
     sheet: &[u8],
@@ -318,26 +335,25 @@ fn fallback_by_copy(
     eval_combine::fallback(ran, p, word, &before, marks)
 }
 
-fn run_guard(
+// A guard, as it is laid out.
+fn guard(
     form: &[u8],
     known: &[u64],
     sheet: &[u8],
     items: &[u32],
     marks: &mut [u16; 256],
     p: Numbers,
-    child: usize,
-    lo: u32,
-    hi: u32,
+    x: Node,
     mark: u16,
 ) -> Ran
-    requires { ⌜ Wraps (Guard lo hi) (now form) (now known) (now sheet) (now items) (now marks) p mark child ⌝ }
-    ensures { λ r. ⌜ Wrapped (Guard lo hi) mark (now (form .entry)) (now (sheet .entry)) (now (items .entry)) child (now (marks .entry)) p (now (marks .exit)) r ⌝ }
+    requires { ⌜ Wraps (Guard (x .lo) (x .hi)) (now form) (now known) (now sheet) (now items) (now marks) p mark (x .p) ⌝ }
+    ensures { λ r. ⌜ Wrapped (Guard (x .lo) (x .hi)) mark (now (form .entry)) (now (sheet .entry)) (now (items .entry)) (x .p) (now (marks .entry)) p (now (marks .exit)) r ⌝ }
 {
-    let ran = run_node(form, known, sheet, items, marks, p, child, mark);
-    eval_combine::guard(ran, lo, hi)
+    let ran = run_node(form, known, sheet, items, marks, p, x.p, mark);
+    eval_combine::guard(ran, x.lo, x.hi)
 }
 
-fn run_choice(
+fn choice(
     form: &[u8],
     known: &[u64],
     sheet: &[u8],
@@ -363,11 +379,11 @@ fn run_choice(
         let answer = other.ran;
         return answer;
     }
-    choice_by_copy(form, known, sheet, items, marks, p, left, right, mark)
+    choice_copied(form, known, sheet, items, marks, p, left, right, mark)
 }
 
 // A choice of which both sides may change the marks: they are copied.
-fn choice_by_copy(
+fn choice_copied(
     form: &[u8],
     known: &[u64],
     sheet: &[u8],
@@ -392,7 +408,7 @@ fn choice_by_copy(
 }
 
 // The number of values that a repeat counts. Nothing is written.
-fn run_count(
+fn count(
     form: &[u8],
     known: &[u64],
     sheet: &[u8],
@@ -406,6 +422,13 @@ fn run_count(
     ensures { λ r. ⌜ Wrapped Count mark (now (form .entry)) (now (sheet .entry)) (now (items .entry)) child (now (marks .entry)) p (now (marks .exit)) r ⌝ }
 {
     let mut unwritten = [0u32; 1];
+    let how = Repeat {
+        child,
+        catch: false,
+        stops: true,
+        writes: false,
+        at: 0,
+    };
     let all = run_repeat(
         form,
         known,
@@ -413,11 +436,7 @@ fn run_count(
         items,
         marks,
         p,
-        child,
-        false,
-        true,
-        false,
-        0,
+        how,
         &mut unwritten,
         mark,
     );
@@ -428,7 +447,7 @@ fn run_count(
 }
 
 // The last value; with none, the child is tried once more.
-fn run_last(
+fn last(
     form: &[u8],
     known: &[u64],
     sheet: &[u8],
@@ -442,6 +461,13 @@ fn run_last(
     ensures { λ r. ⌜ Wrapped Last mark (now (form .entry)) (now (sheet .entry)) (now (items .entry)) child (now (marks .entry)) p (now (marks .exit)) r ⌝ }
 {
     let mut unwritten = [0u32; 1];
+    let how = Repeat {
+        child,
+        catch: false,
+        stops: true,
+        writes: false,
+        at: 0,
+    };
     let all = run_repeat(
         form,
         known,
@@ -449,11 +475,7 @@ fn run_last(
         items,
         marks,
         p,
-        child,
-        false,
-        true,
-        false,
-        0,
+        how,
         &mut unwritten,
         mark,
     );
@@ -469,7 +491,7 @@ fn run_last(
 }
 
 // A leaf searches from `from` on: the turns before used all that it would find earlier. Any other node runs as it does elsewhere.
-fn run_leaf(
+fn leaf(
     form: &[u8],
     known: &[u64],
     sheet: &[u8],
@@ -504,23 +526,22 @@ fn run_leaf(
 }
 
 // One evaluation of a repeat's child: its leaf goes on from `from`, and the child makes its result of the leaf's.
-fn run_turn(
+fn turn(
     form: &[u8],
     known: &[u64],
     sheet: &[u8],
     items: &[u32],
     marks: &mut [u16; 256],
     p: Numbers,
-    child: usize,
-    leaf: usize,
+    over: Chain,
     from: usize,
     mark: u16,
 ) -> Ran
-    requires { ⌜ Turns (now form) (now known) (now sheet) (now items) (now marks) p mark child from × Searched (now form) child leaf ⌝ }
-    ensures { λ r. ⌜ ((t : Tree) → treeAt (now (form .entry)) child ≡ some t → Evaluates mark (sheetArea (now (sheet .entry))) (now (items .entry)) t (now (marks .entry)) p (now (marks .exit)) r) ⌝ }
+    requires { ⌜ Turns (now form) (now known) (now sheet) (now items) (now marks) p mark (over .child) from × Searched (now form) (over .child) (over .leaf) ⌝ }
+    ensures { λ r. ⌜ ((t : Tree) → treeAt (now (form .entry)) (over .child) ≡ some t → Evaluates mark (sheetArea (now (sheet .entry))) (now (items .entry)) t (now (marks .entry)) p (now (marks .exit)) r) ⌝ }
 {
-    let ran = run_leaf(form, known, sheet, items, marks, p, leaf, from, mark);
-    eval_shortcut::wrap(form, child, leaf, ran, p)
+    let ran = leaf(form, known, sheet, items, marks, p, over.leaf, from, mark);
+    eval_shortcut::wrap(form, over.child, over.leaf, ran, p)
 }
 
 // Evaluates the child until it is absent, or a success does not count, or one of `count` and `last` used nothing. Each value is
@@ -532,19 +553,19 @@ pub fn run_repeat(
     items: &[u32],
     marks: &mut [u16; 256],
     p: Numbers,
-    child: usize,
-    catch: bool,
-    stops: bool,
-    writes: bool,
-    at: usize,
+    how: Repeat,
     out: &mut [u32],
     mark: u16,
 ) -> Repeated
-    requires { ⌜ Repeating (now form) (now known) (now sheet) (now items) (now marks) p mark child writes (now out) at ⌝ }
-    ensures { λ r. ⌜ ((t : Tree) → treeAt (now (form .entry)) child ≡ some t → Repeats mark (sheetArea (now (sheet .entry))) (now (items .entry)) t catch stops writes (now (marks .entry)) p (now (marks .exit)) (now (out .entry)) at (now (out .exit)) r) ⌝ }
+    requires { ⌜ Repeating (now form) (now known) (now sheet) (now items) (now marks) p mark how (now out) ⌝ }
+    ensures { λ r. ⌜ ((t : Tree) → treeAt (now (form .entry)) (how .child) ≡ some t → Repeats mark (sheetArea (now (sheet .entry))) (now (items .entry)) t how (now (marks .entry)) p (now (marks .exit)) (now (out .entry)) (now (out .exit)) r) ⌝ }
 {
-    let leaf = eval_shortcut::leaf_below(form, child);
-    let keeps = eval_shortcut::keeps_marks(form, child, catch);
+    let leaf = eval_shortcut::leaf_below(form, how.child);
+    let over = Chain {
+        child: how.child,
+        leaf,
+    };
+    let keeps = eval_shortcut::keeps_marks(form, how.child, how.catch);
     let mut before = *marks;
     let mut s = p;
     let mut from = wide(p.start);
@@ -552,14 +573,14 @@ pub fn run_repeat(
     let mut all = nothing(p);
     loop {
         let given = s.remaining;
-        let ran = run_turn(form, known, sheet, items, marks, s, child, leaf, from, mark);
+        let ran = turn(form, known, sheet, items, marks, s, over, from, mark);
         let after = ran.numbers;
-        let way = eval_structs::parse_option(ran.number, catch, given, after.remaining, last);
+        let way = eval_structs::parse_option(ran.number, how.catch, given, after.remaining, last);
         match way {
             Counting::Counted => {
-                let width = write_value(out, writes, at, all.size, ran.len, ran.word);
+                let width = write_value(out, how.writes, how.at, all.size, ran.len, ran.word);
                 all = one_more(all, ran, width);
-                if eval_structs::idle(stops, given, after.remaining) {
+                if eval_structs::idle(how.stops, given, after.remaining) {
                     return all;
                 }
                 copy_if(keeps, marks, &mut before);
@@ -575,7 +596,7 @@ pub fn run_repeat(
                 return ended(all, ran.tries, s);
             }
             Counting::PassedOn => {
-                unwrite(out, writes, at, all.size);
+                unwrite(out, how.writes, how.at, all.size);
                 return passed_on(all, ran);
             }
         }

@@ -32,7 +32,7 @@ pub fn codes(form: &[u8], out: &mut [u32])
     }
 }
 
-fn no_codes() -> [u32; 128]
+pub fn no_codes() -> [u32; 128]
     ensures { λ r. ⌜ r ≡ replicate 128 0 ⌝ }
 {
     [0u32; 128]

@@ -247,30 +247,31 @@ module _ (form sheet i a : List ℕ) (c : Checked form sheet i a) (a′ : List �
     unfolding stateOf
     same-state = rw state (from-to (w .line .state))
 
-    pub fields-start : (codes : List ℕ) → CodedNames form codes → Begins form codes sheet i′ m p a′
-    unfolding parsed
+    pub fields-start : (codes : List ℕ) → CodedNames form codes → Begins form codes sheet i′ m p 0 a′
+    unfolding parsed parsedMark
     fields-start codes k = record {
       result = c .ready .result;
       accepts = c .ready .accepts;
       coded = k;
       made = c .ready .checked;
       state = record { items = w .line .items; table = table; same = count; fine = fine; told = refl };
+      small = omega arith;
       room = omega (arith, c .space, ap length cleared ∙ length-replicate {A = ℕ} (length a) 0);
       zeros = λ j. ap (λ (l : List ℕ). getD l j 0) cleared ∙ zero-at (length a) j;
     }
 
     pub fields-end :
         (m′ a″ : List ℕ) (r : Reached)
-        → ((k : Accepted) → checkForm form ≡ accepted k → Reaches 1 (sheetArea sheet) i′ (k .fields) m p m′ a′ a″ r)
+        → ((k : Accepted) → checkForm form ≡ accepted k → Reaches (sheetArea sheet) i′ (k .fields) m p m′ a′ a″ r)
         → runAnswer (run form sheet (length i) (length a)) ≡ ended (answerOf r m′) i′ a″
-    unfolding runLine parsedMark
+    unfolding runLine
     fields-end m′ a″ r reaches =
         let u = reaches (c .ready .result) (c .ready .accepts) in
         let l = w .line in
-        let all : runLine (c .ready .result .fields) l ≡ runAll 1 (l .items) (c .ready .result .fields) (stateOf m p) = rw (free, runLine, same-state) in
+        let all : runLine (c .ready .result .fields) l ≡ runAll parsedMark (l .items) (c .ready .result .fields) (stateOf m p) = rw (free, runLine, same-state) in
         let told = u .same (l .items) (table, count) in
         ap runAnswer (runs ∙ ap (report (length i) (length a) l) all)
-        ∙ reported-told (length i) (length a) l (runAll 1 (l .items) (c .ready .result .fields) (stateOf m p)) _ told
+        ∙ reported-told (length i) (length a) l (runAll parsedMark (l .items) (c .ready .result .fields) (stateOf m p)) _ told
         ∙ answer-same refl refl refl (sym (u .count))
         (raw-back m′ (r .numbers) (u .left .fine) (u .left .long ∙ long))
         (sym (w .words))
@@ -278,7 +279,7 @@ module _ (form sheet i a : List ℕ) (c : Checked form sheet i a) (a′ : List �
 
     pub fields-long :
         (m′ a″ : List ℕ) (r : Reached)
-        → ((k : Accepted) → checkForm form ≡ accepted k → Reaches 1 (sheetArea sheet) i′ (k .fields) m p m′ a′ a″ r)
+        → ((k : Accepted) → checkForm form ≡ accepted k → Reaches (sheetArea sheet) i′ (k .fields) m p m′ a′ a″ r)
         → length a″ ≡ length a
     fields-long m′ a″ r reaches =
         let u = reaches (c .ready .result) (c .ready .accepts) in
@@ -288,7 +289,7 @@ module _ (form sheet i a : List ℕ) (c : Checked form sheet i a) (a′ : List �
 pub table-long : (l : List ℕ) → l ≡ replicate 257 0 → length l ≡ 257
 table-long l e = ap length e ∙ length-replicate {A = ℕ} 257 0
 
-module _ (b codes s words m : List ℕ) (p : Numbers) (o : List ℕ) (g : Begins b codes s words m p o) (n : ℕ) (e : n ≡ p .count) where
+module _ (b codes s words m : List ℕ) (p : Numbers) (first : ℕ) (o : List ℕ) (g : Begins b codes s words m p first o) (n : ℕ) (e : n ≡ p .count) where
   pub items-few : n ≤ 256
   items-few = omega (arith, g .state .fine .small)
 
@@ -305,13 +306,14 @@ module _ (b codes s words m : List ℕ) (p : Numbers) (o : List ℕ) (g : Begins
     inside = omega (arith, g .state .same);
   }
 
-  pub items-start : (known : List ℕ) → Known b (sheetArea s) words n known → Starts b known s words m p o 1
+  pub items-start : (known : List ℕ) → Known b (sheetArea s) words n known → Starts b known s words m p first o
   items-start known k = record {
     result = g .result;
     accepts = g .accepts;
     made = g .made;
     state = g .state;
     knows = subst (λ (l : ℕ). Known b (sheetArea s) words l known) (e ∙ sym (g .state .same)) k;
+    small = g .small;
     room = g .room;
     zeros = g .zeros;
   }

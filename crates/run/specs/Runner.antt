@@ -10,7 +10,7 @@ use Rattle.rules.specs.Outcome.{Outcome, ok, refused, fault}
 use Rattle.rules.specs.Codes.{placeCode}
 use Rattle.rules.specs.Sheet.{sheetArea, sheetFault}
 use Rattle.rules.specs.Accept.{Accepted, accepted, checkForm}
-use Rattle.rules.specs.Run.{Report}
+use Rattle.rules.specs.Run.{Report, parsedMark}
 use Rattle.rules.specs.Calls.{toRaw}
 use Rattle.state_marks.specs.declared.Numbers.{Numbers}
 use Rattle.state_marks.specs.Lent.{rawOf}
@@ -64,12 +64,14 @@ pub record Checked (form sheet items answers : List ℕ) : Type 0 where
   pub ready : Splittable form sheet items
   pub space : 8240 ≤ length answers
 
--- the items of an accepted form's line, the codes of its names, a state over the items, and an answer slice of zeros
-pub record Begins (b codes s words m : List ℕ) (p : Numbers) (o : List ℕ) : Type 0 where
+-- the items of an accepted form's line, the codes of its names, a state over the items, the number of the first field, and an
+-- answer slice of zeros
+pub record Begins (b codes s words m : List ℕ) (p : Numbers) (first : ℕ) (o : List ℕ) : Type 0 where
   pub result : Accepted
   pub accepts : checkForm b ≡ accepted result
   pub coded : CodedNames b codes
   pub made : sheetFault s ≡ 0
-  pub state : takes.Ready (sheetArea s) words m p 1
+  pub state : takes.Ready (sheetArea s) words m p parsedMark
+  pub small : first ≤ 4096
   pub room : 8240 ≤ length o
   pub zeros : (k : ℕ) → getD o k 0 ≡ 0

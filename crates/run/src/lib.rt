@@ -10,7 +10,7 @@ ghost use Rattle.rules.specs.Run as Run;
 ghost use Rattle.rules.specs.Codes.{placeOf};
 ghost use Rattle.state_marks.specs.Lent.{rawOf};
 ghost use Rattle.split_args.specs.Construct.{Unmarked};
-ghost use Rattle.run_fields.specs.Line.{refusedWith, Starts, Reaches};
+ghost use Rattle.run_fields.specs.Line.{Reaches};
 ghost use Rattle.run.specs.Runner.{runAnswer, ended, answerOf, Checked, Begins, shortSlices};
 use rules::State;
 use run_fields::Reached;
@@ -52,18 +52,6 @@ fn nothing_known() -> [u64; 257]
     [0u64; 257]
 }
 
-fn refused(number: u32, place: u32, numbers: Numbers) -> Reached
-    ensures { λ r. ⌜ r ≡ refusedWith number place 0 numbers ⌝ }
-{
-    Reached {
-        number,
-        place,
-        tries: 0,
-        words: 0,
-        numbers,
-    }
-}
-
 // Refused because of the input: both slices all 0, an empty state.
 fn refused_input(number: u32, place: u32, items: &mut [u32], answers: &mut [u32]) -> Reached
     ensures { λ r. ⌜ runAnswer (ok (refusedInput (length (now (items .entry))) (length (now (answers .entry))) number (placeOf place))) ≡ ended (answerOf r (replicate 256 0)) (now (items .exit)) (now (answers .exit)) ⌝ }
@@ -77,41 +65,27 @@ fn refused_input(number: u32, place: u32, items: &mut [u32], answers: &mut [u32]
         start: 0,
         end: 0,
     };
-    refused(number, place, none)
+    run_fields::refused(number, place, 0, none)
 }
 
-// The fields, by a table of which nodes each item matches.
-fn run_known(
-    form: &[u8],
-    known: &[u64; 257],
-    sheet: &[u8],
-    items: &[u32],
-    marks: &mut [u16; 256],
-    p: Numbers,
-    answers: &mut [u32],
-) -> Reached
-    requires { ⌜ Starts (now form) (now known) (now sheet) (now items) (now marks) p (now answers) 1 ⌝ }
-    ensures { λ r. ⌜ ((a : Accepted) → checkForm (now (form .entry)) ≡ accepted a → Reaches 1 (sheetArea (now (sheet .entry))) (now (items .entry)) (a .fields) (now (marks .entry)) p (now (marks .exit)) (now (answers .entry)) (now (answers .exit)) r) ⌝ }
-{
-    run_fields::run_fields(form, known, sheet, items, marks, p, answers, 1)
-}
-
-// The fields on the items: which nodes each item matches is worked out once, before the first field.
-fn run_items(
+// The fields of a form, of which the first has number `first`, on items in a state, whose numbers tell the scope. Which nodes each
+// item matches is worked out once, before the first field.
+pub fn run_items(
     form: &[u8],
     codes: &[u32],
     sheet: &[u8],
     items: &[u32],
     marks: &mut [u16; 256],
     p: Numbers,
+    first: usize,
     answers: &mut [u32],
 ) -> Reached
-    requires { ⌜ Begins (now form) (now codes) (now sheet) (now items) (now marks) p (now answers) ⌝ }
-    ensures { λ r. ⌜ ((a : Accepted) → checkForm (now (form .entry)) ≡ accepted a → Reaches 1 (sheetArea (now (sheet .entry))) (now (items .entry)) (a .fields) (now (marks .entry)) p (now (marks .exit)) (now (answers .entry)) (now (answers .exit)) r) ⌝ }
+    requires { ⌜ Begins (now form) (now codes) (now sheet) (now items) (now marks) p first (now answers) ⌝ }
+    ensures { λ r. ⌜ ((a : Accepted) → checkForm (now (form .entry)) ≡ accepted a → Reaches (sheetArea (now (sheet .entry))) (now (items .entry)) (a .fields) (now (marks .entry)) p (now (marks .exit)) (now (answers .entry)) (now (answers .exit)) r) ⌝ }
 {
     let mut known = nothing_known();
     take_table::known(form, codes, sheet, items, wide(p.count), &mut known);
-    run_known(form, &known, sheet, items, marks, p, answers)
+    run_fields::run_fields(form, &known, sheet, items, marks, p, first, answers)
 }
 
 // An accepted form, a checked sheet, and room in both slices: the items, then the fields on the state that they start in.
@@ -131,9 +105,9 @@ fn run_checked(
     let split = split_line::split(form, &codes, sheet, items);
     let p = split_args::begin(split.count, split.marker, marks);
     if split.number != 0 {
-        return refused(split.number, split.place, p);
+        return run_fields::refused(split.number, split.place, 0, p);
     }
-    run_items(form, &codes, sheet, items, marks, p, answers)
+    run_items(form, &codes, sheet, items, marks, p, 0, answers)
 }
 
 // Whether one of the slices is too short.

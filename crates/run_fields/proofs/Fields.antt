@@ -26,37 +26,39 @@ use Rattle.eval_told.proofs.NodeLaw.{at-tree}
 use Rattle.eval_node.specs.Values.{Put}
 use Rattle.eval_shortcut.proofs.Words.{scalar-short}
 use Rattle.eval_shortcut.proofs.Trees.{form-good, node-inside}
+use Rattle.eval_list.specs.declared.Field.{Field}
 use Rattle.eval_list.specs.Lists.{Listed, Writes}
-use Rattle.run_fields.specs.Line.{Fields, written, PutValue}
+use Rattle.run_fields.specs.Line.{Placed, written, PutValue}
 use Rattle.run_fields.proofs.Shapes.{single-here}
 
 -- ---- one field
 module _
     (b known s words m : List ℕ)
     (p : Numbers)
-    (mark n : ℕ)
+    (field : Field)
     (o : List ℕ)
-    (at : ℕ)
-    (f : Fields b known s words m p mark n o at)
+    (f : Placed b known s words m p field o)
     (r : Bool)
-    (says : (t : Tree) → treeAt b n ≡ some t → not r ≡ isScalar (kindOf t))
+    (says : (t : Tree) → treeAt b (field .node) ≡ some t → not r ≡ isScalar (kindOf t))
   where
-    pub field-listed : r ≡ true → Listed b known s words m p mark n o at
+    pub field-listed : r ≡ true → Listed b known s words m p field o
     field-listed h =
         record { stands = f .stands; long = sym (says (f .stands .tree) (f .stands .node)) ∙ ap not h; space = f .space }
 
-    pub field-scalar : r ≡ false → Scalar b known s words m p mark n
+    pub field-scalar : r ≡ false → Scalar b known s words m p (field .mark) (field .node)
     field-scalar h = record { stands = f .stands; scalar = sym (says (f .stands .tree) (f .stands .node)) ∙ ap not h }
 
 -- a field that is a leaf
 module _
     (b known s words m : List ℕ)
     (p : Numbers)
-    (mark n : ℕ)
+    (field : Field)
     (o : List ℕ)
-    (at : ℕ)
-    (f : Fields b known s words m p mark n o at)
+    (f : Placed b known s words m p field o)
   where
+    abbrev n : ℕ
+    n = field .node
+
     pub field-good : lengthGood b ≡ true
     field-good = form-good b n (f .stands .tree) (f .stands .node)
 
@@ -67,7 +69,7 @@ module _
         (x : declared.Node)
         → getElem? (readForm b .nodes) n ≡ some (nodeOf x)
         → (x .kind ≡ 1) ⊎ (x .kind ≡ 3)
-        → Scalar b known s words m p mark n
+        → Scalar b known s words m p (field .mark) (field .node)
     field-leaf x h k =
         let low : x .kind < 4 = ⊎-elim (λ (e : x .kind ≡ 1). omega arith) (λ (e : x .kind ≡ 3). omega arith) k in
         let other : (x .kind ≡ 4) ⊎ (x .kind ≡ 9) → ⊥ = ⊎-elim (λ e. omega arith) (λ e. omega arith) in
@@ -141,7 +143,7 @@ fields-at ts (j ∷ ks) us e (suc k) n h =
     (u, ap (λ (l : List Tree). getElem? l (suc k)) (sym same) ∙ x, y)
 
 -- field k, whose node is n
-pub record Field (b : List ℕ) (fs : List Tree) (k n : ℕ) : Type 0 where
+pub record FieldAt (b : List ℕ) (fs : List Tree) (k n : ℕ) : Type 0 where
   pub tree : Tree
   pub here : getElem? fs k ≡ some tree
   pub node : treeAt b n ≡ some tree
@@ -158,7 +160,7 @@ module _ (b : List ℕ) (a : Accepted) (e : checkForm b ≡ accepted a) where
   pub field-count : length (a .fields) ≡ fieldCount b
   field-count = accepted-fields b a e ∙ ap (λ (f : Form). length (f .fields)) (accepted-form b a e) ∙ fields-length b
 
-  pub field : (k n : ℕ) → getElem? (readForm b .fields) k ≡ some n → Field b (a .fields) k n
+  pub field : (k n : ℕ) → getElem? (readForm b .fields) k ≡ some n → FieldAt b (a .fields) k n
   field k n h =
       let (t, x, y) = fields-at (a .trees) (readForm b .fields) (a .fields) (accepted-passed b a e .fields) k n h in
       let few = leaf-few (a .form .nodes) in

@@ -19,7 +19,7 @@ use Rattle.rules.specs.Accept.{Accepted, accepted, checkForm, lengthGood}
 use Rattle.rules.specs.Split.{Item}
 use Rattle.rules.specs.State.{State}
 use Rattle.rules.specs.Eval.{Ran as Run, ended, after, _then_, eval}
-use Rattle.rules.specs.Run.{runFields}
+use Rattle.rules.specs.Run.{parsedMark, runFields}
 use Rattle.rules.specs.Sound.{Good, leaves}
 use Rattle.rules.proofs.Acceptance.{accepted-length}
 use Rattle.rules.proofs.EvalSound.{eval-sound}
@@ -38,9 +38,9 @@ use Rattle.eval_told.proofs.Visits.{runs-numbered}
 use Rattle.eval_told.proofs.Repeats.{append-three, told-state, told-tries, told-value, told-denied}
 use Rattle.eval_node.proofs.Words.{sets-append, sets-back}
 use Rattle.run_fields.specs.declared.Reached.{Reached}
-use Rattle.eval_list.specs.Lists.{Writes}
-use Rattle.run_fields.specs.Line.{Starts, Fields, toldAll, RunsFields, refusedWith, valuesOf}
-use Rattle.run_fields.proofs.Fields.{Field, field, form-long, few-fields, field-count}
+use Rattle.eval_list.specs.Lists.{Writes, WritesField}
+use Rattle.run_fields.specs.Line.{Starts, Placed, toldAll, RunsFields, refusedWith, valuesOf}
+use Rattle.run_fields.proofs.Fields.{FieldAt, field, form-long, few-fields, field-count}
 
 -- ---- what is told behind so many tries and these words
 unfoldable pub behind : ℕ → List ℕ → Run (List Value) → Option Told
@@ -118,10 +118,10 @@ sets-after [] o at k h = refl
 sets-after (x ∷ w) o at k h = sets-after w (set o at x) (suc at) k (omega arith) ∙ getD-set-other o at k x 0 (λ e. omega arith)
 
 -- ---- the loop
-pub record Going (mark : ℕ) (area words : List ℕ) (fs : List Tree) (m₀ : List ℕ) (p₀ : Numbers) (o₀ m : List ℕ) (p : Numbers) (tries at k : ℕ) (o : List ℕ) : Type 0 where
+pub record Going (area words : List ℕ) (fs : List Tree) (m₀ : List ℕ) (p₀ : Numbers) (o₀ m : List ℕ) (p : Numbers) (tries at k : ℕ) (o : List ℕ) : Type 0 where
   pub values : List ℕ
   pub same : (is : List Item) → Items area words p₀ is
-      → toldAll (runFields mark is fs (stateOf m₀ p₀)) ≡ behind tries values (runFields mark is (drop k fs) (stateOf m p))
+      → toldAll (runFields parsedMark is fs (stateOf m₀ p₀)) ≡ behind tries values (runFields parsedMark is (drop k fs) (stateOf m p))
   pub size : at ≡ length values
   pub put : o ≡ sets o₀ 0 values
   pub within : k ≤ length fs
@@ -132,16 +132,26 @@ pub record Going (mark : ℕ) (area words : List ℕ) (fs : List Tree) (m₀ : L
 product-most : (a b : ℕ) → a ≤ 258 → b ≤ 64 → a * b ≤ 16512
 product-most a b h k = mul-le-mul h k
 
-module _ (b known s words m₀ : List ℕ) (p₀ : Numbers) (o₀ : List ℕ) (mark : ℕ) (start : Starts b known s words m₀ p₀ o₀ mark) where
+module _ (b known s words m₀ : List ℕ) (p₀ : Numbers) (first : ℕ) (o₀ : List ℕ) (start : Starts b known s words m₀ p₀ first o₀) where
+  abbrev mark : ℕ
+  mark = parsedMark
+
   pub starts-long : 8 ≤ length b
   starts-long = form-long b (start .result) (start .accepts)
 
-  pub starts-good : lengthGood b ≡ true
-  starts-good = accepted-length b (start .result) (start .accepts)
+  pub field-there : (n k : ℕ) → n ≡ fieldCount b → k < n → (lengthGood b ≡ true) × (k < fieldCount b)
+  field-there n k c l = (accepted-length b (start .result) (start .accepts), omega arith)
+
+  pub going-step : (n k : ℕ) → n ≡ fieldCount b → k < n → k + 1 < 18446744073709551616
+  going-step n k c l = omega (arith, few-fields b (start .result) (start .accepts))
+
+  -- the number of field k
+  pub going-number : (n k : ℕ) → n ≡ fieldCount b → k < n → first + k < 18446744073709551616
+  going-number n k c l = omega (arith, start .small, few-fields b (start .result) (start .accepts))
 
   module _ (a : Accepted) (e : checkForm b ≡ accepted a) where
     abbrev Went : List ℕ → Numbers → ℕ → ℕ → ℕ → List ℕ → Type 0
-    Went m p tries at k o = Going mark (sheetArea s) words (a .fields) m₀ p₀ o₀ m p tries at k o
+    Went m p tries at k o = Going (sheetArea s) words (a .fields) m₀ p₀ o₀ m p tries at k o
 
     pub going-first : Went m₀ p₀ 0 0 0 o₀
     going-first = record {
@@ -180,7 +190,7 @@ module _ (b known s words m₀ : List ℕ) (p₀ : Numbers) (o₀ : List ℕ) (m
       items is h = (h .0, h .1 ∙ sym (g .left .count))
 
       pub going-end : (n : ℕ) → n ≡ fieldCount b → n ≤ k → (r : Reached) → r ≡ valuesOf tries at p
-          → RunsFields mark (sheetArea s) words (a .fields) m₀ p₀ m o₀ o r
+          → RunsFields (sheetArea s) words (a .fields) m₀ p₀ m o₀ o r
       unfolding runFields ended behind answerWords
       going-end n c l r q =
           let few = field-count b a e in
@@ -198,12 +208,12 @@ module _ (b known s words m₀ : List ℕ) (p₀ : Numbers) (o₀ : List ℕ) (m
             left = g .left;
           })
 
-      module _ (n : ℕ) (c : n ≡ fieldCount b) (l : k < n) (node : ℕ) (h : getElem? (readForm b .fields) k ≡ some node) where
-        abbrev mine : Field b (a .fields) k node
+      module _ (n : ℕ) (c : n ≡ fieldCount b) (l : k < n) (node : ℕ) (h : getElem? (readForm b .fields) k ≡ some node) (u : ℕ) (eu : u ≡ parsedMark) where
+        abbrev mine : FieldAt b (a .fields) k node
         mine = field b a e k node h
 
-        pub going-field : Fields b known s words m p mark node o at
-        going-field = record {
+        pub going-field : Placed b known s words m p (record { node = node; at = at; mark = u }) o
+        going-field = rw eu (record {
           stands = record {
             tree = mine .tree;
             node = mine .node;
@@ -213,12 +223,12 @@ module _ (b known s words m₀ : List ℕ) (p₀ : Numbers) (o₀ : List ℕ) (m
             knows = start .knows;
           };
           space = record { room = omega (arith, g .near, few-fields b a e, going-long, start .room); zeros = zeros };
-        }
+        })
 
         module _ (m′ o′ : List ℕ) (r : Ran)
-            (ran : (t : Tree) → treeAt b node ≡ some t → Writes mark (sheetArea s) words t m p m′ o at o′ r) where
+            (ran : WritesField b s words (record { node = node; at = at; mark = u }) m p m′ o o′ r) where
           wrote : Writes mark (sheetArea s) words (mine .tree) m p m′ o at o′ r
-          wrote = ran (mine .tree) (mine .node)
+          wrote = subst (λ (j : ℕ). Writes j (sheetArea s) words (mine .tree) m p m′ o at o′ r) eu (ran (mine .tree) (mine .node))
 
           -- the field's evaluation, over the items
           module _ (is : List Item) (i : Items (sheetArea s) words p₀ is) where
@@ -264,7 +274,7 @@ module _ (b known s words m₀ : List ℕ) (p₀ : Numbers) (o₀ : List ℕ) (m
 
           pub going-refused : (r .number ≡ 0 → ⊥) → (o″ : List ℕ) → o″ ≡ sets o′ 0 (replicate at 0) → (x : Reached)
               → x ≡ refusedWith (r .number) (r .place) (tries + r .tries) (r .numbers)
-              → RunsFields mark (sheetArea s) words (a .fields) m₀ p₀ m′ o₀ o″ x
+              → RunsFields (sheetArea s) words (a .fields) m₀ p₀ m′ o₀ o″ x
           going-refused z o″ c x q =
               let is = start .state .items in
               let i : Items (sheetArea s) words p₀ is = (start .state .table, start .state .same) in

@@ -15,7 +15,7 @@ use Rattle.rules.specs.Accept.{Accepted, accepted, checkForm}
 use Rattle.rules.specs.Split.{Item}
 use Rattle.rules.specs.State.{Found, presentFrom, findIn, find, first}
 use Rattle.rules.specs.Eval.{Ran as Run, ended, after, _then_}
-use Rattle.rules.specs.Run.{runFields, leftOver, runAll}
+use Rattle.rules.specs.Run.{parsedMark, runFields, leftOver, runAll}
 use Rattle.rules.specs.Demands.{Ends}
 use Rattle.rules.specs.Sound.{Good}
 use Rattle.rules.proofs.Acceptance.{lookup-some, accepted-sound}
@@ -115,13 +115,13 @@ module _ (m : List ℕ) (p : Numbers) (f : Fine m p) (is : List Item) (n : lengt
       (record { place = place; item = x }, refl, ap (findIn is (λ _. true)) (fine-unused m p f ∙ first-hit m (p .start) (p .end) place (f .order) e h .rest) ∙ find-here is place _ x g)
 
 -- ---- all fields, and then the test
-module _ (b known s words m₀ : List ℕ) (p₀ : Numbers) (o₀ : List ℕ) (mark : ℕ) (start : Starts b known s words m₀ p₀ o₀ mark) where
-  module _ (m o : List ℕ) (r : Reached) (a : Accepted) (e : checkForm b ≡ accepted a) (t : RunsFields mark (sheetArea s) words (a .fields) m₀ p₀ m o₀ o r) where
-    pub all-refused : (r .number ≡ 0 → ⊥) → Reaches mark (sheetArea s) words (a .fields) m₀ p₀ m o₀ o r
+module _ (b known s words m₀ : List ℕ) (p₀ : Numbers) (first : ℕ) (o₀ : List ℕ) (start : Starts b known s words m₀ p₀ first o₀) where
+  module _ (m o : List ℕ) (r : Reached) (a : Accepted) (e : checkForm b ≡ accepted a) (t : RunsFields (sheetArea s) words (a .fields) m₀ p₀ m o₀ o r) where
+    pub all-refused : (r .number ≡ 0 → ⊥) → Reaches (sheetArea s) words (a .fields) m₀ p₀ m o₀ o r
     unfolding runAll
     all-refused z = record {
       values = t .values;
-      same = λ is i. tested-refused is (runFields mark is (a .fields) (stateOf m₀ p₀)) _ (t .same is i) z;
+      same = λ is i. tested-refused is (runFields parsedMark is (a .fields) (stateOf m₀ p₀)) _ (t .same is i) z;
       count = t .count;
       put = t .put;
       few = t .few;
@@ -137,20 +137,26 @@ module _ (b known s words m₀ : List ℕ) (p₀ : Numbers) (o₀ : List ℕ) (m
       here : place ≡ firstOr (r .numbers .end) (presentFrom m (r .numbers .end - r .numbers .start) (r .numbers .start))
       here = rw (← c, ← d) l
 
-      pub place-small : place ≤ 256
+      place-small : place ≤ 256
       place-small =
           let f = t .left .fine in
           omega (arith, f .inside, f .small, first-within m (r .numbers .start) (r .numbers .end) place (f .order) here)
 
+      pub place-fits : place < 4294967296
+      place-fits = omega (arith, place-small)
+
+      pub place-more : place + 1 < 4294967296
+      place-more = omega (arith, place-small)
+
       items : (is : List Item) → Items (sheetArea s) words p₀ is → length is ≡ r .numbers .count
       items is i = i .1 ∙ sym (t .left .count)
 
-      pub all-empty : y ≤ place → Reaches mark (sheetArea s) words (a .fields) m₀ p₀ m o₀ o r
+      pub all-empty : y ≤ place → Reaches (sheetArea s) words (a .fields) m₀ p₀ m o₀ o r
       unfolding runAll
       all-empty h = record {
         values = t .values;
         same = λ is i.
-            tested-none is (runFields mark is (a .fields) (stateOf m₀ p₀)) _ (t .same is i)
+            tested-none is (runFields parsedMark is (a .fields) (stateOf m₀ p₀)) _ (t .same is i)
             (nothing-left m (r .numbers) (t .left .fine) is (items is i) place here (omega (arith, d)));
         count = t .count;
         put = t .put;
@@ -158,10 +164,10 @@ module _ (b known s words m₀ : List ℕ) (p₀ : Numbers) (o₀ : List ℕ) (m
         left = t .left;
       }
 
-      numbered : (is : List Item) → Items (sheetArea s) words p₀ is → Numbered (runFields mark is (a .fields) (stateOf m₀ p₀) .outcome)
+      numbered : (is : List Item) → Items (sheetArea s) words p₀ is → Numbered (runFields parsedMark is (a .fields) (stateOf m₀ p₀) .outcome)
       numbered is i =
-          go (runFields mark is (a .fields) (stateOf m₀ p₀) .outcome)
-          (fields-run mark (start .state .told) is (a .fields) (accepted-sound b a e) (stateOf m₀ p₀)
+          go (runFields parsedMark is (a .fields) (stateOf m₀ p₀) .outcome)
+          (fields-run parsedMark (start .state .told) is (a .fields) (accepted-sound b a e) (stateOf m₀ p₀)
           (subst (λ (j : ℕ). Good j (stateOf m₀ p₀)) (sym (i .1)) (start .state .fine .good)) .ends)
         where
           go : (o : Outcome (List Value)) → Ends Any (a .fields) o → Numbered o
@@ -171,7 +177,7 @@ module _ (b known s words m₀ : List ℕ) (p₀ : Numbers) (o₀ : List ℕ) (m
 
       pub all-left : r .number ≡ 0 → place < y → (n : ℕ) → n ≡ r .words → (o′ : List ℕ) → o′ ≡ sets o 0 (replicate n 0) → (v : Reached)
           → v ≡ refusedWith 27 (place + 1) (r .tries) (r .numbers)
-          → Reaches mark (sheetArea s) words (a .fields) m₀ p₀ m o₀ o′ v
+          → Reaches (sheetArea s) words (a .fields) m₀ p₀ m o₀ o′ v
       unfolding runAll
       all-left z h n w o′ q v u =
           let cleared : o′ ≡ o₀ =
@@ -183,7 +189,7 @@ module _ (b known s words m₀ : List ℕ) (p₀ : Numbers) (o₀ : List ℕ) (m
             values = [];
             same = λ is i.
                 let (y, g, k) = something-left m (r .numbers) (t .left .fine) is (items is i) place here (omega (arith, d)) in
-                tested-found is (runFields mark is (a .fields) (stateOf m₀ p₀)) _ (t .same is i) y (numbered is i) z k
+                tested-found is (runFields parsedMark is (a .fields) (stateOf m₀ p₀)) _ (t .same is i) y (numbered is i) z k
                 ∙ told-same refl (omega (arith, g)) refl refl refl;
             count = refl;
             put = cleared;

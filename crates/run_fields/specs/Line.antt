@@ -13,7 +13,7 @@ use Rattle.rules.specs.Tree.{Tree}
 use Rattle.rules.specs.Accept.{Accepted, accepted, checkForm}
 use Rattle.rules.specs.Split.{Item}
 use Rattle.rules.specs.Eval.{Ran as Run}
-use Rattle.rules.specs.Run.{runFields, runAll}
+use Rattle.rules.specs.Run.{parsedMark, runFields, runAll}
 use Rattle.state_marks.specs.declared.Numbers.{Numbers}
 use Rattle.state_marks.specs.Lent.{stateOf}
 use Rattle.take_table.specs.Known.{Known}
@@ -24,22 +24,25 @@ use Rattle.eval_told.specs.Told.{Told}
 use Rattle.eval_told.specs.Nodes.{Standing}
 use Rattle.eval_node.specs.Cycle.{Room}
 use Rattle.eval_node.specs.Values.{Put}
+use Rattle.eval_list.specs.declared.Field.{Field}
 use Rattle.run_fields.specs.declared.Reached.{Reached}
 
--- an accepted form, a checked sheet, a state over the items, which nodes each item matches, and an answer slice of zeros
-pub record Starts (b known s words m : List ℕ) (p : Numbers) (o : List ℕ) (mark : ℕ) : Type 0 where
+-- an accepted form, a checked sheet, a state over the items, which nodes each item matches, the number of the first field, and
+-- an answer slice of zeros
+pub record Starts (b known s words m : List ℕ) (p : Numbers) (first : ℕ) (o : List ℕ) : Type 0 where
   pub result : Accepted
   pub accepts : checkForm b ≡ accepted result
   pub made : sheetFault s ≡ 0
-  pub state : takes.Ready (sheetArea s) words m p mark
+  pub state : takes.Ready (sheetArea s) words m p parsedMark
   pub knows : Known b (sheetArea s) words (length (state .items)) known
+  pub small : first ≤ 4096
   pub room : 8240 ≤ length o
   pub zeros : (k : ℕ) → getD o k 0 ≡ 0
 
 -- a node, and room for its words
-pub record Fields (b known s words m : List ℕ) (p : Numbers) (mark n : ℕ) (o : List ℕ) (at : ℕ) : Type 0 where
-  pub stands : Standing b known s words m p mark n
-  pub space : Room o at
+pub record Placed (b known s words m : List ℕ) (p : Numbers) (f : Field) (o : List ℕ) : Type 0 where
+  pub stands : Standing b known s words m p (f .mark) (f .node)
+  pub space : Room o (f .at)
 
 -- a result whose words are written, so many of them
 abbrev pub written : Ran → ℕ → Ran
@@ -85,14 +88,14 @@ pub record Tells (run : List Item → Run (List Value)) (area words m : List ℕ
   pub left : Left m p m′ (r .numbers)
 
 -- the fields in order
-abbrev pub RunsFields : ℕ → List ℕ → List ℕ → List Tree → List ℕ → Numbers → List ℕ → List ℕ → List ℕ → Reached → Type 0
-RunsFields mark area words fields m p m′ o o′ r =
-    Tells (λ is. runFields mark is fields (stateOf m p)) area words m p m′ o o′ r
+abbrev pub RunsFields : List ℕ → List ℕ → List Tree → List ℕ → Numbers → List ℕ → List ℕ → List ℕ → Reached → Type 0
+RunsFields area words fields m p m′ o o′ r =
+    Tells (λ is. runFields parsedMark is fields (stateOf m p)) area words m p m′ o o′ r
 
 -- then 27
-abbrev pub Reaches : ℕ → List ℕ → List ℕ → List Tree → List ℕ → Numbers → List ℕ → List ℕ → List ℕ → Reached → Type 0
-Reaches mark area words fields m p m′ o o′ r =
-    Tells (λ is. runAll mark is fields (stateOf m p)) area words m p m′ o o′ r
+abbrev pub Reaches : List ℕ → List ℕ → List Tree → List ℕ → Numbers → List ℕ → List ℕ → List ℕ → Reached → Type 0
+Reaches area words fields m p m′ o o′ r =
+    Tells (λ is. runAll parsedMark is fields (stateOf m p)) area words m p m′ o o′ r
 
 -- ---- results
 abbrev pub refusedWith : ℕ → ℕ → ℕ → Numbers → Reached

@@ -6,10 +6,12 @@ ghost use Prim.Native.Nat.{_+_, _≤_};
 ghost use lib.ListN.{length};
 ghost use Rattle.rules.specs.Accept.{Accepted, accepted, checkForm};
 ghost use Rattle.rules.specs.Sheet.{sheetArea};
+ghost use Rattle.rules.specs.Run.{parsedMark};
 ghost use Rattle.rules.specs.Tree.{Tree, kindOf};
 ghost use Rattle.eval_told.specs.Nodes.{treeAt, isScalar};
-ghost use Rattle.run_fields.specs.Line.{Starts, Fields, written, PutValue, RunsFields, Reaches, refusedWith, valuesOf};
-ghost use Rattle.eval_list.specs.Lists.{Writes};
+ghost use Rattle.run_fields.specs.Line.{Starts, Placed, written, PutValue, RunsFields, Reaches, refusedWith, valuesOf};
+ghost use Rattle.eval_list.specs.Lists.{WritesField};
+use eval_list::Field;
 use eval_told::Ran;
 use state_marks::Numbers;
 use wire::wide;
@@ -64,30 +66,28 @@ fn put_value(out: &mut [u32], at: usize, ran: Ran) -> Ran
     wrote(ran, len)
 }
 
-// A field by the general run, whatever its node is.
-fn run_other(
+// A node, whatever it is: the words of its value go to `out`, where all is 0.
+pub fn run_value(
     form: &[u8],
     known: &[u64],
     sheet: &[u8],
     items: &[u32],
     marks: &mut [u16; 256],
     p: Numbers,
-    node: usize,
-    at: usize,
+    field: Field,
     out: &mut [u32],
-    mark: u16,
 ) -> Ran
-    requires { ⌜ Fields (now form) (now known) (now sheet) (now items) (now marks) p mark node (now out) at ⌝ }
-    ensures { λ r. ⌜ ((t : Tree) → treeAt (now (form .entry)) node ≡ some t → Writes mark (sheetArea (now (sheet .entry))) (now (items .entry)) t (now (marks .entry)) p (now (marks .exit)) (now (out .entry)) at (now (out .exit)) r) ⌝ }
+    requires { ⌜ Placed (now form) (now known) (now sheet) (now items) (now marks) p field (now out) ⌝ }
+    ensures { λ r. ⌜ WritesField (now (form .entry)) (now (sheet .entry)) (now (items .entry)) field (now (marks .entry)) p (now (marks .exit)) (now (out .entry)) (now (out .exit)) r ⌝ }
 {
-    if is_list(form, node) {
-        return eval_list::run_list(form, known, sheet, items, marks, p, node, at, out, mark);
+    if is_list(form, field.node) {
+        return eval_list::run_list(form, known, sheet, items, marks, p, field, out);
     }
-    let ran = eval_node::run_node(form, known, sheet, items, marks, p, node, mark);
-    put_value(out, at, ran)
+    let ran = eval_node::run_node(form, known, sheet, items, marks, p, field.node, field.mark);
+    put_value(out, field.at, ran)
 }
 
-// One field: its words go to `out` from `at` on. A flag or a positional is evaluated in place, which is quicker than the general run.
+// One field. A flag or a positional is evaluated in place, which is quicker than the general run.
 fn run_field(
     form: &[u8],
     known: &[u64],
@@ -95,27 +95,26 @@ fn run_field(
     items: &[u32],
     marks: &mut [u16; 256],
     p: Numbers,
-    node: usize,
-    at: usize,
+    field: Field,
     out: &mut [u32],
-    mark: u16,
 ) -> Ran
-    requires { ⌜ Fields (now form) (now known) (now sheet) (now items) (now marks) p mark node (now out) at ⌝ }
-    ensures { λ r. ⌜ ((t : Tree) → treeAt (now (form .entry)) node ≡ some t → Writes mark (sheetArea (now (sheet .entry))) (now (items .entry)) t (now (marks .entry)) p (now (marks .exit)) (now (out .entry)) at (now (out .exit)) r) ⌝ }
+    requires { ⌜ Placed (now form) (now known) (now sheet) (now items) (now marks) p field (now out) ⌝ }
+    ensures { λ r. ⌜ WritesField (now (form .entry)) (now (sheet .entry)) (now (items .entry)) field (now (marks .entry)) p (now (marks .exit)) (now (out .entry)) (now (out .exit)) r ⌝ }
 {
-    let x = form_layout::node_at(form, node);
+    let x = form_layout::node_at(form, field.node);
+    let mark = field.mark;
     if x.kind == 1 {
-        let flag = eval_params::eval_flag(known, marks, p, node, x.r == 1, mark);
-        return put_value(out, at, flag);
+        let flag = eval_params::eval_flag(known, marks, p, field.node, x.r == 1, mark);
+        return put_value(out, field.at, flag);
     }
     if x.kind == 3 {
         let operand = eval_params::eval_positional(sheet, items, marks, p, x.p, x.r == 2, mark);
-        return put_value(out, at, operand);
+        return put_value(out, field.at, operand);
     }
-    run_other(form, known, sheet, items, marks, p, node, at, out, mark)
+    run_value(form, known, sheet, items, marks, p, field, out)
 }
 
-fn refused(number: u32, place: u32, tries: u32, numbers: Numbers) -> Reached
+pub fn refused(number: u32, place: u32, tries: u32, numbers: Numbers) -> Reached
     ensures { λ r. ⌜ r ≡ refusedWith number place tries numbers ⌝ }
 {
     Reached {
@@ -140,6 +139,14 @@ fn answered(tries: u32, words: usize, numbers: Numbers) -> Reached
     }
 }
 
+// The mark of what field `number` uses. Every field has the same: this is the one place where the number tells.
+fn field_mark(number: usize) -> u16
+    ensures { λ r. ⌜ r ≡ parsedMark ⌝ }
+{
+    let _ = number;
+    1
+}
+
 // The fields in order, up to the first that is refused. Each is run on the state that the last one left.
 fn each_field(
     form: &[u8],
@@ -148,11 +155,11 @@ fn each_field(
     items: &[u32],
     marks: &mut [u16; 256],
     p: Numbers,
+    first: usize,
     out: &mut [u32],
-    mark: u16,
 ) -> Reached
-    requires { ⌜ Starts (now form) (now known) (now sheet) (now items) (now marks) p (now out) mark ⌝ }
-    ensures { λ r. ⌜ ((a : Accepted) → checkForm (now (form .entry)) ≡ accepted a → RunsFields mark (sheetArea (now (sheet .entry))) (now (items .entry)) (a .fields) (now (marks .entry)) p (now (marks .exit)) (now (out .entry)) (now (out .exit)) r) ⌝ }
+    requires { ⌜ Starts (now form) (now known) (now sheet) (now items) (now marks) p first (now out) ⌝ }
+    ensures { λ r. ⌜ ((a : Accepted) → checkForm (now (form .entry)) ≡ accepted a → RunsFields (sheetArea (now (sheet .entry))) (now (items .entry)) (a .fields) (now (marks .entry)) p (now (marks .exit)) (now (out .entry)) (now (out .exit)) r) ⌝ }
 {
     let n = form_layout::field_count(form);
     let mut s = p;
@@ -161,7 +168,9 @@ fn each_field(
     let mut k = 0;
     while k < n {
         let node = form_layout::field_at(form, k);
-        let ran = run_field(form, known, sheet, items, marks, s, node, at, out, mark);
+        let mark = field_mark(first + k);
+        let field = Field { node, at, mark };
+        let ran = run_field(form, known, sheet, items, marks, s, field, out);
         let left = ran.numbers;
         tries = tries + ran.tries;
         if ran.number != 0 {
@@ -175,21 +184,22 @@ fn each_field(
     answered(tries, at, s)
 }
 
-// All fields, then 27 at the first present place that is left in scope. Refused, `out` is all 0 again.
+// These items in this state, whose numbers tell the scope, and these fields, of which the first has number `first`: then 27 at
+// the first present place that is left in scope. Refused, `out` is all 0 again.
 pub fn run_fields(
     form: &[u8],
-    known: &[u64],
+    known: &[u64; 257],
     sheet: &[u8],
     items: &[u32],
     marks: &mut [u16; 256],
     p: Numbers,
+    first: usize,
     out: &mut [u32],
-    mark: u16,
 ) -> Reached
-    requires { ⌜ Starts (now form) (now known) (now sheet) (now items) (now marks) p (now out) mark ⌝ }
-    ensures { λ r. ⌜ ((a : Accepted) → checkForm (now (form .entry)) ≡ accepted a → Reaches mark (sheetArea (now (sheet .entry))) (now (items .entry)) (a .fields) (now (marks .entry)) p (now (marks .exit)) (now (out .entry)) (now (out .exit)) r) ⌝ }
+    requires { ⌜ Starts (now form) (now known) (now sheet) (now items) (now marks) p first (now out) ⌝ }
+    ensures { λ r. ⌜ ((a : Accepted) → checkForm (now (form .entry)) ≡ accepted a → Reaches (sheetArea (now (sheet .entry))) (now (items .entry)) (a .fields) (now (marks .entry)) p (now (marks .exit)) (now (out .entry)) (now (out .exit)) r) ⌝ }
 {
-    let all = each_field(form, known, sheet, items, marks, p, out, mark);
+    let all = each_field(form, known, sheet, items, marks, p, first, out);
     if all.number != 0 {
         return all;
     }

@@ -1,5 +1,5 @@
 -- The state after splitting, and the slices cleared and filled.
-use mathlib.Core.Path.{_≡_, refl, sym, _∙_, ap}
+use mathlib.Core.Path.{_≡_, refl, sym, subst, _∙_, ap}
 use mathlib.Core.List.{List, [], _∷_, append-nil}
 use mathlib.Core.Option.{Option, some, none}
 use Prim.Native.Nat.{ℕ, zero, suc, _+_, _-_, _≤_, _<_}
@@ -16,6 +16,8 @@ use Rattle.rules.specs.State.{State, construct, emptyState}
 use Rattle.rules.specs.Run.{parsedMark, padded}
 use Rattle.rules.specs.Calls.{toRaw}
 use Rattle.rules.specs.declared.State.{State as Raw}
+use Rattle.state_marks.specs.Written.{markerMark}
+use Rattle.state_marks.proofs.Mark.{marker-told}
 use Rattle.split_args.specs.declared.Ended.{Ended}
 use Rattle.split_args.specs.Construct.{startingState, Unmarked, SheetAndRoom, SheetAndZeros, SplitEnds}
 
@@ -36,24 +38,27 @@ abbrev pub markerOf : ℕ → Option ℕ
 markerOf zero = none
 markerOf (suc i) = some i
 
-marked :
-    (n j : ℕ)
-    → j < n
-    → construct parsedMark n (some j)
-    ≡ ok (record { marks = set (replicate n 0) j 1; remaining = n - 1; current = none; start = 0; end = n })
-unfolding construct parsedMark minus at _>>=_ if_then_else_
-marked n j h =
+marked-by : (mark n j : ℕ) → j < n
+    → construct mark n (some j) ≡ ok (record { marks = set (replicate n 0) j mark; remaining = n - 1; current = none; start = 0; end = n })
+unfolding construct minus at _>>=_ if_then_else_
+marked-by mark n j h =
     rw (
-      write-set (replicate n 0) j 1 (omega (arith, length-replicate {A = ℕ} n 0)),
+      write-set (replicate n 0) j mark (omega (arith, length-replicate {A = ℕ} n 0)),
       le-leb 1 n (omega arith),
     )
 
-one-padded : (n j : ℕ) → n ≤ 256 → j < n → padded 256 (set (replicate n 0) j 1) ≡ set (replicate 256 0) j 1
+abbrev started : ℕ → ℕ → State
+started n j = record { marks = set (replicate n 0) j markerMark; remaining = n - 1; current = none; start = 0; end = n }
+
+marked : (n j : ℕ) → j < n → construct parsedMark n (some j) ≡ ok (started n j)
+marked n j h = subst (λ (k : ℕ). construct k n (some j) ≡ ok (started n j)) marker-told (marked-by markerMark n j h)
+
+one-padded : (n j : ℕ) → n ≤ 256 → j < n → padded 256 (set (replicate n 0) j markerMark) ≡ set (replicate 256 0) j markerMark
 unfolding padded
 one-padded n j h l =
-    rw (length-set {A = ℕ} (replicate n 0) j 1)
-    (sym (set-append-left (replicate n 0) _ j 1 (omega (arith, length-replicate {A = ℕ} n 0)))
-    ∙ ap (λ (z : List ℕ). set z j 1) (zeros-padded n h))
+    rw (length-set {A = ℕ} (replicate n 0) j markerMark)
+    (sym (set-append-left (replicate n 0) _ j markerMark (omega (arith, length-replicate {A = ℕ} n 0)))
+    ∙ ap (λ (z : List ℕ). set z j markerMark) (zeros-padded n h))
 
 pub record StartState (n m : ℕ) : Type 0 where
   pub state : State
@@ -75,11 +80,11 @@ starts n zero h l = record {
   };
 }
 starts n (suc j) h l = record {
-  state = record { marks = set (replicate n 0) j 1; remaining = n - 1; current = none; start = 0; end = n };
+  state = started n j;
   same = marked n j l;
   raw = λ i. record {
     marks = sym (one-padded n j h l) i;
-    count = sym (length-set {A = ℕ} (replicate n 0) j 1 ∙ length-replicate {A = ℕ} n 0) i;
+    count = sym (length-set {A = ℕ} (replicate n 0) j markerMark ∙ length-replicate {A = ℕ} n 0) i;
     remaining = n - 1;
     current = 0;
     start = 0;
@@ -144,11 +149,11 @@ module _ (n m : ℕ) (marks : List ℕ) (u : Unmarked marks) where
 
   pub one-marker :
       (m ≡ 0 → ⊥)
-      → _≡_ {A = Raw} (record { marks = set marks (m - 1) 1; count = n; remaining = n - 1; current = 0; start = 0; end = n }) (startingState n m)
+      → _≡_ {A = Raw} (record { marks = set marks (m - 1) markerMark; count = n; remaining = n - 1; current = 0; start = 0; end = n }) (startingState n m)
   unfolding startingState
   one-marker h = go m h
     where
-      go : (m : ℕ) → (m ≡ 0 → ⊥) → _≡_ {A = Raw} (record { marks = set marks (m - 1) 1; count = n; remaining = n - 1; current = 0; start = 0; end = n }) (startingState n m)
+      go : (m : ℕ) → (m ≡ 0 → ⊥) → _≡_ {A = Raw} (record { marks = set marks (m - 1) markerMark; count = n; remaining = n - 1; current = 0; start = 0; end = n }) (startingState n m)
       go zero h = absurd (h refl)
       go (suc i) h = let back : suc i - 1 ≡ i = omega arith in rw (u .zeros, back)
 

@@ -152,7 +152,7 @@ module _ (m l : List ℕ) (p q : Numbers) (w : ℕ) (f : Fine m p) (e : q .count
 
 -- ---- the test of a state
 
-pub record Kept (n : ℕ) (x : Raw) : Type 0 where
+pub record StateKept (n : ℕ) (x : Raw) : Type 0 where
   pub count : x .count ≡ n
   pub small : n ≤ 256
   pub order : x .start ≤ x .end
@@ -180,7 +180,7 @@ test-current n zero h = omega arith
 test-current n (suc i) h = omega (arith, ltb-true i n h)
 
 module _ (n : ℕ) (x : Raw) where
-  test-kept : test n x ≡ true → Kept n x
+  test-kept : test n x ≡ true → StateKept n x
   unfolding test stateGood fromRaw
   test-kept h =
       let a : Bool = eqb (x .count) n in
@@ -197,11 +197,11 @@ module _ (n : ℕ) (x : Raw) where
         good = good;
       }
 
-  kept-test : Kept n x → test n x ≡ true
+  kept-test : StateKept n x → test n x ≡ true
   unfolding test
   kept-test k = rw (eq-eqb _ _ (k .count), k .rest, good-test n (fromRaw x) (k .small) (k .good))
 
-  pub accepted : Kept n x → stateIn n x ≡ ok (fromRaw x)
+  pub accepted : StateKept n x → stateIn n x ≡ ok (fromRaw x)
   unfolding stateIn test if_then_else_
   accepted k = rw (kept-test k)
 
@@ -209,22 +209,22 @@ module _ (n : ℕ) (x : Raw) where
   unfolding stateIn test if_then_else_
   not-in e = rw e
 
-  pub not-kept : (Kept n x → ⊥) → stateIn n x ≡ refused (refuse 29 none)
+  pub not-kept : (StateKept n x → ⊥) → stateIn n x ≡ refused (refuse 29 none)
   not-kept h = go (test n x) refl
     where
       go : (b : Bool) → test n x ≡ b → stateIn n x ≡ refused (refuse 29 none)
       go true e = absurd (h (test-kept e))
       go false e = not-in e
 
-  pub in-kept : stateIn n x ≡ ok (fromRaw x) → Kept n x
+  pub in-kept : stateIn n x ≡ ok (fromRaw x) → StateKept n x
   in-kept h = go (test n x) refl
     where
-      go : (b : Bool) → test n x ≡ b → Kept n x
+      go : (b : Bool) → test n x ≡ b → StateKept n x
       go true e = test-kept e
       go false e = let z : refused (refuse 29 none) ≡ ok (fromRaw x) = sym (not-in e) ∙ h in
           absurd (let o : _≡_ {A = ℕ} 0 1 = cc in omega arith)
 
-  pub refusing : (Kept n x → ⊥) → stateIn n x ≡ (if false then ok (fromRaw x) else refused (refuse 29 none))
+  pub refusing : (StateKept n x → ⊥) → stateIn n x ≡ (if false then ok (fromRaw x) else refused (refuse 29 none))
   unfolding if_then_else_
   refusing h = not-kept h
 
@@ -266,7 +266,7 @@ module _ (n : ℕ) (x : Raw) (a b : ℕ) (start : a ≡ x .start) (end : b ≡ x
       go false t = not-kept n x (λ k. eqb-false c (x .remaining) t (counted ∙ sym (k .good .counted)))
 
 -- marks that are refused
-module _ (n : ℕ) (x : Raw) (k : Kept n x) where
+module _ (n : ℕ) (x : Raw) (k : StateKept n x) where
   pub marks-kept : (b : Bool) → b ≡ all (markGood parsed n) (take n (x .marks)) → not b ≡ true → ⊥
   unfolding fromRaw
   marks-kept b e t =
@@ -310,7 +310,7 @@ module _ (m : List ℕ) (p : Numbers) (f : Fine m p) where
       let z : replicate (256 - p .count) 0 ≡ drop (p .count) m = sym (zeros-all (drop (p .count) m) (f .rest) ∙ rw d) in
       rw (l, z, take-append-drop (p .count) m, code-place (p .current))
 
-pub kept-fine : (n : ℕ) (x : Raw) → Kept n x → Fine (x .marks) (numbersOf x)
+pub kept-fine : (n : ℕ) (x : Raw) → StateKept n x → Fine (x .marks) (numbersOf x)
 unfolding stateOf
 kept-fine n x k =
     let z : n ≡ x .count = sym (k .count) in

@@ -29,11 +29,11 @@ present-at (x ∷ m) (suc i) h = present-at m i (le-of-suc-le-suc h)
 
 -- ---- the first that is present
 
-pub record Searched (m : List ℕ) (from end i : ℕ) : Type 0 where
+pub record FirstFrom (m : List ℕ) (from end i : ℕ) : Type 0 where
   pub within : i ≤ end
   pub same : firstOr end (presentFrom m (end - i) i) ≡ firstOr end (presentFrom m (end - from) from)
 
-pub searched-first : (m : List ℕ) (from end : ℕ) → from ≤ end → Searched m from end from
+pub searched-first : (m : List ℕ) (from end : ℕ) → from ≤ end → FirstFrom m from end from
 searched-first m from end h = record { within = h; same = refl }
 
 module _ (m : List ℕ) (end i : ℕ) (h : i < end) (l : end ≤ length m) where
@@ -53,8 +53,8 @@ pub from-none : (m : List ℕ) (end i : ℕ) → end ≤ i → presentFrom m (en
 unfolding presentFrom
 from-none m end i h = let z : end - i ≡ 0 = omega arith in rw z
 
-module _ (m : List ℕ) (from end i : ℕ) (s : Searched m from end i) (l : end ≤ length m) where
-  pub searched-next : i < end → (x : Bool) → x ≡ present (getD m i 0) → x ≡ false → Searched m from end (i + 1)
+module _ (m : List ℕ) (from end i : ℕ) (s : FirstFrom m from end i) (l : end ≤ length m) where
+  pub searched-next : i < end → (x : Bool) → x ≡ present (getD m i 0) → x ≡ false → FirstFrom m from end (i + 1)
   searched-next h x e g = record { within = omega arith; same = ap (firstOr end) (sym (from-used m end i h l (sym e ∙ g))) ∙ s .same }
 
   pub searched-hit : i < end → (x : Bool) → x ≡ present (getD m i 0) → x ≡ true → i ≡ firstOr end (presentFrom m (end - from) from)
@@ -68,35 +68,35 @@ module _ (m : List ℕ) (from end i : ℕ) (s : Searched m from end i) (l : end 
       z ∙ sym (ap (firstOr end) (from-none m end i h)) ∙ s .same
 
 -- what the search finds: a present place, before which none is
-pub record Hit (m : List ℕ) (k a r : ℕ) : Type 0 where
+pub record FirstAt (m : List ℕ) (k a r : ℕ) : Type 0 where
   pub from : a ≤ r
   pub below : r < a + k
   pub here : presentAt m r ≡ true
   pub rest : presentFrom m k a ≡ r ∷ presentFrom m (a + k - suc r) (suc r)
 
-hit-case : (m : List ℕ) (k a : ℕ) → (presentFrom m k a ≡ []) ⊎ ((r : ℕ) × Hit m k a r)
+hit-case : (m : List ℕ) (k a : ℕ) → (presentFrom m k a ≡ []) ⊎ ((r : ℕ) × FirstAt m k a r)
 unfolding presentFrom if_then_else_
 hit-case m zero a = inl refl
 hit-case m (suc k) a = go (presentAt m a) refl (hit-case m k (suc a))
   where
-    go : (b : Bool) → presentAt m a ≡ b → (presentFrom m k (suc a) ≡ []) ⊎ ((r : ℕ) × Hit m k (suc a) r)
-        → (presentFrom m (suc k) a ≡ []) ⊎ ((r : ℕ) × Hit m (suc k) a r)
+    go : (b : Bool) → presentAt m a ≡ b → (presentFrom m k (suc a) ≡ []) ⊎ ((r : ℕ) × FirstAt m k (suc a) r)
+        → (presentFrom m (suc k) a ≡ []) ⊎ ((r : ℕ) × FirstAt m (suc k) a r)
     go true e later =
         let z : a + suc k - suc a ≡ k = omega arith in
         inr (a, record { from = omega arith; below = omega arith; here = e; rest = rw (e, z) })
     go false e later = ⊎-elim
         (λ (n : presentFrom m k (suc a) ≡ []). inl (rw e n))
-        (λ (h : (r : ℕ) × Hit m k (suc a) r).
+        (λ (h : (r : ℕ) × FirstAt m k (suc a) r).
         let z : a + suc k ≡ suc a + k = omega arith in
         inr (h .0, record { from = omega (arith, h .1 .from); below = omega (arith, h .1 .below); here = h .1 .here; rest = rw (e, z) (h .1 .rest) }))
         later
 
 module _ (m : List ℕ) (from end r : ℕ) (o : from ≤ end) (e : r ≡ firstOr end (presentFrom m (end - from) from)) where
-  pub first-hit : r < end → Hit m (end - from) from r
+  pub first-hit : r < end → FirstAt m (end - from) from r
   unfolding firstOr
   first-hit h = ⊎-elim
       (λ n. absurd (omega (arith, e ∙ ap (firstOr end) n)))
-      (λ f. let z : f .0 ≡ r = sym (e ∙ ap (firstOr end) (f .1 .rest)) in subst (Hit m (end - from) from) z (f .1))
+      (λ f. let z : f .0 ≡ r = sym (e ∙ ap (firstOr end) (f .1 .rest)) in subst (FirstAt m (end - from) from) z (f .1))
       (hit-case m (end - from) from)
 
   pub first-within : r ≤ end
@@ -332,15 +332,15 @@ module _ (m₀ l : List ℕ) (w count : ℕ) (m : List ℕ) (i : ℕ) (s : Savin
 
 -- ---- a test of all
 
-pub record Passing (p : ℕ → Bool) (l : List ℕ) (from i : ℕ) : Type 0 where
+pub record AllFrom (p : ℕ → Bool) (l : List ℕ) (from i : ℕ) : Type 0 where
   pub same : all p (drop i l) ≡ all p (drop from l)
 
-module _ (p : ℕ → Bool) (l : List ℕ) (from i : ℕ) (s : Passing p l from i) where
+module _ (p : ℕ → Bool) (l : List ℕ) (from i : ℕ) (s : AllFrom p l from i) where
   all-step : i < length l → all p (drop i l) ≡ p (getD l i 0) && all p (drop (i + 1) l)
   unfolding all
   all-step h = rw (add-one i, drop-cons l i 0 h)
 
-  pub passing-next : i < length l → p (getD l i 0) ≡ true → Passing p l from (i + 1)
+  pub passing-next : i < length l → p (getD l i 0) ≡ true → AllFrom p l from (i + 1)
   passing-next h e = record { same = sym (all-step h ∙ rw e) ∙ s .same }
 
   pub passing-fails : i < length l → p (getD l i 0) ≡ false → false ≡ all p (drop from l)
@@ -351,11 +351,11 @@ module _ (p : ℕ → Bool) (l : List ℕ) (from i : ℕ) (s : Passing p l from 
   passing-last h = sym (ap (all p) (drop-of-length-le l h)) ∙ s .same
 
 -- over the first n of a list, with the test's result in hand
-module _ (p : ℕ → Bool) (l : List ℕ) (n i : ℕ) (s : Passing p (take n l) 0 i) (r : n ≤ length l) where
+module _ (p : ℕ → Bool) (l : List ℕ) (n i : ℕ) (s : AllFrom p (take n l) 0 i) (r : n ≤ length l) where
   part-at : i < n → (x : Bool) → x ≡ p (getD l i 0) → p (getD (take n l) i 0) ≡ x
   part-at h x e = rw (getD-take n l i 0) (sym e)
 
-  pub part-next : i < n → (x : Bool) → x ≡ p (getD l i 0) → not x ≡ false → Passing p (take n l) 0 (i + 1)
+  pub part-next : i < n → (x : Bool) → x ≡ p (getD l i 0) → not x ≡ false → AllFrom p (take n l) 0 (i + 1)
   part-next h x e t =
       let long : length (take n l) ≡ n = length-take-le n l r in
       passing-next p (take n l) 0 i s (omega arith) (part-at h x e ∙ not-false x t)

@@ -23,6 +23,7 @@ use split_arg::Item;
 use split_arg::Part;
 use state_marks::Numbers;
 use state_marks::is_present;
+use take_search::Names;
 use wire::wide;
 
 // Whether it was taken.
@@ -147,18 +148,12 @@ pub fn take_flag(
 {
     let start = wide(p.start);
     let end = wide(p.end);
-    let place = take_search::find_named(
-        form,
-        codes,
-        sheet,
-        items,
-        marks,
-        start,
-        end,
+    let names = Names {
         first,
         count,
-        false,
-    );
+        adjacent: false,
+    };
+    let place = take_search::find_named(form, codes, sheet, items, marks, start, end, names);
     use_flag(marks, p, place, mark)
 }
 
@@ -239,28 +234,15 @@ pub fn take_arg(
     items: &[u32],
     marks: &mut [u16; 256],
     p: Numbers,
-    first: usize,
-    count: usize,
-    adjacent: bool,
+    names: Names,
     mark: u16,
 ) -> Argument
-    requires { ⌜ HasNames (now form) (now codes) first count × (sheetFault (now sheet) ≡ 0) × Ready (sheetArea (now sheet)) (now items) (now marks) p mark ⌝ }
-    ensures { λ r. ⌜ TakesArg mark (sheetArea (now (sheet .entry))) (now (items .entry)) (namedAt (now (form .entry)) first count) adjacent (now (marks .entry)) p (now (marks .exit)) r ⌝ }
+    requires { ⌜ HasNames (now form) (now codes) (names .first) (names .count) × (sheetFault (now sheet) ≡ 0) × Ready (sheetArea (now sheet)) (now items) (now marks) p mark ⌝ }
+    ensures { λ r. ⌜ TakesArg mark (sheetArea (now (sheet .entry))) (now (items .entry)) (namedAt (now (form .entry)) (names .first) (names .count)) (names .adjacent) (now (marks .entry)) p (now (marks .exit)) r ⌝ }
 {
     let start = wide(p.start);
     let end = wide(p.end);
-    let key = take_search::find_named(
-        form,
-        codes,
-        sheet,
-        items,
-        marks,
-        start,
-        end,
-        first,
-        count,
-        adjacent,
-    );
+    let key = take_search::find_named(form, codes, sheet, items, marks, start, end, names);
     use_argument(items, marks, p, key, mark)
 }
 

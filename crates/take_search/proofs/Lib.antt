@@ -1,4 +1,4 @@
-pub mod Names
+pub mod NameLaws
 pub mod Items
 pub mod Search
 pub mod Tables

@@ -36,8 +36,8 @@ pub record Seeking (area words : List ℕ) (test : Item → Bool) (marks : List 
       → placeOr end (seek is test marks i end) ≡ placeOr end (seek is test marks from end)
 
 -- what the code says of the item at a place
-abbrev pub Says : List ℕ → List ℕ → (Item → Bool) → ℕ → Bool → Type 0
-Says area words test i r = (x : Item) → itemFrom area (recordAt words i) ≡ some x → r ≡ test x
+abbrev pub TestedAt : List ℕ → List ℕ → (Item → Bool) → ℕ → Bool → Type 0
+TestedAt area words test i r = (x : Item) → itemFrom area (recordAt words i) ≡ some x → r ≡ test x
 
 module _ (area words : List ℕ) (test : Item → Bool) (marks : List ℕ) (from end : ℕ) where
   pub seeking-first : from ≤ end → Seeking area words test marks from end from
@@ -57,7 +57,7 @@ module _ (area words : List ℕ) (test : Item → Bool) (marks : List ℕ) (from
         same = λ is t l. ap (λ (p : List ℕ). placeOr end (findIn is test p)) (sym (from-used marks end i h long (sym e ∙ g))) ∙ z .same is t l;
       }
 
-      module _ (free : Bool) (e : free ≡ present (getD marks i 0)) (g : free ≡ true) (r : Bool) (said : Says area words test i r) where
+      module _ (free : Bool) (e : free ≡ present (getD marks i 0)) (g : free ≡ true) (r : Bool) (said : TestedAt area words test i r) where
         found : (is : List Item) → Table area words is → end ≤ length is → (x : Item) × (getElem? is i ≡ some x) × (r ≡ test x)
         found is t l =
             let x = lookup-some is i (omega arith) in

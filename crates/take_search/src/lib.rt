@@ -21,7 +21,15 @@ use split_arg::Item;
 use split_arg::Part;
 use state_marks::is_present;
 
-fn wide(x: u32) -> u64
+// The names of a node: `count` records of the form from `first` on. An adjacent argument takes only an item that has its value
+// in its own word.
+pub struct Names {
+    pub first: usize,
+    pub count: usize,
+    pub adjacent: bool,
+}
+
+pub fn wide64(x: u32) -> u64
     ensures { λ r. ⌜ r ≡ x ⌝ }
 {
     x as u64
@@ -32,11 +40,11 @@ fn has_short(codes: &[u32], first: usize, count: usize, character: u32) -> bool
     requires { ⌜ first + count ≤ length (now codes) ⌝ }
     ensures { λ r. ⌜ r ≡ contains (take count (drop first (now (codes .entry)))) (character + 1) ⌝ }
 {
-    let want = wide(character) + 1;
+    let want = wide64(character) + 1;
     let end = first + count;
     let mut k = first;
     while k < end {
-        if wide(codes[k]) == want {
+        if wide64(codes[k]) == want {
             return true;
         }
         k += 1;
@@ -106,33 +114,31 @@ fn fits(adjacent: bool, own: bool) -> bool
     if adjacent { own } else { true }
 }
 
-// `matches_arg`: whether item i has one of `count` names from `first` on.
+// `matches_arg`: whether item i has one of the names.
 pub fn matches(
     form: &[u8],
     codes: &[u32],
     sheet: &[u8],
     items: &[u32],
     i: usize,
-    first: usize,
-    count: usize,
-    adjacent: bool,
+    names: Names,
 ) -> bool
-    requires { ⌜ HasNames (now form) (now codes) first count × HasItem (now sheet) (now items) i ⌝ }
-    ensures { λ r. ⌜ ((x : RulesItem) → itemFrom (sheetArea (now (sheet .entry))) (recordAt (now (items .entry)) i) ≡ some x → r ≡ matchesArg (namedAt (now (form .entry)) first count) adjacent x) ⌝ }
+    requires { ⌜ HasNames (now form) (now codes) (names .first) (names .count) × HasItem (now sheet) (now items) i ⌝ }
+    ensures { λ r. ⌜ ((x : RulesItem) → itemFrom (sheetArea (now (sheet .entry))) (recordAt (now (items .entry)) i) ≡ some x → r ≡ matchesArg (namedAt (now (form .entry)) (names .first) (names .count)) (names .adjacent) x) ⌝ }
 {
     let item = split_arg::read_item(items, i);
     match item {
         Item::Short(character, own, _) => {
-            if !fits(adjacent, own) {
+            if !fits(names.adjacent, own) {
                 return false;
             }
-            has_short(codes, first, count, character)
+            has_short(codes, names.first, names.count, character)
         }
         Item::Long(name, own, _) => {
-            if !fits(adjacent, own) {
+            if !fits(names.adjacent, own) {
                 return false;
             }
-            has_long(form, part_bytes(sheet, name), first, count)
+            has_long(form, part_bytes(sheet, name), names.first, names.count)
         }
         Item::ArgWord(_) | Item::Word(_) | Item::PosWord(_) => false,
     }
@@ -147,17 +153,15 @@ pub fn find_named(
     marks: &[u16],
     from: usize,
     end: usize,
-    first: usize,
-    count: usize,
-    adjacent: bool,
+    names: Names,
 ) -> usize
-    requires { ⌜ HasNames (now form) (now codes) first count × HasItems (now sheet) (now items) (now marks) from end ⌝ }
-    ensures { λ r. ⌜ Sought (sheetArea (now (sheet .entry))) (now (items .entry)) (matchesArg (namedAt (now (form .entry)) first count) adjacent) (now (marks .entry)) from end r ⌝ }
+    requires { ⌜ HasNames (now form) (now codes) (names .first) (names .count) × HasItems (now sheet) (now items) (now marks) from end ⌝ }
+    ensures { λ r. ⌜ Sought (sheetArea (now (sheet .entry))) (now (items .entry)) (matchesArg (namedAt (now (form .entry)) (names .first) (names .count)) (names .adjacent)) (now (marks .entry)) from end r ⌝ }
 {
     let mut i = from;
     while i < end {
         if is_present(marks[i]) {
-            if matches(form, codes, sheet, items, i, first, count, adjacent) {
+            if matches(form, codes, sheet, items, i, names) {
                 return i;
             }
         }

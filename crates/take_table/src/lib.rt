@@ -17,6 +17,7 @@ ghost use Rattle.take_table.specs.Known.{isAdjacent, SetOf, Matchable, M
 ghost use Rattle.take_table.specs.Owners.{Owners, Added, isLoose, Lookup, hasShort, hasLong};
 use split_arg::Item;
 use state_marks::is_present;
+use take_search::wide64;
 
 // ---- sets of nodes as the bits of a word
 
@@ -120,22 +121,16 @@ fn mark_nodes(form: &[u8], count: usize, owners: &mut [u64; 128]) -> u64
 
 // ---- the nodes that match an item
 
-fn wide(x: u32) -> u64
-    ensures { λ r. ⌜ r ≡ x ⌝ }
-{
-    x as u64
-}
-
 // The nodes that have this character as a short name.
 fn short_owners(codes: &[u32], count: usize, owners: &[u64; 128], character: u32) -> u64
     requires { ⌜ (count ≤ length (now codes)) × (count ≤ 128) ⌝ }
     ensures { λ r. ⌜ ((form : List ℕ) (loose : ℕ) → Lookup form (now (codes .entry)) count (now (owners .entry)) loose → SetOf form (hasShort form character) r) ⌝ }
 {
-    let want = wide(character) + 1;
+    let want = wide64(character) + 1;
     let mut set: u64 = 0;
     let mut k = 0;
     while k < count {
-        if wide(codes[k]) == want {
+        if wide64(codes[k]) == want {
             set = union(set, owners[k]);
         }
         k += 1;

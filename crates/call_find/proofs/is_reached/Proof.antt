@@ -26,15 +26,19 @@ returns-3 : tie.Need-returns-3
 returns-3 c = reached-past _ _ _ (c .before .before .before .before .wide .ensures) (c .before .before .before .if1 .left) _
     (c .before .before .wide2 .ensures) (c .before .if2 .left) (search needs) (c .if3 .taken)
 
-mul-result : tie.Need-mul-result
-mul-result c = search needs
+mul-is-present : tie.Need-mul-is-present
+mul-is-present c = search needs
 
-element-copy-out-result : tie.Need-element-copy-out-result
-element-copy-out-result c = search needs
+element-copy-out-is-present : tie.Need-element-copy-out-is-present
+element-copy-out-is-present c = search needs
+
+is-present-requires : tie.Need-is-present-requires
+is-present-requires c κs = search needs
 
 returns-4 : tie.Need-returns-4
-returns-4 c = reached-mark _ _ _ (c .before .before .before .before .before .wide .ensures) (c .before .before .before .before .if1 .left) _
-    (c .before .before .before .wide2 .ensures) (c .before .before .if2 .left) (search needs) (c .before .if3 .left)
+returns-4 c = reached-mark _ _ _ (c .before .before .before .before .before .before .wide .ensures) (c .before .before .before .before .before .if1 .left) _
+    (c .before .before .before .before .wide2 .ensures) (c .before .before .before .if2 .left) (search needs) (c .before .before .if3 .left)
+    _ (c .is-present .ensures)
 
 pub is-reached-spec : {M : Type 1} → statement M
 is-reached-spec =
@@ -45,6 +49,7 @@ is-reached-spec =
     wide-requires-2
     returns-2
     returns-3
-    mul-result
-    element-copy-out-result
+    mul-is-present
+    element-copy-out-is-present
+    is-present-requires
     returns-4)

@@ -2,7 +2,7 @@
 use borrow.Author.Needs.{needs}
 use mathlib.Core.Path.{_≡_}
 use lib.ListN.{length}
-use Rattle.call_form.proofs.Takes.{given-names, has-names, sheet-made, ready, flag-hands}
+use Rattle.call_form.proofs.Takes.{given-names, has-names, sheet-made, field-ready, flag-hands}
 use Rattle.call_form.proofs.flag_taken.Statement.{statement}
 use Rattle.call_form.proofs.flag_taken.Tie as tie
 
@@ -12,11 +12,11 @@ codes-of-requires c κs = search given-names
 slice-aggregate-take-flag : tie.Need-slice-aggregate-take-flag
 slice-aggregate-take-flag c = search needs
 
-numbers-requires : tie.Need-numbers-requires
-numbers-requires c κs = search needs
+numbers-of-requires : tie.Need-numbers-of-requires
+numbers-of-requires c κs = search needs
 
 take-flag-requires : tie.Need-take-flag-requires
-take-flag-requires c κs = (search has-names, search sheet-made, search ready)
+take-flag-requires c κs = (search has-names, search sheet-made, search field-ready)
 
 yes-no-requires : tie.Need-yes-no-requires
 yes-no-requires c κs = search needs
@@ -31,7 +31,7 @@ returns : tie.Need-returns
 returns c =
     let long : length (c .before .before .before .before .before .before .before .before .before .before .before .before .before .args .s .marks) ≡
     256 = search (needs, c .before .before .before .before .before .before .before .before .before .before .before .before .before .good) in
-    flag-hands _ _ _ _ (c .before .before .before .before .before .numbers .ensures) long _ _ _ (c .before .joined .ensures) _
+    flag-hands _ _ _ _ (c .before .before .before .before .before .numbers-of .ensures) long _ _ _ (c .before .joined .ensures) _
     (c .before .before .yes-no .ensures) _ (c .changed .ensures) _ (c .before .before .before .before .take-flag .ensures)
 
 pub flag-taken-spec : {M : Type 1} → statement M
@@ -40,7 +40,7 @@ flag-taken-spec =
     (tie.spec
     codes-of-requires
     slice-aggregate-take-flag
-    numbers-requires
+    numbers-of-requires
     take-flag-requires
     yes-no-requires
     joined-requires

@@ -16,10 +16,14 @@ matches-requires c κs = search needs
 yes-no-requires : tie.Need-yes-no-requires
 yes-no-requires c κs = search needs
 
+answered-requires : tie.Need-answered-requires
+answered-requires c κs = search needs
+
 returns : tie.Need-returns
-returns c = matched-says _ _ _ _ _ _ _ (c .before .matches .ensures) (c .yes-no .ensures)
+returns c =
+    matched-says _ _ _ _ _ _ _ _ (c .before .before .matches .ensures) (c .before .yes-no .ensures) (c .answered .ensures)
 
 pub matched-spec : {M : Type 1} → statement M
 matched-spec =
     tie.close
-    (tie.spec codes-of-requires slice-aggregate-matches matches-requires yes-no-requires returns)
+    (tie.spec codes-of-requires slice-aggregate-matches matches-requires yes-no-requires answered-requires returns)

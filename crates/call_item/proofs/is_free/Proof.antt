@@ -22,22 +22,25 @@ returns-2 c =
     let wide = by-if1 .before .wide in
     free-behind _ _ _ (wide .ensures) (if1 .left) _ (wide2 .ensures) (c .if2 .taken)
 
-mul-result : tie.Need-mul-result
-mul-result c = search needs
+mul-is-present : tie.Need-mul-is-present
+mul-is-present c = search needs
 
-element-copy-out-result : tie.Need-element-copy-out-result
-element-copy-out-result c = search needs
+element-copy-out-is-present : tie.Need-element-copy-out-is-present
+element-copy-out-is-present c = search needs
+
+is-present-requires : tie.Need-is-present-requires
+is-present-requires c κs = search needs
 
 returns-3 : tie.Need-returns-3
 returns-3 c =
-    let by-if2 = c .before in
+    let by-if2 = c .before .before in
     let if2 = by-if2 .if2 in
     let by-wide2 = by-if2 .before in
     let wide2 = by-wide2 .wide2 in
     let by-if1 = by-wide2 .before in
     let if1 = by-if1 .if1 in
     let wide = by-if1 .before .wide in
-    free-here _ _ _ (wide .ensures) (if1 .left) _ (wide2 .ensures) (if2 .left)
+    free-here _ _ _ (wide .ensures) (if1 .left) _ (wide2 .ensures) (if2 .left) _ (c .is-present .ensures)
 
 pub is-free-spec : {M : Type 1} → statement M
 is-free-spec =
@@ -47,6 +50,7 @@ is-free-spec =
     returns
     wide-requires-2
     returns-2
-    mul-result
-    element-copy-out-result
+    mul-is-present
+    element-copy-out-is-present
+    is-present-requires
     returns-3)

@@ -17,15 +17,15 @@ unchanged-requires c κs = search needs
 returns : tie.Need-returns
 returns c = positional-refused _ _ _ _ (c .before .before .given-state .ensures) (c .before .if1 .taken) ∙ ap some (sym (c .unchanged .ensures))
 
-numbers-requires : tie.Need-numbers-requires
-numbers-requires c κs = search needs
+numbers-of-requires : tie.Need-numbers-of-requires
+numbers-of-requires c κs = search needs
 
 take-positional-word-requires : tie.Need-take-positional-word-requires
 take-positional-word-requires c κs =
     let by-if1 = c .before .before .before in
     let if1 = by-if1 .if1 in
     let given-state = by-if1 .before .given-state in
-    (_, positional-ready _ _ _ _ (given-state .ensures) (if1 .left) _ (c .numbers .ensures))
+    (_, positional-ready _ _ _ _ (given-state .ensures) (if1 .left) _ (c .numbers-of .ensures))
 
 enum-known-operand : tie.Need-enum-known-operand
 enum-known-operand c = search needs
@@ -43,21 +43,21 @@ returns-2 c =
     let by-take-positional-word = by-enum-told .before .before in
     let take-positional-word = by-take-positional-word .take-positional-word in
     let by-numbers = by-take-positional-word .before in
-    let numbers = by-numbers .numbers in
+    let numbers = by-numbers .numbers-of in
     let by-if1 = by-numbers .before .before .before in
     let if1 = by-if1 .if1 in
     let given-state = by-if1 .before .given-state in
     positional-missing _ _ _ _ (given-state .ensures) (if1 .left) _ (numbers .ensures) _ _ (take-positional-word .ensures _) (enum-told .given .1) ∙
     ap some (sym (c .unchanged2 .ensures))
 
-cast-t13 : tie.Need-cast-t13
-cast-t13 c =
+cast-changed : tie.Need-cast-changed
+cast-changed c =
     let by-operand = c .before in
     let operand = by-operand .operand in
     let by-take-positional-word = by-operand .before .before in
     let take-positional-word = by-take-positional-word .take-positional-word in
     let by-numbers = by-take-positional-word .before in
-    let numbers = by-numbers .numbers in
+    let numbers = by-numbers .numbers-of in
     let by-if1 = by-numbers .before .before .before in
     let if1 = by-if1 .if1 in
     let given-state = by-if1 .before .given-state in
@@ -67,21 +67,30 @@ cast-t13 c =
           (operand .given .1),
     )
 
-bit-requires : tie.Need-bit-requires
-bit-requires c κs = search needs
+yes-no-requires : tie.Need-yes-no-requires
+yes-no-requires c κs = search needs
 
 joined-requires : tie.Need-joined-requires
 joined-requires c κs = search needs
 
+changed-requires : tie.Need-changed-requires
+changed-requires c κs = search needs
+
 returns-3 : tie.Need-returns-3
 returns-3 c =
-    let long : length (c .before .before .before .before .before .before .before .before .before .before .before .before .before .args .s .marks) ≡
-    256 = search (needs, c .before .before .before .before .before .before .before .before .before .before .before .before .before .good) in
-    positional-taken _ _ _ _ (c .before .before .before .before .before .before .before .before .before .before .given-state .ensures)
-    (c .before .before .before .before .before .before .before .before .before .if1 .left) _
-    (c .before .before .before .before .before .before .numbers .ensures) _ _
-    (c .before .before .before .before .before .take-positional-word .ensures _) _ _ _ (c .before .before .before .operand .given .1) long _
-    (c .joined .ensures) _ (c .before .bit .ensures)
+    let long : length (c .before .before .before .before .before .before .before .before .before .before .before .before .before .before .args .s .marks) ≡ 256 =
+    search (needs, c .before .before .before .before .before .before .before .before .before .before .before .before .before .before .good) in
+    let by-joined = c .before in
+    let by-yes-no = by-joined .before in
+    let by-operand = by-yes-no .before .before in
+    let by-take-positional-word = by-operand .before .before in
+    let take-positional-word = by-take-positional-word .take-positional-word in
+    let by-numbers = by-take-positional-word .before in
+    let by-if1 = by-numbers .before .before .before in
+    let by-given-state = by-if1 .before in
+    positional-taken _ _ _ _ (by-given-state .given-state .ensures) (by-if1 .if1 .left) _ (by-numbers .numbers-of .ensures) _ _
+    (take-positional-word .ensures _) _ _ _ (by-operand .operand .given .1) long _ (by-joined .joined .ensures) _ (by-yes-no .yes-no .ensures)
+    ∙ ap some (sym (c .changed .ensures))
 
 pub take-positional-word-spec : {M : Type 1} → statement M
 take-positional-word-spec =
@@ -90,13 +99,14 @@ take-positional-word-spec =
     given-state-requires
     unchanged-requires
     returns
-    numbers-requires
+    numbers-of-requires
     take-positional-word-requires
     enum-known-operand
     enum-told
     unchanged-requires-2
     returns-2
-    cast-t13
-    bit-requires
+    cast-changed
+    yes-no-requires
     joined-requires
+    changed-requires
     returns-3)

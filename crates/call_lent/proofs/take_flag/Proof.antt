@@ -224,7 +224,8 @@ module _ {M : Type 1} (𝓤 : URA M) (H : Heap 𝓤) (A : Atoms 𝓤) (W : Given
         -- [κ's token; the others' tokens; Own₃; Own₃; Own₂; Own₂; Own₁; Own₁; obs; the borrow; room for _7; …]
         move ! (8 ∷ 9 ∷ 0 ∷ []) $ opens ! tt S {h = h} b o (λ vs. spelt ! S (Is S) (shows 𝓤 H A S) (LL.vals TS.the-type TS′.the-laws) (LL.tells TS.the-type TS′.the-laws) fullShare h vs b o $
         move ! (1 ∷ []) $ peeks ! S (Is S) (shows 𝓤 H A S) h (valS h ∷ []) (λ g. move ! (1 ∷ 0 ∷ []) $
-        -- [the state's cell; what a State owns; the open borrow; obs; auth; the tokens; Own₃; Own₃; Own₂; Own₂; Own₁; Own₁; room for _7; …; room for _6; …; _5; …; _4; …; _3; …; _2; …; _1; …; room for _0; …]
+        -- [the state's cell; what a State owns; the open borrow; obs; auth; the tokens; Own₃; Own₃; Own₂; Own₂; Own₁; Own₁;
+        -- room for _7; …; room for _6; …; _5; …; _4; …; _3; …; _2; …; _1; …; room for _0; …]
         assigns ! (of-opd ! (load ! (from ! (hop ! (look ! 24 refl) (stop !))) (look-raw ! 0 refl))) (from ! (stop !))
         (init ! 12 refl (LL.lawful TS.the-type TS′.the-laws 𝓤 H A W .typed h _ g .0)) $
         move ! (5 ∷ 1 ∷ 10 ∷ 8 ∷ 6 ∷ []) $ group ! 5 $ use1 W (raw (Take 𝓤 H A at-mem run .pre to-take)) goes-take $

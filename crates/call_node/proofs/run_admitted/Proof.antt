@@ -1,4 +1,3 @@
--- cN is the place N before c.
 use mathlib.Core.Path.{_≡_}
 use lib.ListN.{length}
 use borrow.Author.Needs.{needs}
@@ -36,10 +35,10 @@ returns : tie.Need-returns
 returns c =
     let by-run-value = c .before .before .before in
     let run-value = by-run-value .run-value in
-    let before = by-run-value .before .before in
-    let c5 = before in
-    let c15 = c5 .before .before .before .before .before .before .before .before .before .before in
-    node-runs _ _ _ _ _ _ (c15 .pre) _ (c5 .numbers .ensures) _ _ _ _ (marks-long _ c15) (run-value .ensures) (c .answered .ensures)
+    let by-numbers = by-run-value .before .before .before .before in
+    let numbers = by-numbers .numbers in
+    let start = by-numbers .before .before .before .before .before .before .before .before in
+    node-runs _ _ _ _ _ _ (start .pre) _ (numbers .ensures) _ _ _ _ (marks-long _ start) (run-value .ensures) (c .answered .ensures)
 
 pub run-admitted-spec : {M : Type 1} → statement M
 run-admitted-spec =
@@ -47,8 +46,8 @@ run-admitted-spec =
     (tie.spec
     wide-requires
     known-of-requires
-    slice-aggregate-run-value
     numbers-requires
+    slice-aggregate-run-value
     run-value-requires
     answered-requires
     same-length

@@ -7,12 +7,12 @@ use lib.ListN.{length}
 use borrow.Author.Needs.{needs}
 use borrow.Author.Tests.{eq-eqb, ne-eqb}
 use Rattle.rules.specs.Tree.{zeros}
-use Rattle.state_marks.proofs.Marks.{Passing, passing-next, passing-fails, passing-last}
+use Rattle.state_marks.proofs.Marks.{AllFrom, passing-next, passing-fails, passing-last}
 use Rattle.call_table.proofs.all_zero.Statement.{statement}
 use Rattle.call_table.proofs.all_zero.Tie as tie
 
 abbrev Inv-loop : tie.InvT-loop
-Inv-loop words k₀ k = Passing (eqb 0) words 0 k
+Inv-loop words k₀ k = AllFrom (eqb 0) words 0 k
 
 abbrev μ-loop : tie.MeasureT-loop
 μ-loop words k₀ k = length words - k

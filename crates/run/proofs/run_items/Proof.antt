@@ -13,8 +13,8 @@ wide-requires c κs = search needs
 known-requires : tie.Need-known-requires
 known-requires c κs = (search items-matchable, search items-few, search table-long)
 
-run-known-requires : tie.Need-run-known-requires
-run-known-requires c κs = search items-start
+run-fields-requires : tie.Need-run-fields-requires
+run-fields-requires c κs = search items-start
 
 same-length : tie.Need-same-length
 same-length c = search needs
@@ -29,6 +29,6 @@ run-items-spec =
     nothing-known-requires
     wide-requires
     known-requires
-    run-known-requires
+    run-fields-requires
     same-length
     returns)

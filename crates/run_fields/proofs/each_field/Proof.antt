@@ -1,21 +1,19 @@
 use mathlib.Core.Path.{_≡_, refl}
 use Prim.Native.Nat.{_-_}
-use native.Mathlib.Omega.{arith}
 use borrow.Author.Needs.{needs}
 use Rattle.rules.specs.Accept.{Accepted, accepted, checkForm}
 use Rattle.rules.specs.Sheet.{sheetArea}
-use Rattle.run_fields.proofs.Fields.{few-fields}
-use Rattle.run_fields.proofs.Going.{Going, starts-long, starts-good, going-first, going-field, going-tries, going-at, going-most, going-long, long-refused, going-refused, going-next}
+use Rattle.run_fields.proofs.Going.{Going, starts-long, field-there, going-step, going-number, going-first, going-field, going-tries, going-at, going-most, going-long, long-refused, going-refused, going-next}
 use Rattle.run_fields.proofs.Going.{going-end}
 use Rattle.run_fields.proofs.each_field.Statement.{statement}
 use Rattle.run_fields.proofs.each_field.Tie as tie
 
 abbrev Inv-loop : tie.InvT-loop
-Inv-loop form known sheet items marks₀ out₀ mark n s₀ tries₀ at₀ k₀ marks out s tries at k =
-    (a : Accepted) → checkForm form ≡ accepted a → Going mark (sheetArea sheet) items (a .fields) marks₀ s₀ out₀ marks s tries at k out
+Inv-loop form known sheet items marks₀ first out₀ n s₀ tries₀ at₀ k₀ marks out s tries at k =
+    (a : Accepted) → checkForm form ≡ accepted a → Going (sheetArea sheet) items (a .fields) marks₀ s₀ out₀ marks s tries at k out
 
 abbrev μ-loop : tie.MeasureT-loop
-μ-loop form known sheet items marks₀ out₀ mark n s₀ tries₀ at₀ k₀ marks out s tries at k = n - k
+μ-loop form known sheet items marks₀ first out₀ n s₀ tries₀ at₀ k₀ marks out s tries at k = n - k
 
 field-count-requires : tie.Need-field-count-requires Inv-loop μ-loop
 field-count-requires c κs =
@@ -32,11 +30,25 @@ field-at-requires c κs =
     let by-field-count = c .before .before in
     let field-count = by-field-count .field-count in
     let pre = by-field-count .before .before .before .before .before .before .pre in
-    (starts-good _ _ _ _ _ _ _ _ pre, omega (arith, field-count .ensures, c .loop-test .taken))
+    field-there _ _ _ _ _ _ _ _ pre _ _ (field-count .ensures) (c .loop-test .taken)
+
+add-field-mark : tie.Need-add-field-mark Inv-loop μ-loop
+add-field-mark c =
+    let by-loop-test = c .before in
+    let loop-test = by-loop-test .loop-test in
+    let by-field-count = by-loop-test .before .before in
+    let field-count = by-field-count .field-count in
+    let pre = by-field-count .before .before .before .before .before .before .pre in
+    record { fits = going-number _ _ _ _ _ _ _ _ pre _ _ (field-count .ensures) (loop-test .taken) }
+
+field-mark-requires : tie.Need-field-mark-requires Inv-loop μ-loop
+field-mark-requires c κs = search needs
 
 run-field-requires : tie.Need-run-field-requires Inv-loop μ-loop
 run-field-requires c κs =
-    let by-field-at = c .before .before in
+    let by-field-mark = c .before .before in
+    let field-mark = by-field-mark .field-mark in
+    let by-field-at = by-field-mark .before in
     let field-at = by-field-at .field-at in
     let by-loop-test = by-field-at .before in
     let loop-test = by-loop-test .loop-test in
@@ -46,13 +58,15 @@ run-field-requires c κs =
     let field-count = by-field-count .field-count in
     let pre = by-field-count .before .before .before .before .before .before .pre in
     going-field _ _ _ _ _ _ _ _ pre (pre .result) (pre .accepts) _ _ _ _ _ _ (loop .inv (pre .result) (pre .accepts)) _ (field-count .ensures)
-    (loop-test .taken) _ (field-at .ensures)
+    (loop-test .taken) _ (field-at .ensures) _ (field-mark .ensures)
 
 add-tries : tie.Need-add-tries Inv-loop μ-loop
 add-tries c =
     let by-run-field = c .before .before .before .before in
     let run-field = by-run-field .run-field in
-    let by-field-at = by-run-field .before .before .before in
+    let by-field-mark = by-run-field .before .before .before in
+    let field-mark = by-field-mark .field-mark in
+    let by-field-at = by-field-mark .before in
     let field-at = by-field-at .field-at in
     let by-loop-test = by-field-at .before in
     let loop-test = by-loop-test .loop-test in
@@ -63,7 +77,7 @@ add-tries c =
     let pre = by-field-count .before .before .before .before .before .before .pre in
     record {
       fits = going-tries _ _ _ _ _ _ _ _ pre (pre .result) (pre .accepts) _ _ _ _ _ _ (loop .inv (pre .result) (pre .accepts)) _
-          (field-count .ensures) (loop-test .taken) _ (field-at .ensures) _ _ _ (run-field .ensures) _ refl;
+          (field-count .ensures) (loop-test .taken) _ (field-at .ensures) _ (field-mark .ensures) _ _ _ (run-field .ensures) _ refl;
     }
 
 fill-requires : tie.Need-fill-requires Inv-loop μ-loop
@@ -78,7 +92,9 @@ same-length c =
     let fill = by-fill .fill in
     let by-run-field = by-fill .before .before .before .before .before .before .before .before in
     let run-field = by-run-field .run-field in
-    let by-field-at = by-run-field .before .before .before in
+    let by-field-mark = by-run-field .before .before .before in
+    let field-mark = by-field-mark .field-mark in
+    let by-field-at = by-field-mark .before in
     let field-at = by-field-at .field-at in
     let by-loop-test = by-field-at .before in
     let loop-test = by-loop-test .loop-test in
@@ -88,7 +104,7 @@ same-length c =
     let field-count = by-field-count .field-count in
     let pre = by-field-count .before .before .before .before .before .before .pre in
     long-refused _ _ _ _ _ _ _ _ pre (pre .result) (pre .accepts) _ _ _ _ _ _ (loop .inv (pre .result) (pre .accepts)) _ (field-count .ensures)
-    (loop-test .taken) _ (field-at .ensures) _ _ _ (run-field .ensures) _ (fill .ensures)
+    (loop-test .taken) _ (field-at .ensures) _ (field-mark .ensures) _ _ _ (run-field .ensures) _ (fill .ensures)
 
 returns : tie.Need-returns Inv-loop μ-loop
 returns c =
@@ -98,7 +114,9 @@ returns c =
     let if1 = by-if1 .if1 in
     let by-run-field = by-if1 .before .before .before .before .before .before in
     let run-field = by-run-field .run-field in
-    let by-field-at = by-run-field .before .before .before in
+    let by-field-mark = by-run-field .before .before .before in
+    let field-mark = by-field-mark .field-mark in
+    let by-field-at = by-field-mark .before in
     let field-at = by-field-at .field-at in
     let by-loop-test = by-field-at .before in
     let loop-test = by-loop-test .loop-test in
@@ -107,8 +125,8 @@ returns c =
     let by-field-count = by-loop .before in
     let field-count = by-field-count .field-count in
     let pre = by-field-count .before .before .before .before .before .before .pre in
-    λ a e. going-refused _ _ _ _ _ _ _ _ pre a e _ _ _ _ _ _ (loop .inv a e) _ (field-count .ensures) (loop-test .taken) _ (field-at .ensures) _ _ _
-    (run-field .ensures) (if1 .taken) _ (fill .ensures) _ (c .refused .ensures)
+    λ a e. going-refused _ _ _ _ _ _ _ _ pre a e _ _ _ _ _ _ (loop .inv a e) _ (field-count .ensures) (loop-test .taken) _ (field-at .ensures) _
+    (field-mark .ensures) _ _ _ (run-field .ensures) (if1 .taken) _ (fill .ensures) _ (c .refused .ensures)
 
 wide-requires : tie.Need-wide-requires Inv-loop μ-loop
 wide-requires c κs = search needs
@@ -117,7 +135,9 @@ add-at : tie.Need-add-at Inv-loop μ-loop
 add-at c =
     let by-run-field = c .before .before .before .before .before .before .before in
     let run-field = by-run-field .run-field in
-    let by-field-at = by-run-field .before .before .before in
+    let by-field-mark = by-run-field .before .before .before in
+    let field-mark = by-field-mark .field-mark in
+    let by-field-at = by-field-mark .before in
     let field-at = by-field-at .field-at in
     let by-loop-test = by-field-at .before in
     let loop-test = by-loop-test .loop-test in
@@ -128,17 +148,17 @@ add-at c =
     let pre = by-field-count .before .before .before .before .before .before .pre in
     record {
       fits = going-at _ _ _ _ _ _ _ _ pre (pre .result) (pre .accepts) _ _ _ _ _ _ (loop .inv (pre .result) (pre .accepts)) _
-          (field-count .ensures) (loop-test .taken) _ (field-at .ensures) _ _ _ (run-field .ensures) _ (c .wide .ensures);
+          (field-count .ensures) (loop-test .taken) _ (field-at .ensures) _ (field-mark .ensures) _ _ _ (run-field .ensures) _ (c .wide .ensures);
     }
 
 add-k : tie.Need-add-k Inv-loop μ-loop
 add-k c =
-    let by-loop-test = c .before .before .before .before .before .before .before .before .before .before .before in
+    let by-loop-test = c .before .before .before .before .before .before .before .before .before .before .before .before in
     let loop-test = by-loop-test .loop-test in
     let by-field-count = by-loop-test .before .before in
     let field-count = by-field-count .field-count in
     let pre = by-field-count .before .before .before .before .before .before .pre in
-    omega (arith, field-count .ensures, loop-test .taken, few-fields _ (pre .result) (pre .accepts))
+    record { fits = going-step _ _ _ _ _ _ _ _ pre _ _ (field-count .ensures) (loop-test .taken) }
 
 loop-less : tie.Need-loop-less Inv-loop μ-loop
 loop-less c = search needs
@@ -149,7 +169,9 @@ loop-again c =
     let if1 = by-if1 .if1 in
     let by-run-field = by-if1 .before .before .before .before .before .before in
     let run-field = by-run-field .run-field in
-    let by-field-at = by-run-field .before .before .before in
+    let by-field-mark = by-run-field .before .before .before in
+    let field-mark = by-field-mark .field-mark in
+    let by-field-at = by-field-mark .before in
     let field-at = by-field-at .field-at in
     let by-loop-test = by-field-at .before in
     let loop-test = by-loop-test .loop-test in
@@ -158,8 +180,8 @@ loop-again c =
     let by-field-count = by-loop .before in
     let field-count = by-field-count .field-count in
     let pre = by-field-count .before .before .before .before .before .before .pre in
-    λ a e. going-next _ _ _ _ _ _ _ _ pre a e _ _ _ _ _ _ (loop .inv a e) _ (field-count .ensures) (loop-test .taken) _ (field-at .ensures) _ _ _
-    (run-field .ensures) (if1 .left) _ (c .wide .ensures)
+    λ a e. going-next _ _ _ _ _ _ _ _ pre a e _ _ _ _ _ _ (loop .inv a e) _ (field-count .ensures) (loop-test .taken) _ (field-at .ensures) _
+    (field-mark .ensures) _ _ _ (run-field .ensures) (if1 .left) _ (c .wide .ensures)
 
 answered-requires : tie.Need-answered-requires Inv-loop μ-loop
 answered-requires c κs =
@@ -195,6 +217,8 @@ each-field-spec =
     field-count-requires
     loop-holds
     field-at-requires
+    add-field-mark
+    field-mark-requires
     run-field-requires
     add-tries
     fill-requires

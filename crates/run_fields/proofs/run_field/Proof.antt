@@ -10,7 +10,7 @@ use Rattle.run_fields.proofs.run_field.Tie as tie
 node-at-requires : tie.Need-node-at-requires
 node-at-requires c κs =
     let pre = c .before .before .before .before .before .pre in
-    (field-good _ _ _ _ _ _ _ _ _ _ pre, field-inside _ _ _ _ _ _ _ _ _ _ pre)
+    (field-good _ _ _ _ _ _ _ _ pre, field-inside _ _ _ _ _ _ _ _ pre)
 
 eval-flag-requires : tie.Need-eval-flag-requires
 eval-flag-requires c κs =
@@ -19,7 +19,7 @@ eval-flag-requires c κs =
     let by-node-at = by-if1 .before .before in
     let node-at = by-node-at .node-at in
     let pre = by-node-at .before .before .before .before .before .before .pre in
-    flag-ready _ _ _ _ _ _ _ _ (field-leaf _ _ _ _ _ _ _ _ _ _ pre _ (node-at .ensures) (inl (if1 .taken))) _ (node-at .ensures)
+    flag-ready _ _ _ _ _ _ _ _ (field-leaf _ _ _ _ _ _ _ _ pre _ (node-at .ensures) (inl (if1 .taken))) _ (node-at .ensures)
 
 put-value-requires : tie.Need-put-value-requires
 put-value-requires c κs =
@@ -40,23 +40,8 @@ returns c =
     let by-node-at = by-if1 .before .before in
     let node-at = by-node-at .node-at in
     let pre = by-node-at .before .before .before .before .before .before .pre in
-    λ
-    t
-    h.
-    field-put
-    _
-    _
-    _
-    t
-    _
-    _
-    _
-    _
-    _
-    _
-    _
-    _
-    (flag-node _ _ _ _ _ _ _ _ (field-leaf _ _ _ _ _ _ _ _ _ _ pre _ (node-at .ensures) (inl (if1 .taken))) _ (node-at .ensures) _ _ (if1 .taken)
+    λ t h. field-put _ _ _ t _ _ _ _ _ _ _ _
+    (flag-node _ _ _ _ _ _ _ _ (field-leaf _ _ _ _ _ _ _ _ pre _ (node-at .ensures) (inl (if1 .taken))) _ (node-at .ensures) _ _ (if1 .taken)
     (eval-flag .ensures) t h) (put-value .ensures)
 
 eval-positional-requires : tie.Need-eval-positional-requires
@@ -81,27 +66,12 @@ returns-2 c =
     let by-node-at = by-if2 .before .before .before .before in
     let node-at = by-node-at .node-at in
     let pre = by-node-at .before .before .before .before .before .before .pre in
-    λ
-    t
-    h.
-    field-put
-    _
-    _
-    _
-    t
-    _
-    _
-    _
-    _
-    _
-    _
-    _
-    _
-    (positional-says _ _ _ _ _ _ _ _ (field-leaf _ _ _ _ _ _ _ _ _ _ pre _ (node-at .ensures) (inr (if2 .taken))) _ (node-at .ensures) _ _
+    λ t h. field-put _ _ _ t _ _ _ _ _ _ _ _
+    (positional-says _ _ _ _ _ _ _ _ (field-leaf _ _ _ _ _ _ _ _ pre _ (node-at .ensures) (inr (if2 .taken))) _ (node-at .ensures) _ _
     (if2 .taken) (eval-positional .ensures) t h) (put-value2 .ensures)
 
-run-other-requires : tie.Need-run-other-requires
-run-other-requires c κs = search needs
+run-value-requires : tie.Need-run-value-requires
+run-value-requires c κs = search needs
 
 same-length-3 : tie.Need-same-length-3
 same-length-3 c = search needs
@@ -122,6 +92,6 @@ run-field-spec =
     put-value-requires-2
     same-length-2
     returns-2
-    run-other-requires
+    run-value-requires
     same-length-3
     returns-3)

@@ -1,6 +1,5 @@
 use borrow.Author.Needs.{needs}
-use native.Mathlib.Omega.{arith}
-use Rattle.run_fields.proofs.LeftOver.{all-refused, scope-order, all-empty, place-small, all-left}
+use Rattle.run_fields.proofs.LeftOver.{all-refused, scope-order, all-empty, place-fits, place-more, all-left}
 use Rattle.run_fields.proofs.run_fields.Statement.{statement}
 use Rattle.run_fields.proofs.run_fields.Tie as tie
 
@@ -67,8 +66,10 @@ cast-refused c =
     let by-each-field = by-wide .before .before .before .before .before .before in
     let each-field = by-each-field .each-field in
     let pre = by-each-field .before .before .before .before .before .before .before .before .pre in
-    let h = place-small _ _ _ _ _ _ _ _ pre _ _ _ (pre .result) (pre .accepts) (each-field .ensures (pre .result) (pre .accepts)) _ _ _
-    (wide2 .ensures) (wide .ensures) (first-present .ensures) in omega arith
+    record {
+      fits = place-fits _ _ _ _ _ _ _ _ pre _ _ _ (pre .result) (pre .accepts) (each-field .ensures (pre .result) (pre .accepts)) _ _ _
+          (wide2 .ensures) (wide .ensures) (first-present .ensures);
+    }
 
 add-refused : tie.Need-add-refused
 add-refused c =
@@ -81,8 +82,10 @@ add-refused c =
     let by-each-field = by-wide .before .before .before .before .before .before in
     let each-field = by-each-field .each-field in
     let pre = by-each-field .before .before .before .before .before .before .before .before .pre in
-    let h = place-small _ _ _ _ _ _ _ _ pre _ _ _ (pre .result) (pre .accepts) (each-field .ensures (pre .result) (pre .accepts)) _ _ _
-    (wide2 .ensures) (wide .ensures) (first-present .ensures) in omega arith
+    record {
+      fits = place-more _ _ _ _ _ _ _ _ pre _ _ _ (pre .result) (pre .accepts) (each-field .ensures (pre .result) (pre .accepts)) _ _ _
+          (wide2 .ensures) (wide .ensures) (first-present .ensures);
+    }
 
 refused-requires : tie.Need-refused-requires
 refused-requires c κs = search needs

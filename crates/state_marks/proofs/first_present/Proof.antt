@@ -1,12 +1,12 @@
 -- Invariant: from i on the first present place is that of the whole. Assumes nothing.
 use Prim.Native.Nat.{_-_}
 use borrow.Author.Needs.{needs}
-use Rattle.state_marks.proofs.Marks.{Searched, searched-first, searched-next, searched-hit, searched-end}
+use Rattle.state_marks.proofs.Marks.{FirstFrom, searched-first, searched-next, searched-hit, searched-end}
 use Rattle.state_marks.proofs.first_present.Statement.{statement}
 use Rattle.state_marks.proofs.first_present.Tie as tie
 
 abbrev Inv-loop : tie.InvT-loop
-Inv-loop marks from end i₀ i = Searched marks from end i
+Inv-loop marks from end i₀ i = FirstFrom marks from end i
 
 abbrev μ-loop : tie.MeasureT-loop
 μ-loop marks from end i₀ i = end - i

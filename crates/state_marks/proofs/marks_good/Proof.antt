@@ -4,12 +4,12 @@ use Prim.Native.Nat.{_≤_, _-_}
 use lib.ListN.{take}
 use borrow.Author.Needs.{needs}
 use Rattle.rules.specs.State.{markGood, parsed}
-use Rattle.state_marks.proofs.Marks.{Passing, part-next, part-fails, part-last}
+use Rattle.state_marks.proofs.Marks.{AllFrom, part-next, part-fails, part-last}
 use Rattle.state_marks.proofs.marks_good.Statement.{statement}
 use Rattle.state_marks.proofs.marks_good.Tie as tie
 
 abbrev Inv-loop : tie.InvT-loop
-Inv-loop marks count i₀ i = (i ≤ count) × Passing (markGood parsed count) (take count marks) 0 i
+Inv-loop marks count i₀ i = (i ≤ count) × AllFrom (markGood parsed count) (take count marks) 0 i
 
 abbrev μ-loop : tie.MeasureT-loop
 μ-loop marks count i₀ i = count - i

@@ -7,12 +7,12 @@ use lib.ListN.{length}
 use borrow.Author.Needs.{needs}
 use borrow.Author.Tests.{eq-eqb, ne-eqb}
 use Rattle.rules.specs.Tree.{zeros}
-use Rattle.state_marks.proofs.Marks.{Passing, passing-next, passing-fails, passing-last}
+use Rattle.state_marks.proofs.Marks.{AllFrom, passing-next, passing-fails, passing-last}
 use Rattle.state_marks.proofs.zeros_from.Statement.{statement}
 use Rattle.state_marks.proofs.zeros_from.Tie as tie
 
 abbrev Inv-loop : tie.InvT-loop
-Inv-loop marks from i₀ i = Passing (eqb 0) marks from i
+Inv-loop marks from i₀ i = AllFrom (eqb 0) marks from i
 
 abbrev μ-loop : tie.MeasureT-loop
 μ-loop marks from i₀ i = length marks - i

@@ -10,10 +10,10 @@ use Rattle.take_search.proofs.find_named.Statement.{statement}
 use Rattle.take_search.proofs.find_named.Tie as tie
 
 abbrev Inv-loop : tie.InvT-loop
-Inv-loop form codes sheet items marks from end first count adjacent i₀ i = Seeking (sheetArea sheet) items (matchesArg (namedAt form first count) adjacent) marks from end i
+Inv-loop form codes sheet items marks from end names i₀ i = Seeking (sheetArea sheet) items (matchesArg (namedAt form (names .first) (names .count)) (names .adjacent)) marks from end i
 
 abbrev μ-loop : tie.MeasureT-loop
-μ-loop form codes sheet items marks from end first count adjacent i₀ i = end - i
+μ-loop form codes sheet items marks from end names i₀ i = end - i
 
 loop-holds : tie.Need-loop-holds Inv-loop μ-loop
 loop-holds c = search seeking-first

@@ -3,7 +3,7 @@ use Prim.Native.Nat.{_-_}
 use native.Mathlib.Omega.{arith}
 use borrow.Author.Needs.{needs}
 use Rattle.form_layout.proofs.Sizes.{names-few}
-use Rattle.take_search.proofs.Names.{Scanning, scanning-first, scanning-next, scanning-hit, scanning-last}
+use Rattle.take_search.proofs.NameLaws.{Scanning, scanning-first, scanning-next, scanning-hit, scanning-last}
 use Rattle.take_search.proofs.has_long.Statement.{statement}
 use Rattle.take_search.proofs.has_long.Tie as tie
 

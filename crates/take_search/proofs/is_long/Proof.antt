@@ -1,6 +1,6 @@
 -- By the type of the record. Assumes nothing.
 use borrow.Author.Needs.{needs}
-use Rattle.take_search.proofs.Names.{not-long, long-same}
+use Rattle.take_search.proofs.NameLaws.{not-long, long-same}
 use Rattle.take_search.proofs.is_long.Statement.{statement}
 use Rattle.take_search.proofs.is_long.Tie as tie
 

@@ -22,7 +22,7 @@ returns c =
     let by-read-item = by-item .before .before in
     let read-item = by-read-item .read-item in
     let args = by-read-item .before .before .before .before .before .args in
-    short-apart (args .form .now) (args .codes .now) (args .sheet .now) (args .items .now) (args .i) (args .first) (args .count) (args .adjacent) _
+    short-apart (args .form .now) (args .codes .now) (args .sheet .now) (args .items .now) (args .i) (args .names .first) (args .names .count) (args .names .adjacent) _
     (read-item .ensures) _ _ _ (fits2 .ensures) _ (item .given .1) (c .if1 .taken)
 
 has-short-requires : tie.Need-has-short-requires
@@ -43,7 +43,7 @@ returns-2 c =
     let by-read-item = by-item2 .before .before in
     let read-item = by-read-item .read-item in
     let args = by-read-item .before .before .before .before .before .args in
-    long-apart (args .form .now) (args .codes .now) (args .sheet .now) (args .items .now) (args .i) (args .first) (args .count) (args .adjacent) _
+    long-apart (args .form .now) (args .codes .now) (args .sheet .now) (args .items .now) (args .i) (args .names .first) (args .names .count) (args .names .adjacent) _
     (read-item .ensures) _ _ _ (fits3 .ensures) _ (item2 .given .1) (c .if2 .taken)
 
 part-bytes-requires : tie.Need-part-bytes-requires
@@ -71,7 +71,7 @@ returns-3 c =
     let by-args = by-read-item .before .before .before .before .before in
     let args = by-args .args in
     let pre = by-args .pre in
-    short-here (args .form .now) (args .codes .now) (args .sheet .now) (args .items .now) (args .i) (args .first) (args .count) (args .adjacent) _
+    short-here (args .form .now) (args .codes .now) (args .sheet .now) (args .items .now) (args .i) (args .names .first) (args .names .count) (args .names .adjacent) _
     (read-item .ensures) _ _ _ (fits2 .ensures) _ (item .given .1) (if1 .left) (pre .0) _ (c .has-short .ensures)
 
 returns-4 : tie.Need-returns-4
@@ -87,7 +87,7 @@ returns-4 c =
     let by-read-item = by-item2 .before .before in
     let read-item = by-read-item .read-item in
     let args = by-read-item .before .before .before .before .before .args in
-    long-here (args .form .now) (args .codes .now) (args .sheet .now) (args .items .now) (args .i) (args .first) (args .count) (args .adjacent) _
+    long-here (args .form .now) (args .codes .now) (args .sheet .now) (args .items .now) (args .i) (args .names .first) (args .names .count) (args .names .adjacent) _
     (read-item .ensures) _ _ _ (fits3 .ensures) _ (item2 .given .1) (if2 .left) _ (part-bytes .ensures) _ (c .has-long .ensures)
 
 returns-5 : tie.Need-returns-5
@@ -95,7 +95,7 @@ returns-5 c =
     let by-read-item = c .before in
     let read-item = by-read-item .read-item in
     let args = by-read-item .before .before .before .before .before .args in
-    other-not (args .form .now) (args .codes .now) (args .sheet .now) (args .items .now) (args .i) (args .first) (args .count) (args .adjacent) _
+    other-not (args .form .now) (args .codes .now) (args .sheet .now) (args .items .now) (args .i) (args .names .first) (args .names .count) (args .names .adjacent) _
     (read-item .ensures) (c .match .keys3)
 
 pub matches-spec : {M : Type 1} → statement M

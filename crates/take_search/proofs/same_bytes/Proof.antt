@@ -2,7 +2,7 @@
 use Prim.Native.Nat.{_-_}
 use lib.ListN.{length}
 use borrow.Author.Needs.{needs}
-use Rattle.take_search.proofs.Names.{other-length, Comparing, comparing-first, comparing-next, comparing-differ, comparing-last}
+use Rattle.take_search.proofs.NameLaws.{other-length, Comparing, comparing-first, comparing-next, comparing-differ, comparing-last}
 use Rattle.take_search.proofs.same_bytes.Statement.{statement}
 use Rattle.take_search.proofs.same_bytes.Tie as tie
 

@@ -16,8 +16,8 @@ Inv-loop codes count owners character want set₀ k₀ set k =
 abbrev μ-loop : tie.MeasureT-loop
 μ-loop codes count owners character want set₀ k₀ set k = count - k
 
-wide-requires : tie.Need-wide-requires Inv-loop μ-loop
-wide-requires c κs = search needs
+wide64-requires : tie.Need-wide64-requires Inv-loop μ-loop
+wide64-requires c κs = search needs
 
 add-want : tie.Need-add-want Inv-loop μ-loop
 add-want c = search needs
@@ -25,14 +25,14 @@ add-want c = search needs
 loop-holds : tie.Need-loop-holds Inv-loop μ-loop
 loop-holds c = λ form loose q. short-first form _ _ _ loose q _
 
-mul-wide : tie.Need-mul-wide Inv-loop μ-loop
-mul-wide c = search needs
+mul-wide64 : tie.Need-mul-wide64 Inv-loop μ-loop
+mul-wide64 c = search needs
 
-shared-slice-read-wide : tie.Need-shared-slice-read-wide Inv-loop μ-loop
-shared-slice-read-wide c = search needs
+shared-slice-read-wide64 : tie.Need-shared-slice-read-wide64 Inv-loop μ-loop
+shared-slice-read-wide64 c = search needs
 
-wide-requires-2 : tie.Need-wide-requires-2 Inv-loop μ-loop
-wide-requires-2 c κs = search needs
+wide64-requires-2 : tie.Need-wide64-requires-2 Inv-loop μ-loop
+wide64-requires-2 c κs = search needs
 
 mul-union : tie.Need-mul-union Inv-loop μ-loop
 mul-union c = search needs
@@ -51,21 +51,21 @@ loop-less c = search needs
 
 loop-again : tie.Need-loop-again Inv-loop μ-loop
 loop-again c =
-    let by-wide2 = c .before in
-    let wide2 = by-wide2 .wide2 in
-    let by-loop-test = by-wide2 .before .before in
+    let by-wide642 = c .before in
+    let wide642 = by-wide642 .wide642 in
+    let by-loop-test = by-wide642 .before .before in
     let loop-test = by-loop-test .loop-test in
     let by-loop = by-loop-test .before in
     let loop = by-loop .loop in
-    let at-wide = by-loop .before .wide in
+    let at-wide64 = by-loop .before .wide64 in
     λ form loose q.
     let z = loop .inv form loose q in
     let below = loop-test .taken in
-    let wide = at-wide .ensures in
-    let read = wide2 .ensures in
+    let wide64 = at-wide64 .ensures in
+    let read = wide642 .ensures in
     ⊎-elim
-    (λ w. rw (w .3) (short-hit form _ _ _ loose q _ _ _ z below _ _ _ wide refl read (w .0 .taken) _ (w .2 .ensures)))
-    (λ w. rw (w .1) (short-miss form _ _ _ loose q _ _ _ z below _ _ _ wide refl read (w .0 .left)))
+    (λ w. rw (w .3) (short-hit form _ _ _ loose q _ _ _ z below _ _ _ wide64 refl read (w .0 .taken) _ (w .2 .ensures)))
+    (λ w. rw (w .1) (short-miss form _ _ _ loose q _ _ _ z below _ _ _ wide64 refl read (w .0 .left)))
     (c .if1 .came)
 
 returns : tie.Need-returns Inv-loop μ-loop
@@ -77,12 +77,12 @@ short-owners-spec =
     (tie.spec
     Inv-loop
     μ-loop
-    wide-requires
+    wide64-requires
     add-want
     loop-holds
-    mul-wide
-    shared-slice-read-wide
-    wide-requires-2
+    mul-wide64
+    shared-slice-read-wide64
+    wide64-requires-2
     mul-union
     element-copy-out-union
     union-requires

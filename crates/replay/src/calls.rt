@@ -1,0 +1,150 @@
+// Single calls on a state and on the items of a sheet.
+ghost use mathlib.Core.Path.{_≡_};
+ghost use mathlib.Core.Bool.{true};
+ghost use mathlib.Core.Option.{Option, some};
+ghost use Rattle.call_answers.specs.declared.Answer.{Answer as AnswerOf};
+ghost use Rattle.call_answers.specs.declared.StateAnswer.{StateAnswer as StateAnswerOf};
+ghost use Rattle.replay.specs.Calls.{Leaves, Changes, GetTold, EvalTold, TextTold, CallTold};
+use crate::cases;
+use crate::words;
+use call_answers::Answer;
+use call_answers::StateAnswer;
+use rules::State;
+
+// A call that leaves the state as it was.
+fn leaves(numbers: &[u8], a: Answer, s: State) -> bool
+    ensures { λ r. ⌜ (r ≡ true → (o : Option AnswerOf) → o ≡ some a → Leaves (now (numbers .entry)) s o) ⌝ }
+{
+    words::answer_same(
+        numbers,
+        a.number,
+        a.place,
+        0,
+        0,
+        a.found,
+        a.first,
+        a.second,
+        s,
+    )
+}
+
+// A call that changes the state.
+fn changes(numbers: &[u8], a: StateAnswer) -> bool
+    ensures { λ r. ⌜ (r ≡ true → (o : Option StateAnswerOf) → o ≡ some a → Changes (now (numbers .entry)) o) ⌝ }
+{
+    let left = a.state;
+    words::answer_same(
+        numbers,
+        a.number,
+        a.place,
+        0,
+        0,
+        a.found,
+        a.first,
+        a.second,
+        left,
+    )
+}
+
+pub fn get(
+    sheet: &[u8],
+    items: &[u32],
+    s: State,
+    place: usize,
+    numbers: &[u8],
+    words: &[u8],
+) -> bool
+    ensures { λ r. ⌜ (r ≡ true → GetTold (now (sheet .entry)) (now (items .entry)) s place (now (numbers .entry)) (now (words .entry))) ⌝ }
+{
+    let got = call_item::get(sheet, items, s, place);
+    if !words::answer_same(numbers, got.number, got.place, 0, 0, 0, 0, 0, s) {
+        return false;
+    }
+    words::words_same(words, 0, &got.item)
+}
+
+pub fn eval(
+    form: &[u8],
+    sheet: &[u8],
+    items: &[u32],
+    s: State,
+    node: usize,
+    numbers: &[u8],
+    words: &[u8],
+) -> bool
+    ensures { λ r. ⌜ (r ≡ true → EvalTold (now (form .entry)) (now (sheet .entry)) (now (items .entry)) s node (now (numbers .entry)) (now (words .entry))) ⌝ }
+{
+    let mut answers = cases::answer_slice();
+    let ran = call_node::eval(form, sheet, items, &mut answers, s, node);
+    let left = ran.state;
+    if !words::answer_same(
+        numbers,
+        ran.number,
+        ran.place,
+        ran.tries,
+        ran.words,
+        0,
+        0,
+        0,
+        left,
+    ) {
+        return false;
+    }
+    words::words_same(words, 0, &answers)
+}
+
+pub fn text<'a>(
+    form: &'a [u8],
+    sheet: &'a [u8],
+    items: &[u32],
+    word: u32,
+    numbers: &[u8],
+    bytes: &[u8],
+) -> bool
+    ensures { λ r. ⌜ (r ≡ true → TextTold (now (form .entry)) (now (sheet .entry)) (now (items .entry)) word (now (numbers .entry)) (now (bytes .entry))) ⌝ }
+{
+    let mut number = 0;
+    let mut place = 0;
+    let part = call_text::text(form, sheet, items, word, &mut number, &mut place);
+    let told = [number, place];
+    if !words::words_same(numbers, 0, &told) {
+        return false;
+    }
+    check::same(bytes, part)
+}
+
+// The other calls, by number. A number of no call is of no case.
+pub fn call(
+    k: u32,
+    form: &[u8],
+    sheet: &[u8],
+    items: &[u32],
+    s: State,
+    t: State,
+    m: usize,
+    n: usize,
+    numbers: &[u8],
+) -> bool
+    ensures { λ r. ⌜ (r ≡ true → CallTold (now (form .entry)) (now (sheet .entry)) (now (items .entry)) s t m n (now (numbers .entry)) k) ⌝ }
+{
+    match k {
+        7 => changes(numbers, call_state::remove(s, m)),
+        8 => leaves(numbers, call_state::pick_winner(s, t), s),
+        9 => changes(numbers, call_state::save_conflicts(s, t, m)),
+        10 => changes(numbers, call_state::set_scope(s, m, n)),
+        11 => leaves(numbers, call_state::adjacent_scope(s, t), s),
+        12 => leaves(numbers, call_state::adjacently_available_from(s, m), s),
+        13 => leaves(numbers, call_item::conflict(sheet, items, s), s),
+        14 => changes(numbers, call_item::take_positional_word(sheet, items, s)),
+        15 => leaves(numbers, call_item::only_once(sheet, items, m), s),
+        16 => leaves(
+            numbers,
+            call_form::matches_arg(form, sheet, items, s, m, n),
+            s,
+        ),
+        17 => changes(numbers, call_form::take_flag(form, sheet, items, s, m)),
+        18 => changes(numbers, call_form::take_arg(form, sheet, items, s, m)),
+        19 => changes(numbers, call_form::take_cmd(form, sheet, items, s, m)),
+        _ => false,
+    }
+}

@@ -1,0 +1,174 @@
+// A case: a call by its number, what it is given, and what it must answer.
+ghost use mathlib.Core.Path.{_≡_};
+ghost use mathlib.Core.Bool.{true, cond};
+ghost use lib.ListN.{length};
+ghost use Rattle.replay.specs.Words.{wordAt, Stands};
+ghost use Rattle.replay.specs.Cases.{utf8Words, checkWords, SplitTold, RunTold, StatesTold, ItemTold, Told};
+use crate::calls;
+use crate::words;
+use utf8::Decoded;
+
+// The slices that are lent to the calls. They are not 0, so that a word that is not written is seen.
+fn item_slice() -> [u32; 1792]
+    ensures { λ r. ⌜ 1792 ≡ length r ⌝ }
+{
+    [0xffff_ffff; 1792]
+}
+
+pub fn answer_slice() -> [u32; 8240]
+    ensures { λ r. ⌜ 8240 ≡ length r ⌝ }
+{
+    [0xffff_ffff; 8240]
+}
+
+fn flag(yes: bool) -> u32
+    ensures { λ r. ⌜ r ≡ cond yes 1 0 ⌝ }
+{
+    if yes { 1 } else { 0 }
+}
+
+// Whether the bytes are well-formed; whether there is a first character, its value and its size.
+fn utf8(bytes: &[u8], numbers: &[u8]) -> bool
+    ensures { λ r. ⌜ (r ≡ true → Stands (now (numbers .entry)) 0 (utf8Words (now (bytes .entry)))) ⌝ }
+{
+    let valid = flag(utf8::valid(bytes));
+    let first = utf8::decode_at(bytes, 0);
+    match first {
+        Decoded::Char(value, size) => {
+            let told = [valid, 1, value, size as u32];
+            words::words_same(numbers, 0, &told)
+        }
+        Decoded::Bad => {
+            let told = [valid, 0, 0, 0];
+            words::words_same(numbers, 0, &told)
+        }
+    }
+}
+
+// The number and the place of each of the two checks.
+fn check(form: &[u8], sheet: &[u8], numbers: &[u8]) -> bool
+    ensures { λ r. ⌜ (r ≡ true → Stands (now (numbers .entry)) 0 (checkWords (now (form .entry)) (now (sheet .entry)))) ⌝ }
+{
+    let f = call_check::form_check(form);
+    let s = call_check::sheet_check(sheet);
+    let told = [f.number, f.place, s.number, s.place];
+    words::words_same(numbers, 0, &told)
+}
+
+// The answer, and the item slice.
+fn split(form: &[u8], sheet: &[u8], numbers: &[u8], words: &[u8]) -> bool
+    ensures { λ r. ⌜ (r ≡ true → SplitTold (now (form .entry)) (now (sheet .entry)) (now (numbers .entry)) (now (words .entry))) ⌝ }
+{
+    let mut items = item_slice();
+    let split = call_check::split(form, sheet, &mut items);
+    let s = split.state;
+    if !words::answer_same(numbers, split.number, split.place, 0, 0, 0, 0, 0, s) {
+        return false;
+    }
+    words::words_same(words, 0, &items)
+}
+
+// The answer, and the answer slice.
+fn run(form: &[u8], sheet: &[u8], numbers: &[u8], words: &[u8]) -> bool
+    ensures { λ r. ⌜ (r ≡ true → RunTold (now (form .entry)) (now (sheet .entry)) (now (numbers .entry)) (now (words .entry))) ⌝ }
+{
+    let mut items = item_slice();
+    let mut answers = answer_slice();
+    let ran = run::run(form, sheet, &mut items, &mut answers);
+    let s = ran.state;
+    if !words::answer_same(
+        numbers,
+        ran.number,
+        ran.place,
+        ran.tries,
+        ran.words,
+        0,
+        0,
+        0,
+        s,
+    ) {
+        return false;
+    }
+    words::words_same(words, 0, &answers)
+}
+
+fn size(x: u32) -> usize
+    ensures { λ r. ⌜ r ≡ x ⌝ }
+{
+    x as usize
+}
+
+// A call on a state or two.
+fn on_states(
+    head: &[u8],
+    form: &[u8],
+    sheet: &[u8],
+    items: &[u32],
+    given: &[u8],
+    second: &[u8],
+    numbers: &[u8],
+    words: &[u8],
+) -> bool
+    ensures { λ r. ⌜ (r ≡ true → StatesTold (now (head .entry)) (now (form .entry)) (now (sheet .entry)) (now (items .entry)) (now (given .entry)) (now (second .entry)) (now (numbers .entry)) (now (words .entry))) ⌝ }
+{
+    let s = words::read_state(given);
+    if !words::state_same(given, 0, s) {
+        return false;
+    }
+    let t = words::read_state(second);
+    if !words::state_same(second, 0, t) {
+        return false;
+    }
+    let m = size(words::word_at(head, 1));
+    let n = size(words::word_at(head, 2));
+    let k = words::word_at(head, 0);
+    match k {
+        5 => calls::eval(form, sheet, items, s, m, numbers, words),
+        6 => calls::get(sheet, items, s, m, numbers, words),
+        _ => calls::call(k, form, sheet, items, s, t, m, n, numbers),
+    }
+}
+
+// A call on the items of the sheet.
+fn on_items<'a>(
+    head: &[u8],
+    form: &'a [u8],
+    sheet: &'a [u8],
+    given: &[u8],
+    second: &[u8],
+    numbers: &[u8],
+    words: &[u8],
+) -> bool
+    ensures { λ r. ⌜ (r ≡ true → ItemTold (now (head .entry)) (now (form .entry)) (now (sheet .entry)) (now (given .entry)) (now (second .entry)) (now (numbers .entry)) (now (words .entry))) ⌝ }
+{
+    let mut items = item_slice();
+    call_check::split(form, sheet, &mut items);
+    let k = words::word_at(head, 0);
+    if k == 4 {
+        let word = words::word_at(head, 1);
+        return calls::text(form, sheet, &items, word, numbers, words);
+    }
+    on_states(head, form, sheet, &items, given, second, numbers, words)
+}
+
+// Whether the proved code answers as the case says.
+pub fn same<'a>(
+    head: &[u8],
+    form: &'a [u8],
+    sheet: &'a [u8],
+    given: &[u8],
+    second: &[u8],
+    numbers: &[u8],
+    words: &[u8],
+) -> bool
+    ensures { λ r. ⌜ (r ≡ true → Told (now (head .entry)) (now (form .entry)) (now (sheet .entry)) (now (given .entry)) (now (second .entry)) (now (numbers .entry)) (now (words .entry))) ⌝ }
+{
+    let k = words::word_at(head, 0);
+    match k {
+        0 => utf8(form, numbers),
+        1 => check(form, sheet, numbers),
+        2 => split(form, sheet, numbers, words),
+        3 => run(form, sheet, numbers, words),
+        _ => on_items(head, form, sheet, given, second, numbers, words),
+    }
+}
