@@ -8,8 +8,11 @@ ghost use Rattle.rules.specs.Accept.{checkForm};
 ghost use Rattle.rules.specs.Codes.{checkCode, kindCode, placeOf};
 ghost use Rattle.rules.specs.Calls.{callKind, callPortable, callSplit, splitRefused};
 ghost use Rattle.call_check.specs.Reader.{sheetCode, told, yesCode, splittingOf, SplitAnswers};
+use call_answers::NOT_THERE;
+use call_answers::SHORT_SLICE;
 use rules::Refused;
 use rules::State;
+use split_arg::ITEM_WORDS;
 use split_args::Ended;
 
 // An answer that is a number: refused, it is 0 and the refusal stands beside it. A place is itself plus 1, or 0 for none.
@@ -57,7 +60,7 @@ pub fn kind(form: &[u8], node: usize) -> Told
     }
     if form_layout::node_count(form) <= node {
         return Told {
-            number: 28,
+            number: NOT_THERE,
             place: 0,
             answer: 0,
         };
@@ -121,8 +124,8 @@ fn split_input(form: &[u8], sheet: &[u8], items: &mut [u32]) -> Ended
     if fault != 0 {
         return split_refused(fault, 0, items);
     }
-    if items.len() < 1792 {
-        return split_refused(7, 0, items);
+    if items.len() < ITEM_WORDS {
+        return split_refused(SHORT_SLICE, 0, items);
     }
     let codes = form_codes::codes_of(form);
     split_line::split(form, &codes, sheet, items)

@@ -14,6 +14,16 @@ ghost use Rattle.form_names.specs.Names.{faultOr};
 ghost use Rattle.form_layout.specs.Layout.{nodeOf};
 ghost use Rattle.form_kinds.specs.Known.{codes};
 ghost use Rattle.form_check.specs.Uses.{greatest, added, tally, FieldsCounted, recordsFault};
+use form_kinds::AT_FAULT;
+
+// What a form is refused for: its length or counts, a name record, a node, a node that is not used once.
+const BAD_COUNTS: u32 = 1;
+
+const BAD_NAME: u32 = 2;
+
+const BAD_NODE: u32 = 3;
+
+const BAD_USE: u32 = 4;
 
 fn refused(number: u32, place: usize) -> rules::Refused
     requires { ⌜ place ≤ 128 ⌝ }
@@ -63,7 +73,7 @@ fn codes_fault(codes: &[u8; 64], n: usize) -> usize
 {
     let mut k = 0;
     while k < n {
-        if codes[k] == 32 {
+        if codes[k] == AT_FAULT {
             return k;
         }
         k += 1;
@@ -79,12 +89,12 @@ fn check_nodes(b: &[u8]) -> rules::Refused
     let n = form_layout::node_count(b);
     let mut codes = form_kinds::empty();
     fill_all(b, &mut codes);
-    if greatest(&codes) < 32 {
+    if greatest(&codes) < AT_FAULT {
         return refused(0, 0); // none is at fault
     }
     let fault = codes_fault(&codes, n);
     if fault < n {
-        return refused(3, fault + 1);
+        return refused(BAD_NODE, fault + 1);
     }
     refused(0, 0)
 }
@@ -176,12 +186,12 @@ fn check_uses(b: &[u8]) -> rules::Refused
     let n = form_layout::node_count(b);
     let mut counts = none();
     if !count_fields(b, n, &mut counts) {
-        return refused(4, 0);
+        return refused(BAD_USE, 0);
     }
     count_children(b, &mut counts);
     let fault = uses_fault(&counts, n);
     if fault < n {
-        return refused(4, fault + 1);
+        return refused(BAD_USE, fault + 1);
     }
     refused(0, 0)
 }
@@ -201,11 +211,11 @@ pub fn check(b: &[u8]) -> rules::Refused
     ensures { λ r. ⌜ r ≡ checkCode (checkForm (now (b .entry))) ⌝ }
 {
     if !form_layout::length_good(b) {
-        return refused(1, 0);
+        return refused(BAD_COUNTS, 0);
     }
     let fault = records_fault(b);
     if fault < form_layout::name_count(b) {
-        return refused(2, fault + 1);
+        return refused(BAD_NAME, fault + 1);
     }
     let nodes = check_nodes(b);
     if nodes.number != 0 {

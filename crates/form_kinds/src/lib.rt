@@ -12,6 +12,9 @@ ghost use Rattle.form_layout.specs.Layout.{nodeOf};
 ghost use Rattle.form_kinds.specs.Kinds.{namedGood, flagCode, argumentCode, positionalCode, leafCode, childGood, optionalCode, repeatCode, wrapCode, choiceCode, textName, fallbackCode, guardCode, innerCode};
 ghost use Rattle.form_kinds.specs.Known.{Done, Filling};
 
+// The code of a node at fault.
+pub const AT_FAULT: u8 = 32;
+
 // Whether numbers that a node does not use are 0; a caller puts 0 for those that are used.
 fn unused(q: usize, r: usize, lo: u32, hi: u32) -> bool
     ensures { λ z. ⌜ z ≡ zeros (q ∷ r ∷ lo ∷ hi ∷ []) ⌝ }
@@ -76,7 +79,7 @@ fn flag_code(b: &[u8], x: form_layout::Node) -> u8
     if named_good(b, x, 1) {
         return 1;
     }
-    32
+    AT_FAULT
 }
 
 fn argument_code(b: &[u8], x: form_layout::Node) -> u8
@@ -84,7 +87,7 @@ fn argument_code(b: &[u8], x: form_layout::Node) -> u8
     ensures { λ r. ⌜ r ≡ argumentCode (readForm (now (b .entry))) (nodeOf x) ⌝ }
 {
     if !named_good(b, x, 3) {
-        return 32;
+        return AT_FAULT;
     }
     if x.r < 2 {
         return 2;
@@ -96,10 +99,10 @@ fn positional_code(x: form_layout::Node) -> u8
     ensures { λ r. ⌜ r ≡ positionalCode (nodeOf x) ⌝ }
 {
     if 2 < x.p {
-        return 32;
+        return AT_FAULT;
     }
     if !unused(x.q, 0, x.lo, x.hi) {
-        return 32;
+        return AT_FAULT;
     }
     if x.r == 0 {
         return 2;
@@ -107,7 +110,7 @@ fn positional_code(x: form_layout::Node) -> u8
     if x.r == 2 {
         return 3;
     }
-    32
+    AT_FAULT
 }
 
 fn leaf_code(b: &[u8], x: form_layout::Node) -> u8
@@ -123,7 +126,7 @@ fn leaf_code(b: &[u8], x: form_layout::Node) -> u8
     if x.kind == 3 {
         return positional_code(x);
     }
-    32
+    AT_FAULT
 }
 
 // The numbers of kinds 4 to 8.
@@ -145,18 +148,18 @@ fn optional_code(c: u8) -> u8
 {
     let k = c % 16;
     if k == 0 {
-        return 32;
+        return AT_FAULT;
     }
     if k <= 3 {
         return c + 3;
     }
     if k < 7 {
-        return 32;
+        return AT_FAULT;
     }
     if k <= 9 {
         return c + 6;
     }
-    32
+    AT_FAULT
 }
 
 // A base or an optional base with no repeat beneath: many and some make a list of it, count a number, last itself.
@@ -164,10 +167,10 @@ fn repeat_code(kind: u32, c: u8) -> u8
     ensures { λ r. ⌜ r ≡ repeatCode kind c ⌝ }
 {
     if c == 0 {
-        return 32;
+        return AT_FAULT;
     }
     if 6 < c {
-        return 32;
+        return AT_FAULT;
     }
     if kind <= 6 {
         return c + 22;
@@ -183,7 +186,7 @@ fn wrap_code(x: form_layout::Node, c: u8) -> u8
     ensures { λ r. ⌜ r ≡ wrapCode (nodeOf x) c ⌝ }
 {
     if !child_good(x) {
-        return 32;
+        return AT_FAULT;
     }
     if x.kind == 4 {
         return optional_code(c);
@@ -196,14 +199,14 @@ fn choice_code(x: form_layout::Node, c: u8, d: u8) -> u8
     ensures { λ r. ⌜ r ≡ choiceCode (nodeOf x) c d ⌝ }
 {
     if !unused(0, x.r, x.lo, x.hi) {
-        return 32;
+        return AT_FAULT;
     }
     let k = c % 16;
     if k == 0 {
-        return 32;
+        return AT_FAULT;
     }
     if k != d % 16 {
-        return 32;
+        return AT_FAULT;
     }
     if 16 <= c {
         return c;
@@ -229,46 +232,46 @@ fn fallback_code(b: &[u8], x: form_layout::Node, c: u8) -> u8
     ensures { λ r. ⌜ r ≡ fallbackCode (readForm (now (b .entry))) (nodeOf x) c ⌝ }
 {
     if x.q != 0 {
-        return 32;
+        return AT_FAULT;
     }
     let k = c % 16;
     if k == 2 {
         if !unused(0, 0, x.lo, x.hi) {
-            return 32;
+            return AT_FAULT;
         }
         if text_name(b, x.r) {
             return c;
         }
-        return 32;
+        return AT_FAULT;
     }
     if !unused(0, x.r, 0, x.hi) {
-        return 32;
+        return AT_FAULT;
     }
     if k == 1 {
         if 1 < x.lo {
-            return 32;
+            return AT_FAULT;
         }
         return c;
     }
     if k == 3 {
         return c;
     }
-    32
+    AT_FAULT
 }
 
 fn guard_code(x: form_layout::Node, c: u8) -> u8
     ensures { λ r. ⌜ r ≡ guardCode (nodeOf x) c ⌝ }
 {
     if !unused(x.q, x.r, 0, 0) {
-        return 32;
+        return AT_FAULT;
     }
     if x.hi < x.lo {
-        return 32;
+        return AT_FAULT;
     }
     if c % 16 == 3 {
         return c;
     }
-    32
+    AT_FAULT
 }
 
 // Kinds 4 and above, from the codes of the children, c and d.
@@ -288,7 +291,7 @@ fn inner_code(b: &[u8], x: form_layout::Node, c: u8, d: u8) -> u8
     if x.kind == 11 {
         return guard_code(x, c);
     }
-    32
+    AT_FAULT
 }
 
 // A table of codes in which none is known: 0 is no code.

@@ -9,6 +9,15 @@ ghost use Rattle.rules.specs.Accept.{lengthGood};
 ghost use Rattle.form_names.specs.Names.{nameOf};
 ghost use Rattle.form_layout.specs.Layout.{nodeOf, within, HasName, nameBytesAt};
 
+// The most nodes, fields, name records and bytes of their area that a form has.
+const NODES: usize = 64;
+
+const FIELDS: usize = 16;
+
+const NAMES: usize = 128;
+
+const AREA: usize = 4096;
+
 // A node's numbers, as the form has them.
 pub struct Node {
     pub kind: u32,
@@ -62,16 +71,16 @@ fn counts_good(b: &[u8]) -> bool
     if b.len() < 8 {
         return false;
     }
-    if !within(1, node_count(b), 64) {
+    if !within(1, node_count(b), NODES) {
         return false;
     }
-    if !within(1, field_count(b), 16) {
+    if !within(1, field_count(b), FIELDS) {
         return false;
     }
-    if 128 < name_count(b) {
+    if NAMES < name_count(b) {
         return false;
     }
-    area_length(b) <= 4096
+    area_length(b) <= AREA
 }
 
 // Where the nodes, the names and the area start.

@@ -13,6 +13,11 @@ ghost use Rattle.split_arg.specs.Clusters.{letters, LooksUp, Disambiguat
 ghost use Rattle.split_arg.specs.Items.{bitOf, partOf, recordOf, recordAt, itemOf};
 use utf8::Decoded;
 
+// The most items that a line has, and the words of their records.
+pub const ITEMS: usize = 256;
+
+pub const ITEM_WORDS: usize = 1792;
+
 // What `split_os_argument` finds. A short name begins at byte 1 of the argument and a long one at byte 2; `name` is how many
 // bytes it has, and `body` where the value begins.
 pub enum Parts {

@@ -10,9 +10,15 @@ ghost use Rattle.state_marks.specs.Lent.{rawOf};
 ghost use Rattle.split_args.specs.Construct.{groupAt, markerAfter, plainArgument, startingState};
 ghost use Rattle.split_args.specs.Construct.{MarkerWithin, Unmarked, SheetAndRoom, SheetAndZeros, SplitEnds};
 use rules::State;
+use split_arg::ITEMS;
 use split_group::Group;
 use state_marks::MARKER;
 use state_marks::Numbers;
+
+// The refusals of splitting: more items than have room, and a letter that is a flag's and an argument's.
+const TOO_MANY: u32 = 8;
+
+const AMBIGUOUS: u32 = 9;
 
 // How splitting ended: 0, 8 or 9; the place of 9 plus 1; how many items there are; the place of the first `--` plus 1. A place
 // is 0 for none.
@@ -63,10 +69,10 @@ fn split_arguments(sheet: &[u8], flags: &[u32], arguments: &[u32], items: &mut [
         let os = wire::entry(sheet, 2, n, k);
         let group = next_group(os, begin, marker, flags, arguments, items, at);
         let count = group.count;
-        if 256 - at < count {
+        if ITEMS - at < count {
             wire::fill(items, 0, 7 * at, 0);
             return Ended {
-                number: 8,
+                number: TOO_MANY,
                 place: 0,
                 count: 0,
                 marker: 0,
@@ -75,7 +81,7 @@ fn split_arguments(sheet: &[u8], flags: &[u32], arguments: &[u32], items: &mut [
         let ambiguous = group.ambiguous;
         if 0 < ambiguous {
             return Ended {
-                number: 9,
+                number: AMBIGUOUS,
                 place: (at + ambiguous) as u32,
                 count: (at + count) as u32,
                 marker: 0,

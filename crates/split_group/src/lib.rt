@@ -11,6 +11,7 @@ ghost use Rattle.rules.specs.Split.{PosWord, plain, dash, wordGroup, shortGroup
 ghost use Rattle.split_arg.specs.Items.{partOf, recordOf};
 ghost use Rattle.split_arg.specs.Clusters.{letters};
 ghost use Rattle.split_group.specs.Groups.{firstLetters, flagWords, ArgumentFits, ClusterIn, ValueIn, Flags, Puts, Makes, MakesValue};
+use split_arg::ITEMS;
 use split_arg::Item;
 use split_arg::Outcome;
 use split_arg::Part;
@@ -64,7 +65,7 @@ fn put_one(items: &mut [u32], at: usize, item: Item) -> Group
         ambiguous: 0,
         marker: false,
     };
-    if at == 256 {
+    if at == ITEMS {
         return group;
     }
     split_arg::write_item(items, at, item);
@@ -97,7 +98,7 @@ fn put_flags(name: &[u8], before: usize, whole: Part, items: &mut [u32], at: usi
         ambiguous: 0,
         marker: false,
     };
-    if 256 - at < before {
+    if ITEMS - at < before {
         return group;
     }
     write_flags(name, before, whole, items, at);
@@ -122,7 +123,7 @@ fn put_flags_one(
         ambiguous,
         marker: false,
     };
-    if 256 - at <= before {
+    if ITEMS - at <= before {
         return group;
     }
     write_flags(name, before, whole, items, at);
@@ -148,7 +149,7 @@ fn put_flags_two(
         ambiguous: 0,
         marker: false,
     };
-    if 256 - at <= before + 1 {
+    if ITEMS - at <= before + 1 {
         return group;
     }
     write_flags(name, before, whole, items, at);

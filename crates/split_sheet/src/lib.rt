@@ -4,22 +4,32 @@ ghost use Rattle.wire.specs.Wire.{offset, entryOf};
 ghost use Rattle.rules.specs.Sheet.{argumentCount, sheetFault};
 ghost use Rattle.split_sheet.specs.Checked.{HasArgument, HasOffset};
 
+// The most arguments that a sheet has, and the most bytes of their area.
+const ARGUMENTS: usize = 256;
+
+const AREA: usize = 32768;
+
+// The refusals: of the table and the area, and of the count.
+const BAD_SHEET: u32 = 5;
+
+const TOO_MANY: u32 = 6;
+
 // 0 if the sheet is well made. 6 stands before the faults of the offsets: the count is read first.
 pub fn check(s: &[u8]) -> u32
     ensures { λ r. ⌜ r ≡ sheetFault (now (s .entry)) ⌝ }
 {
     if s.len() < 2 {
-        return 5;
+        return BAD_SHEET;
     }
     let count = wire::u16_at(s, 0) as usize;
-    if count > 256 {
-        return 6;
+    if count > ARGUMENTS {
+        return TOO_MANY;
     }
     if !wire::table_good(s, 2, count) {
-        return 5;
+        return BAD_SHEET;
     }
-    if s.len() - wire::area_start(2, count) > 32768 {
-        return 5;
+    if s.len() - wire::area_start(2, count) > AREA {
+        return BAD_SHEET;
     }
     0
 }
