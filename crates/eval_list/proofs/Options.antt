@@ -92,7 +92,7 @@ module _
     {ran : Ran}
     (h : (t : Tree) → treeAt b child ≡ some t → Writes mark (sheetArea s) items t m p m′ o at o′ ran)
   where
-    abbrev state : takes.Ready (sheetArea s) items m p mark
+    abbrev state : takes.CanTake (sheetArea s) items m p mark
     state = r .below .stands .state
 
     abbrev own : Writes mark (sheetArea s) items (r .below .stands .tree) m p m′ o at o′ ran

@@ -110,7 +110,7 @@ module _
     (t : Tree)
     (m : List ℕ)
     (p : Numbers)
-    (state : takes.Ready area items m p mark)
+    (state : takes.CanTake area items m p mark)
     (m′ o : List ℕ)
     (at : ℕ)
     (o′ : List ℕ)

@@ -70,6 +70,6 @@ pub record Begins (b codes s words m : List ℕ) (p : Numbers) (o : List ℕ) : 
   pub accepts : checkForm b ≡ accepted result
   pub coded : CodedNames b codes
   pub made : sheetFault s ≡ 0
-  pub state : takes.Ready (sheetArea s) words m p 1
+  pub state : takes.CanTake (sheetArea s) words m p 1
   pub room : 8240 ≤ length o
   pub zeros : (k : ℕ) → getD o k 0 ≡ 0
