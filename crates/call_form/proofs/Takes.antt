@@ -29,7 +29,7 @@ use Rattle.form_layout.specs.Layout.{GoodNames}
 use Rattle.form_codes.specs.Codes.{CodedNames}
 use Rattle.take_search.specs.Items.{partBytes}
 use Rattle.take_search.specs.Search.{HasNames}
-use Rattle.take.specs.Takes.{Ready, Items, TakesFlag, TakesArg, TakesCmd, valueOf}
+use Rattle.take.specs.Takes.{CanTake, Items, TakesFlag, TakesArg, TakesCmd, valueOf}
 use Rattle.take.specs.declared.Flag.{Flag}
 use Rattle.take.specs.declared.Value.{Value}
 use Rattle.take.specs.declared.Value.the-variants.{Missing, Taken as Value·Taken, NoArgument}
@@ -56,7 +56,7 @@ module _ (sheet words : List ℕ) (x : Raw) (g : HasState sheet words x) where
   pub sheet-made : sheetFault sheet ≡ 0
   sheet-made = g .table .made
 
-  ready : (mark : ℕ) → parsed mark ≡ true → (p : Numbers) → p ≡ numbersOf x → Ready (sheetArea sheet) words (x .marks) p mark
+  ready : (mark : ℕ) → parsed mark ≡ true → (p : Numbers) → p ≡ numbersOf x → CanTake (sheetArea sheet) words (x .marks) p mark
   ready mark told p e =
       let h = g .table .holds in
       rw e (record {
@@ -67,10 +67,10 @@ module _ (sheet words : List ℕ) (x : Raw) (g : HasState sheet words x) where
         told = told;
       })
 
-  pub field-ready : (p : Numbers) → p ≡ numbersOf x → Ready (sheetArea sheet) words (x .marks) p fieldMark
+  pub field-ready : (p : Numbers) → p ≡ numbersOf x → CanTake (sheetArea sheet) words (x .marks) p fieldMark
   field-ready = ready fieldMark field-parsed
 
-  pub command-ready : (p : Numbers) → p ≡ numbersOf x → Ready (sheetArea sheet) words (x .marks) p commandMark
+  pub command-ready : (p : Numbers) → p ≡ numbersOf x → CanTake (sheetArea sheet) words (x .marks) p commandMark
   command-ready = ready commandMark command-parsed
 
 -- ---- what is handed back
@@ -167,7 +167,7 @@ module _ (k : ℕ) (told : parsed k ≡ true) (is : List Item) (s : State) (g : 
 
 pub arg-small :
     (mark : ℕ) (area words : List ℕ) (n : Named) (adjacent : Bool) (m : List ℕ) (p : Numbers) (m′ : List ℕ) (t : Argument)
-    → Ready area words m p mark
+    → CanTake area words m p mark
     → TakesArg mark area words n adjacent m p m′ t
     → SmallValue (t .value)
 unfolding took

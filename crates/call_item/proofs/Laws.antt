@@ -35,7 +35,7 @@ use Rattle.state_value.specs.Options.{conflictOf}
 use Rattle.state_value.specs.declared.ConflictOption.{ConflictOption}
 use Rattle.state_value.proofs.Given.{given-fine}
 use Rattle.take_search.specs.Items.{Table, partBytes}
-use Rattle.take.specs.Takes.{Ready, TakesPositional, operandOf}
+use Rattle.take.specs.Takes.{CanTake, TakesPositional, operandOf}
 use Rattle.take.specs.declared.Positional.{Positional}
 use Rattle.take.specs.declared.Operand.the-variants.{Missing, Taken}
 use Rattle.call_table.specs.Given.{Gives, HasState, GivesState}
@@ -128,7 +128,7 @@ module _ (s words : List ℕ) (x : Raw) (n : ℕ) (g : GivesState s words x n) w
   positional-refused h = state-answer-refused s words x _ operandCode n g h
 
   module _ (e : n ≡ 0) where
-    pub positional-ready : (p : Numbers) → p ≡ numbersOf x → Ready (sheetArea s) words (x .marks) p fieldMark
+    pub positional-ready : (p : Numbers) → p ≡ numbersOf x → CanTake (sheetArea s) words (x .marks) p fieldMark
     positional-ready p q =
         let h = g .good e in
         rw q (record {

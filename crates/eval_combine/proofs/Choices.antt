@@ -23,7 +23,7 @@ use Rattle.state_marks.specs.declared.Numbers.{Numbers}
 use Rattle.state_marks.specs.declared.Picked.{Picked as Pair}
 use Rattle.state_marks.specs.Lent.{stateOf, Fine, pickOf}
 use Rattle.state_marks.proofs.Laws.{fine-long, marked-is, marked-whole, marked-fine}
-use Rattle.take.specs.Takes.{Left}
+use Rattle.take.specs.Takes.{LeftState}
 use Rattle.take.proofs.Laws.{left-same}
 use Rattle.eval_error.specs.Refusals.{refusedOf, refusalOf, refused-refusal}
 use Rattle.eval_structs.specs.declared.Pick.{Pick}
@@ -88,7 +88,7 @@ module _ (m l : List ℕ) (q q′ : Numbers) (n place : ℕ) (c : q .count ≡ n
       ∙ won-is m l q q′ place f (c′ ∙ sym c)
       ∙ ap (λ (k : ℕ). stateOf (wonMarks place k m l) q) c
 
-  won-left : (before : List ℕ) (p : Numbers) → Left before p m q → n ≡ p .count → place ≤ n → Left before p (wonMarks place n m l) q
+  won-left : (before : List ℕ) (p : Numbers) → LeftState before p m q → n ≡ p .count → place ≤ n → LeftState before p (wonMarks place n m l) q
   won-left before p h e i =
       let z : q′ .count ≡ q .count = c′ ∙ sym c in
       record {

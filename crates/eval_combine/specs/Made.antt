@@ -16,7 +16,7 @@ use Rattle.rules.specs.Eval.{Ran as Run, evalOptional, evalFallback, evalGuard,
 use Rattle.rules.specs.declared.Refused.{Refused}
 use Rattle.state_marks.specs.declared.Numbers.{Numbers}
 use Rattle.state_marks.specs.Lent.{stateOf, Fine, pickOf}
-use Rattle.take.specs.Takes.{Left}
+use Rattle.take.specs.Takes.{LeftState}
 use Rattle.eval_structs.specs.declared.Counting.the-variants.{Absent}
 use Rattle.eval_structs.specs.Decisions.{countedOf, optionWay}
 use Rattle.eval_told.specs.declared.Ran.{Ran}
@@ -38,7 +38,7 @@ missingOf p = refusalOf 20 0 1 p
 -- a child's result, and what it left of the state that it was given
 pub record Given (before : List ℕ) (p : Numbers) (m : List ℕ) (ran : Ran) : Type 0 where
   pub fine : Fine before p
-  pub left : Left before p m (ran .numbers)
+  pub left : LeftState before p m (ran .numbers)
   pub short : ran .len < 1000
 
 -- ---- optional: 1 in front of the words of a value that is present, or 0
@@ -49,7 +49,7 @@ pub record OptionalOf (catch : Bool) (before : List ℕ) (p : Numbers) (ran : Ra
   pub same : (R : Run Value) (w : List ℕ) → Numbered (R .outcome) → told R ≡ some (toldWith ran m w)
       → told (evalOptional catch (stateOf before p) R)
       ≡ some (toldWith (r .ran) m′ (optionalWords (r .ran .number) (r .present) w))
-  pub left : Left before p m′ (r .ran .numbers)
+  pub left : LeftState before p m′ (r .ran .numbers)
   pub present : r .ran .number ≡ 0 → r .present ≡ true → (r .ran .len ≡ ran .len + 1) × (r .ran .word ≡ ran .word)
   pub absent : r .ran .number ≡ 0 → r .present ≡ false → (r .ran .len ≡ 1) × (r .ran .word ≡ 0)
   pub refused : (r .ran .number ≡ 0 → ⊥) → (r .ran .len ≡ 0) × (r .present ≡ false)
@@ -62,14 +62,14 @@ Undone catch before p m ran =
 -- ---- fallback, whose own value is this word
 pub record Returned (before : List ℕ) (p : Numbers) (m : List ℕ) (ran : Ran) : Type 0 where
   pub fine : Fine before p
-  pub left : Left before p m (ran .numbers)
+  pub left : LeftState before p m (ran .numbers)
 
 pub record FallbackOf (word : ℕ) (before : List ℕ) (p : Numbers) (ran : Ran) (m m′ : List ℕ) (r : Ran) : Type 0 where
   pub same : (v : BaseValue) → values.word v ≡ word
       → (R : Run Value) (w : List ℕ) → Numbered (R .outcome) → told R ≡ some (toldWith ran m w)
       → w ≡ scalarWords (ran .len) (ran .word)
       → told (evalFallback v (stateOf before p) R) ≡ some (answered r m′)
-  pub left : Left before p m′ (r .numbers)
+  pub left : LeftState before p m′ (r .numbers)
 
 -- a refused child left the marks as they were
 abbrev pub Unchanged : List ℕ → List ℕ → Ran → Type 0
@@ -89,8 +89,8 @@ choiceWords number first a b = if eqb number 0 then (if first then a else b) els
 -- both results, and what each left of the state that both were given
 pub record Sides (before : List ℕ) (p : Numbers) (first : List ℕ) (x : Ran) (m : List ℕ) (y : Ran) : Type 0 where
   pub fine : Fine before p
-  pub one : Left before p first (x .numbers)
-  pub other : Left before p m (y .numbers)
+  pub one : LeftState before p first (x .numbers)
+  pub other : LeftState before p m (y .numbers)
   pub few : x .tries + y .tries < 2 ^ 32
 
 pub record ChoiceOf (before : List ℕ) (p : Numbers) (first : List ℕ) (x : Ran) (m : List ℕ) (y : Ran) (m′ : List ℕ) (r : Chosen) : Type 0 where
@@ -99,7 +99,7 @@ pub record ChoiceOf (before : List ℕ) (p : Numbers) (first : List ℕ) (x : Ra
       → told B ≡ some (toldWith y m b)
       → told (evalChoice (stateOf before p) A B)
       ≡ some (toldWith (r .ran) m′ (choiceWords (r .ran .number) (r .first) a b))
-  pub left : Left before p m′ (r .ran .numbers)
+  pub left : LeftState before p m′ (r .ran .numbers)
   pub one : r .ran .number ≡ 0 → r .first ≡ true → (r .ran .len ≡ x .len) × (r .ran .word ≡ x .word)
   pub other : r .ran .number ≡ 0 → r .first ≡ false → (r .ran .len ≡ y .len) × (r .ran .word ≡ y .word)
   pub refused : (r .ran .number ≡ 0 → ⊥) → (r .ran .len ≡ 0) × (r .ran .word ≡ 0)

@@ -98,7 +98,7 @@ module _
     abbrev at : ℕ
     at = child .at
 
-    abbrev state : takes.Ready (sheetArea s) items m p mark
+    abbrev state : takes.CanTake (sheetArea s) items m p mark
     state = r .below .stands .state
 
     abbrev own : Writes mark (sheetArea s) items (r .below .stands .tree) m p m′ o at o′ ran

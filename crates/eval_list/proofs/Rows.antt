@@ -116,7 +116,7 @@ module _
     (t : Tree)
     (m : List ℕ)
     (p : Numbers)
-    (state : takes.Ready area items m p (child .mark))
+    (state : takes.CanTake area items m p (child .mark))
     (m′ o o′ : List ℕ)
     (all : Repeated)
     (h : Repeats (child .mark) area items t (written catch child) m p m′ o o′ all)

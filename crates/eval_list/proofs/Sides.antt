@@ -65,7 +65,7 @@ module _
     abbrev at : ℕ
     at = left .at
 
-    abbrev state : takes.Ready (sheetArea s) items m p mark
+    abbrev state : takes.CanTake (sheetArea s) items m p mark
     state = r .first .stands .state
 
     abbrev one : Writes mark (sheetArea s) items (r .first .stands .tree) m p m₁ o at o₁ x

@@ -15,7 +15,7 @@ use Rattle.rules.specs.Eval.{eval}
 use Rattle.rules.specs.Sound.{Sound}
 use Rattle.state_marks.specs.declared.Numbers.{Numbers}
 use Rattle.state_marks.specs.Lent.{stateOf}
-use Rattle.take.specs.Takes.{Left, Items}
+use Rattle.take.specs.Takes.{LeftState, Items}
 use Rattle.eval_told.specs.declared.Ran.{Ran}
 use Rattle.eval_told.specs.Told.{told, toldWith}
 use Rattle.eval_told.specs.Nodes.{treeAt, isScalar, Standing, Scalar}
@@ -36,7 +36,7 @@ pub record Writes (mark : ℕ) (area words : List ℕ) (t : Tree) (m : List ℕ)
   pub len : r .len ≡ length value
   pub put : o′ ≡ sets o at value
   pub fits : length value ≤ 515
-  pub left : Left m p m′ (r .numbers)
+  pub left : LeftState m p m′ (r .numbers)
 
 -- of a field, for the tree of its node
 abbrev pub WritesField : List ℕ → List ℕ → List ℕ → Field → List ℕ → Numbers → List ℕ → List ℕ → List ℕ → Ran → Type 0

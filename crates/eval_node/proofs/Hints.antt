@@ -32,7 +32,7 @@ use Rattle.state_marks.specs.Lent.{stateOf, Fine}
 use Rattle.state_marks.proofs.Laws.{fine-long, mark-at}
 use Rattle.state_marks.proofs.Marks.{present-at}
 use Rattle.take_search.proofs.Search.{NoneIn, found-first}
-use Rattle.take.specs.Takes.{Ready, Skips, Left}
+use Rattle.take.specs.Takes.{CanTake, Skips, LeftState}
 use Rattle.take.proofs.Laws.{skip-none}
 use Rattle.eval_shortcut.specs.Children.{Hint}
 use Rattle.eval_node.specs.Values.{nextFrom}
@@ -265,7 +265,7 @@ lent-present m p f k h =
     let l = fine-long m p f in
     mark-present (take (p .count) m) k (getD m k 0) (mark-at m (p .count) k h l) ∙ sym (present-at m k (omega arith))
 
-module _ (area words m : List ℕ) (p : Numbers) (mark : ℕ) (z : Ready area words m p mark) (m′ : List ℕ) (q : Numbers) (left : Left m p m′ q)
+module _ (area words m : List ℕ) (p : Numbers) (mark : ℕ) (z : CanTake area words m p mark) (m′ : List ℕ) (q : Numbers) (left : LeftState m p m′ q)
     (step : Step (length (z .items)) (stateOf m p) (stateOf m′ q)) where
   start-kept : q .start ≡ p .start
   unfolding stateOf fromRaw

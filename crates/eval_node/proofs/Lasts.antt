@@ -22,7 +22,7 @@ use Rattle.rules.proofs.Steps.{most}
 use Rattle.rules.proofs.Went.{Fine, Went, went-weaker, went-cost}
 use Rattle.state_marks.specs.declared.Numbers.{Numbers}
 use Rattle.state_marks.specs.Lent.{stateOf}
-use Rattle.take.specs.Takes.{Ready, Left, Items}
+use Rattle.take.specs.Takes.{CanTake, LeftState, Items}
 use Rattle.eval_told.specs.declared.Ran.{Ran}
 use Rattle.eval_told.specs.Told.{told, Numbered, scalarWords, answered}
 use Rattle.eval_told.specs.Nodes.{treeAt, Scalar}
@@ -116,7 +116,7 @@ module _
               ∙ ap (λ (w : List ℕ). some (listTold (listed all m′ (answer .values)) w)) (answer .last)
 
         -- the state that the repeat left
-        abbrev after-ready : Ready (sheetArea s) ws m′ (all .numbers) mark
+        abbrev after-ready : CanTake (sheetArea s) ws m′ (all .numbers) mark
         after-ready = record {
           items = z .stands .state .items;
           table = z .stands .state .table;
@@ -155,7 +155,7 @@ module _
               (sym (answer .count) ∙ c)
               (child-told b known s ws m′ (all .numbers) mark n last-ready m″ ran said is (i .0, i .1 ∙ sym (answer .left .count)))
 
-          last-left : Left m p m″ (ran .numbers)
+          last-left : LeftState m p m″ (ran .numbers)
           last-left =
               let l = child-left b known s ws m′ (all .numbers) mark n last-ready m″ ran said in
               record { count = l .count ∙ answer .left .count; long = l .long ∙ answer .left .long; fine = l .fine }
@@ -217,7 +217,7 @@ module _ (b known s ws m : List ℕ) (p : Numbers) (mark n : ℕ) (z : Wraps Las
       last-wraps :
           (m″ : List ℕ) (r : Ran)
           → ((is : List Item) → Items (sheetArea s) ws p is → told (evalLast (eval mark is (z .below .stands .tree)) (stateOf m p)) ≡ some (answered r m″))
-          → Left m p m″ (r .numbers)
+          → LeftState m p m″ (r .numbers)
           → Wrapped Last mark b s ws n m p m″ r
       unfolding eval
       last-wraps m″ r h l =

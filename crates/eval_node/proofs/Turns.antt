@@ -26,7 +26,7 @@ use Rattle.eval_structs.specs.Decisions.{withRemaining, countedOf, optionWay}
 use Rattle.eval_structs.specs.Laws.{counted-none, counted-some, idle-remaining}
 use Rattle.state_marks.specs.declared.Numbers.{Numbers}
 use Rattle.state_marks.specs.Lent.{stateOf}
-use Rattle.take.specs.Takes.{Ready, Left, Items}
+use Rattle.take.specs.Takes.{CanTake, LeftState, Items}
 use Rattle.take.proofs.Laws.{left-same}
 use Rattle.eval_told.specs.declared.Ran.{Ran}
 use Rattle.eval_told.specs.Told.{told, Numbered, scalarWords, answered}
@@ -218,7 +218,7 @@ pub record Turning (b known sh ws m₀ : List ℕ) (how : Repeat) (o₀ : List �
   pub ahead : (l : ℕ) → l ≤ s .remaining → fewer l (countedOf last) ≡ true → l < bound
   pub more : bound < fuel
   pub few : length values + bound ≤ 257
-  pub left : Left m₀ p m s
+  pub left : LeftState m₀ p m s
   pub hint : Hint (asked .below .stands .tree) (sheetArea sh) ws m s from
   pub kept : Kept (how .writes) (how .at) o₀ o values all
 
@@ -285,7 +285,7 @@ module _ (b known sh ws m₀ : List ℕ) (how : Repeat) (o₀ : List ℕ) (mark 
       abbrev run : State → Run Value
       run = eval mark items tree
 
-      abbrev ready : Ready (sheetArea sh) ws m s mark
+      abbrev ready : CanTake (sheetArea sh) ws m s mark
       ready = record {
         items = items;
         table = i .asked .below .stands .state .table;
@@ -344,7 +344,7 @@ module _ (b known sh ws m₀ : List ℕ) (how : Repeat) (o₀ : List ℕ) (mark 
             let k : run (stateOf m s) .tries ≤ leaves tree = rw (i .asked .flat) at (ran-runs .cost) in
             omega (arith, i .asked .below .stands .light)
 
-        ran-left : Left m₀ p m′ (ran .numbers)
+        ran-left : LeftState m₀ p m′ (ran .numbers)
         ran-left =
             let l = child-left b known sh ws m s mark n turn-ready m′ ran said in
             record { count = l .count ∙ i .left .count; long = l .long ∙ i .left .long; fine = l .fine }
@@ -398,7 +398,7 @@ module _ (b known sh ws m₀ : List ℕ) (how : Repeat) (o₀ : List ℕ) (mark 
             → length vs ≤ 257
             → length (flatten vs) ≤ 514
             → r .tries ≤ 16512
-            → Left m₀ p m″ (r .numbers)
+            → LeftState m₀ p m″ (r .numbers)
             → Answers m″ o′ r
         answers m″ o′ r vs e c z l w few fits cost left t q =
             let u = Option·some-injective tree t (sym (i .asked .below .stands .node) ∙ q) in
@@ -433,7 +433,7 @@ module _ (b known sh ws m₀ : List ℕ) (how : Repeat) (o₀ : List ℕ) (mark 
         written : writes ≡ true → all .size ≡ length (allWords (i .values))
         written t = if-size writes (all .size) (length (allWords (i .values))) t (i .kept .size)
 
-        ends : (m″ : List ℕ) (q : Numbers) (r : Repeated) → r ≡ endedWith all (ran .tries) q → Ended (stateOf m″ q) → Left m₀ p m″ q → Answers m″ o r
+        ends : (m″ : List ℕ) (q : Numbers) (r : Repeated) → r ≡ endedWith all (ran .tries) q → Ended (stateOf m″ q) → LeftState m₀ p m″ q → Answers m″ o r
         unfolding Ended
         ends m″ q r e w l =
             rw e

@@ -12,7 +12,7 @@ use Rattle.rules.specs.Split.{Item}
 use Rattle.rules.specs.Eval.{repeated, eval}
 use Rattle.state_marks.specs.declared.Numbers.{Numbers}
 use Rattle.state_marks.specs.Lent.{stateOf}
-use Rattle.take.specs.Takes.{Left, Items}
+use Rattle.take.specs.Takes.{LeftState, Items}
 use Rattle.eval_told.specs.Told.{scalarWords}
 use Rattle.eval_told.specs.Nodes.{Scalar}
 use Rattle.eval_told.specs.Lists.{ToldList, toldList, lastWords}
@@ -52,4 +52,4 @@ pub record Repeats (mark : ℕ) (area words : List ℕ) (t : Tree) (how : Repeat
   pub few : length values ≤ 257
   pub fits : length (flatten values) ≤ 514
   pub cost : r .tries ≤ 16512
-  pub left : Left m p m′ (r .numbers)
+  pub left : LeftState m p m′ (r .numbers)

@@ -31,7 +31,7 @@ use Rattle.take.specs.declared.Value.the-variants.{Missing, Taken as Value·Tak
 use Rattle.take.specs.declared.Argument.{Argument as TookArgument}
 use Rattle.take.specs.declared.Operand.the-variants.{Missing as Operand·Missing, Taken as Operand·Taken}
 use Rattle.take.specs.declared.Positional.{Positional as TookPositional}
-use Rattle.take.specs.Takes.{Items, valueOf, Unchanged, operandOf, TakesFlag, TakesArg, TakesPositional}
+use Rattle.take.specs.Takes.{Items, valueOf, ValueUnchanged, operandOf, TakesFlag, TakesArg, TakesPositional}
 use Rattle.eval_told.specs.declared.Ran.{Ran}
 use Rattle.eval_told.specs.Told.{told, scalarWords, Evaluates}
 use Rattle.eval_params.specs.Leaves.{valueRan, refusedRan, leafRun, Tells, refusalOf}
@@ -195,7 +195,7 @@ module _ (mark : ℕ) (area words m : List ℕ) (p : Numbers) (m′ : List ℕ) 
           → (n : ℕ) → Evaluates mark area words (Argument n names b adjacent) m p m′ q
       unfolding told leafRun eval evalArgument scalarWords if_then_else_
       argument-refused i h eq n =
-          let k : (m′ ≡ m) × (r .numbers ≡ p) = subst (Unchanged m p m′ (r .numbers)) h (d .unchanged) in
+          let k : (m′ ≡ m) × (r .numbers ≡ p) = subst (ValueUnchanged m p m′ (r .numbers)) h (d .unchanged) in
           rw (eq, add-one) (record {
             same = λ is t.
                 leaf-refused (Argument n names b adjacent) (stateOf m p) (takeArg mark is names adjacent (stateOf m p)) (argumentValue n names b) (refuse 22 (some i))

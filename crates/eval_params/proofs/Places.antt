@@ -20,7 +20,7 @@ use Rattle.take.specs.declared.Value.the-variants.{Taken as Value·Taken, NoArg
 use Rattle.take.specs.declared.Argument.{Argument}
 use Rattle.take.specs.declared.Operand.the-variants.{Taken as Operand·Taken}
 use Rattle.take.specs.declared.Positional.{Positional}
-use Rattle.take.specs.Takes.{Ready, valueOf, operandOf, TakesArg, TakesPositional}
+use Rattle.take.specs.Takes.{CanTake, valueOf, operandOf, TakesArg, TakesPositional}
 
 bind-was : {A B : Type 0} (o : Outcome A) (f : A → Outcome B) (b : B) → (o >>= f) ≡ ok b → (a : A) × (f a ≡ ok b)
 unfolding _>>=_
@@ -99,7 +99,7 @@ module _ (mark : ℕ) (is : List Item) (s : State) (g : Good (length is) s) wher
 
 -- ---- of the takes on lent marks
 
-module _ (mark : ℕ) (area words m : List ℕ) (p : Numbers) (g : Ready area words m p mark) (m′ : List ℕ) where
+module _ (mark : ℕ) (area words m : List ℕ) (p : Numbers) (g : CanTake area words m p mark) (m′ : List ℕ) where
   good : Good (length (g .items)) (stateOf m p)
   good = rw (g .same) (g .fine .good)
 

@@ -15,15 +15,15 @@ use Rattle.rules.specs.Eval.{Ran as Run}
 use Rattle.rules.specs.Sound.{isNamed}
 use Rattle.state_marks.specs.declared.Numbers.{Numbers}
 use Rattle.state_marks.specs.Lent.{stateOf}
-use Rattle.take_table.specs.Known.{Says}
-use Rattle.take.specs.Takes.{Ready}
+use Rattle.take_table.specs.Known.{TableTells}
+use Rattle.take.specs.Takes.{CanTake}
 use Rattle.eval_told.specs.declared.Ran.{Ran}
 use Rattle.eval_told.specs.Told.{told, answered, Evaluates}
 
 -- a leaf with one or more names, which the table of `known` tells by the node, and a state over the items of the words
 pub record Leaf (known area words m : List ℕ) (p : Numbers) (node mark : ℕ) (names : Named) (adjacent : Bool) : Type 0 where
-  pub state : Ready area words m p mark
-  pub says : Says known (p .end) node area words (matchesArg names adjacent)
+  pub state : CanTake area words m p mark
+  pub says : TableTells known (p .end) node area words (matchesArg names adjacent)
   pub named : isNamed names ≡ true
 
 -- ---- how a leaf ends, as numbers: always after one try

@@ -15,7 +15,7 @@ ghost use Rattle.rules.specs.Eval.{parseText, wrongPosition, placedValue};
 ghost use Rattle.state_marks.specs.Lent.{Fine};
 ghost use Rattle.take_search.specs.Items.{partBytes};
 ghost use Rattle.take_table.specs.Bits.{bitAt};
-ghost use Rattle.take.specs.Takes.{Ready, Reaches, Skips};
+ghost use Rattle.take.specs.Takes.{CanTake, HasBits, Skips};
 ghost use Rattle.eval_told.specs.Told.{Evaluates};
 ghost use Rattle.eval_params.specs.Leaves.{Leaf, valueRan, refusedRan, Tells, refusalOf};
 use eval_number::Number;
@@ -131,7 +131,7 @@ pub fn eval_flag(
     switch: bool,
     mark: u16,
 ) -> Ran
-    requires { ⌜ Fine (now marks) p × (isParsed mark ≡ true) × Reaches (now known) p node ⌝ }
+    requires { ⌜ Fine (now marks) p × (isParsed mark ≡ true) × HasBits (now known) p node ⌝ }
     ensures { λ r. ⌜ ((area words : List ℕ) (names : Named) → Leaf (now (known .entry)) area words (now (marks .entry)) p node mark names false → (n : ℕ) → Evaluates mark area words (Flag n names switch) (now (marks .entry)) p (now (marks .exit)) r) ⌝ }
 {
     let start = wide(p.start);
@@ -147,7 +147,7 @@ pub fn eval_flag_from(
     switch: bool,
     mark: u16,
 ) -> Ran
-    requires { ⌜ Fine (now marks) p × (isParsed mark ≡ true) × Reaches (now known) p node × (from ≤ p .end) ⌝ }
+    requires { ⌜ Fine (now marks) p × (isParsed mark ≡ true) × HasBits (now known) p node × (from ≤ p .end) ⌝ }
     ensures { λ r. ⌜ ((area words : List ℕ) (names : Named) → Leaf (now (known .entry)) area words (now (marks .entry)) p node mark names false → Skips area words (matchesArg names false) (now (marks .entry)) p from → (n : ℕ) → Evaluates mark area words (Flag n names switch) (now (marks .entry)) p (now (marks .exit)) r) ⌝ }
 {
     let taken = take::take_flag_known(known, marks, p, from, node, mark);
@@ -172,7 +172,7 @@ pub fn eval_argument(
     numeric: bool,
     mark: u16,
 ) -> Ran
-    requires { ⌜ (sheetFault (now sheet) ≡ 0) × Reaches (now known) p node × ((names : Named) × (adjacent : Bool) × Leaf (now known) (sheetArea (now sheet)) (now items) (now marks) p node mark names adjacent) ⌝ }
+    requires { ⌜ (sheetFault (now sheet) ≡ 0) × HasBits (now known) p node × ((names : Named) × (adjacent : Bool) × Leaf (now known) (sheetArea (now sheet)) (now items) (now marks) p node mark names adjacent) ⌝ }
     ensures { λ r. ⌜ ((names : Named) (adjacent : Bool) → Leaf (now (known .entry)) (sheetArea (now (sheet .entry))) (now (items .entry)) (now (marks .entry)) p node mark names adjacent → (n : ℕ) → Evaluates mark (sheetArea (now (sheet .entry))) (now (items .entry)) (Argument n names (if numeric then number else text) adjacent) (now (marks .entry)) p (now (marks .exit)) r) ⌝ }
 {
     let start = wide(p.start);
@@ -190,7 +190,7 @@ pub fn eval_argument_from(
     numeric: bool,
     mark: u16,
 ) -> Ran
-    requires { ⌜ (sheetFault (now sheet) ≡ 0) × Reaches (now known) p node × ((names : Named) × (adjacent : Bool) × Leaf (now known) (sheetArea (now sheet)) (now items) (now marks) p node mark names adjacent × Skips (sheetArea (now sheet)) (now items) (matchesArg names adjacent) (now marks) p from) ⌝ }
+    requires { ⌜ (sheetFault (now sheet) ≡ 0) × HasBits (now known) p node × ((names : Named) × (adjacent : Bool) × Leaf (now known) (sheetArea (now sheet)) (now items) (now marks) p node mark names adjacent × Skips (sheetArea (now sheet)) (now items) (matchesArg names adjacent) (now marks) p from) ⌝ }
     ensures { λ r. ⌜ ((names : Named) (adjacent : Bool) → Leaf (now (known .entry)) (sheetArea (now (sheet .entry))) (now (items .entry)) (now (marks .entry)) p node mark names adjacent → Skips (sheetArea (now (sheet .entry))) (now (items .entry)) (matchesArg names adjacent) (now (marks .entry)) p from → (n : ℕ) → Evaluates mark (sheetArea (now (sheet .entry))) (now (items .entry)) (Argument n names (if numeric then number else text) adjacent) (now (marks .entry)) p (now (marks .exit)) r) ⌝ }
 {
     let taken = take::take_arg_known(known, items, marks, p, from, node, mark);
@@ -213,7 +213,7 @@ pub fn eval_positional(
     numeric: bool,
     mark: u16,
 ) -> Ran
-    requires { ⌜ (sheetFault (now sheet) ≡ 0) × Ready (sheetArea (now sheet)) (now items) (now marks) p mark ⌝ }
+    requires { ⌜ (sheetFault (now sheet) ≡ 0) × CanTake (sheetArea (now sheet)) (now items) (now marks) p mark ⌝ }
     ensures { λ r. ⌜ ((n : ℕ) → Evaluates mark (sheetArea (now (sheet .entry))) (now (items .entry)) (Positional n (positionOf position) (if numeric then number else text)) (now (marks .entry)) p (now (marks .exit)) r) ⌝ }
 {
     let start = wide(p.start);
@@ -230,7 +230,7 @@ pub fn eval_positional_from(
     numeric: bool,
     mark: u16,
 ) -> Ran
-    requires { ⌜ (sheetFault (now sheet) ≡ 0) × Ready (sheetArea (now sheet)) (now items) (now marks) p mark × Skips (sheetArea (now sheet)) (now items) isOperand (now marks) p from ⌝ }
+    requires { ⌜ (sheetFault (now sheet) ≡ 0) × CanTake (sheetArea (now sheet)) (now items) (now marks) p mark × Skips (sheetArea (now sheet)) (now items) isOperand (now marks) p from ⌝ }
     ensures { λ r. ⌜ ((n : ℕ) → Evaluates mark (sheetArea (now (sheet .entry))) (now (items .entry)) (Positional n (positionOf position) (if numeric then number else text)) (now (marks .entry)) p (now (marks .exit)) r) ⌝ }
 {
     let taken = take::take_positional_word_from(items, marks, p, from, mark);

@@ -26,7 +26,7 @@ use Rattle.rules.proofs.KindLaws.{base-kind}
 use Rattle.rules.proofs.Steps.{most, EndsOne, Runs}
 use Rattle.state_marks.specs.declared.Numbers.{Numbers}
 use Rattle.state_marks.specs.Lent.{stateOf, Fine}
-use Rattle.take.specs.Takes.{Ready, Left, Items}
+use Rattle.take.specs.Takes.{CanTake, LeftState, Items}
 use Rattle.eval_told.specs.declared.Ran.{Ran}
 use Rattle.eval_told.specs.Told.{Told, told, Numbered, scalarWords, toldWith, answered, Evaluates}
 use Rattle.eval_told.specs.Nodes.{treeAt, isScalar, Scalar}
@@ -104,7 +104,7 @@ words-same : (l w len word : ℕ) → len ≡ l → word ≡ w → scalarWords l
 words-same l w len word e q = rw (e, q)
 
 -- ---- evaluations of sound trees
-module _ (mark : ℕ) (area words m : List ℕ) (p : Numbers) (z : Ready area words m p mark) (t : Tree) (w : Sound t) (is : List Item) (i : Items area words p is) where
+module _ (mark : ℕ) (area words m : List ℕ) (p : Numbers) (z : CanTake area words m p mark) (t : Tree) (w : Sound t) (is : List Item) (i : Items area words p is) where
   pub good-runs : Runs (length is) t (stateOf m p) (eval mark is t (stateOf m p))
   good-runs = eval-sound mark (z .told) is t w (stateOf m p) (subst (λ (k : ℕ). Good k (stateOf m p)) (sym (i .1)) (z .fine .good))
 
@@ -151,7 +151,7 @@ module _
     pub child-told : (is : List Item) → Items (sheetArea s) words p is → told (eval mark is tree (stateOf m p)) ≡ some (answered ran m₁)
     child-told is i = said tree (z .stands .node) .same is i
 
-    pub child-left : Left m p m₁ (ran .numbers)
+    pub child-left : LeftState m p m₁ (ran .numbers)
     child-left = said tree (z .stands .node) .left
 
     pub child-tries : ran .tries ≤ 16512
@@ -218,7 +218,7 @@ told-words : (r : Ran) (m : List ℕ) {v w : List ℕ} → v ≡ w → some (tol
 told-words r m e = ap (λ (u : List ℕ). some (toldWith r m u)) e
 
 -- the run inside a node's evaluation
-module _ (mark : ℕ) (area words m : List ℕ) (p : Numbers) (z : Ready area words m p mark) (t : Tree) (w : Sound t) (is : List Item) (i : Items area words p is) where
+module _ (mark : ℕ) (area words m : List ℕ) (p : Numbers) (z : CanTake area words m p mark) (t : Tree) (w : Sound t) (is : List Item) (i : Items area words p is) where
   pub inside : (r : Run Value) → eval mark is t (stateOf m p) ≡ visit t (stateOf m p) r → told (eval mark is t (stateOf m p)) ≡ told r
   inside r e = ap told e ∙ visit-told t (stateOf m p) r
 
@@ -364,7 +364,7 @@ module _
         wrapped (Guard lo hi) b s words n m p mark m₁ r (z .below .stands .tree) (z .below .stands .node)
         (record {
           same = guard-same;
-          left = subst (λ (q : Numbers). Left m p m₁ q) (sym (h .numbers)) (child-left b known s words m p mark n (z .below) m₁ ran said);
+          left = subst (λ (q : Numbers). LeftState m p m₁ q) (sym (h .numbers)) (child-left b known s words m p mark n (z .below) m₁ ran said);
         })
 
 -- ---- a choice
@@ -474,7 +474,7 @@ module _
 
     fallen : (m′ : List ℕ) (r : Ran)
         → ((is : List Item) → Items (sheetArea s) words p is → told (evalFallback (z .own) (stateOf m p) (eval mark is (z .below .stands .tree) (stateOf m p))) ≡ some (answered r m′))
-        → Left m p m′ (r .numbers)
+        → LeftState m p m′ (r .numbers)
         → Says b s words m p mark k m′ r
     unfolding eval
     fallen m′ r f l =

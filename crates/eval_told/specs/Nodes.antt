@@ -30,7 +30,7 @@ pub record Standing (b known s words m : List ℕ) (p : Numbers) (mark n : ℕ) 
   pub node : treeAt b n ≡ some tree
   pub light : leaves tree ≤ 64
   pub made : sheetFault s ≡ 0
-  pub state : takes.Ready (sheetArea s) words m p mark
+  pub state : takes.CanTake (sheetArea s) words m p mark
   pub knows : Known b (sheetArea s) words (length (state .items)) known
 
 -- whose value is no list

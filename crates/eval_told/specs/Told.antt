@@ -14,7 +14,7 @@ use Rattle.rules.specs.State.{State}
 use Rattle.rules.specs.Eval.{Ran as Run, eval}
 use Rattle.state_marks.specs.declared.Numbers.{Numbers}
 use Rattle.state_marks.specs.Lent.{stateOf}
-use Rattle.take.specs.Takes.{Left, Items}
+use Rattle.take.specs.Takes.{LeftState, Items}
 use Rattle.eval_told.specs.declared.Ran.{Ran}
 
 pub record Told : Type 0 where
@@ -61,4 +61,4 @@ answered r m = toldWith r m (scalarWords (r .len) (r .word))
 -- the evaluation of a node whose value is no list: from marks and numbers to those that it left
 pub record Evaluates (mark : ℕ) (area words : List ℕ) (t : Tree) (m : List ℕ) (p : Numbers) (m′ : List ℕ) (r : Ran) : Type 0 where
   pub same : (is : List Item) → Items area words p is → told (eval mark is t (stateOf m p)) ≡ some (answered r m′)
-  pub left : Left m p m′ (r .numbers)
+  pub left : LeftState m p m′ (r .numbers)

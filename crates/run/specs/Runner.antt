@@ -71,7 +71,7 @@ pub record Begins (b codes s words m : List ℕ) (p : Numbers) (first : ℕ) (o 
   pub accepts : checkForm b ≡ accepted result
   pub coded : CodedNames b codes
   pub made : sheetFault s ≡ 0
-  pub state : takes.Ready (sheetArea s) words m p parsedMark
+  pub state : takes.CanTake (sheetArea s) words m p parsedMark
   pub small : first ≤ 4096
   pub room : 8240 ≤ length o
   pub zeros : (k : ℕ) → getD o k 0 ≡ 0

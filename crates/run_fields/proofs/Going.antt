@@ -29,7 +29,7 @@ use Rattle.rules.proofs.Places.{drop-below}
 use Rattle.rules.proofs.Steps.{Runs, most}
 use Rattle.state_marks.specs.declared.Numbers.{Numbers}
 use Rattle.state_marks.specs.Lent.{stateOf, Fine}
-use Rattle.take.specs.Takes.{Left, Items}
+use Rattle.take.specs.Takes.{LeftState, Items}
 use Rattle.take.specs.Takes as takes
 use Rattle.eval_told.specs.declared.Ran.{Ran}
 use Rattle.eval_told.specs.Told.{Told, told, toldWith, Numbered}
@@ -106,10 +106,10 @@ unfolding told
 denied-words r x e h q = sym (ap (λ (y : Told). y .words) (Option·some-injective _ x (rw (q, told) at h)))
 
 -- ---- what is left of a state
-left-same : (m : List ℕ) (p : Numbers) → Fine m p → Left m p m p
+left-same : (m : List ℕ) (p : Numbers) → Fine m p → LeftState m p m p
 left-same m p f = record { count = refl; long = refl; fine = f }
 
-left-more : (m : List ℕ) (p : Numbers) (m′ : List ℕ) (q : Numbers) (m″ : List ℕ) (r : Numbers) → Left m p m′ q → Left m′ q m″ r → Left m p m″ r
+left-more : (m : List ℕ) (p : Numbers) (m′ : List ℕ) (q : Numbers) (m″ : List ℕ) (r : Numbers) → LeftState m p m′ q → LeftState m′ q m″ r → LeftState m p m″ r
 left-more m p m′ q m″ r a b = record { count = b .count ∙ a .count; long = b .long ∙ a .long; fine = b .fine }
 
 -- words behind those that are written
@@ -127,7 +127,7 @@ pub record Going (area words : List ℕ) (fs : List Tree) (m₀ : List ℕ) (p�
   pub within : k ≤ length fs
   pub near : at ≤ 515 * k
   pub cost : tries ≤ 16512 * k
-  pub left : Left m₀ p₀ m p
+  pub left : LeftState m₀ p₀ m p
 
 product-most : (a b : ℕ) → a ≤ 258 → b ≤ 64 → a * b ≤ 16512
 product-most a b h k = mul-le-mul h k
@@ -177,7 +177,7 @@ module _ (b known s words m₀ : List ℕ) (p₀ : Numbers) (first : ℕ) (o₀ 
           let z = g .size in
           ap (λ (l : List ℕ). getD l j 0) (g .put) ∙ sets-after (g .values) o₀ 0 j (omega arith) ∙ start .zeros j
 
-      abbrev ready : takes.Ready (sheetArea s) words m p mark
+      abbrev ready : takes.CanTake (sheetArea s) words m p mark
       ready = record {
         items = start .state .items;
         table = start .state .table;

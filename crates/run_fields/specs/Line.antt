@@ -17,7 +17,7 @@ use Rattle.rules.specs.Run.{parsedMark, runFields, runAll}
 use Rattle.state_marks.specs.declared.Numbers.{Numbers}
 use Rattle.state_marks.specs.Lent.{stateOf}
 use Rattle.take_table.specs.Known.{Known}
-use Rattle.take.specs.Takes.{Left, Items}
+use Rattle.take.specs.Takes.{LeftState, Items}
 use Rattle.take.specs.Takes as takes
 use Rattle.eval_told.specs.declared.Ran.{Ran}
 use Rattle.eval_told.specs.Told.{Told}
@@ -33,7 +33,7 @@ pub record Starts (b known s words m : List ℕ) (p : Numbers) (first : ℕ) (o 
   pub result : Accepted
   pub accepts : checkForm b ≡ accepted result
   pub made : sheetFault s ≡ 0
-  pub state : takes.Ready (sheetArea s) words m p parsedMark
+  pub state : takes.CanTake (sheetArea s) words m p parsedMark
   pub knows : Known b (sheetArea s) words (length (state .items)) known
   pub small : first ≤ 4096
   pub room : 8240 ≤ length o
@@ -85,7 +85,7 @@ pub record Tells (run : List Item → Run (List Value)) (area words m : List ℕ
   pub count : r .words ≡ length values
   pub put : o′ ≡ sets o 0 values
   pub few : length values ≤ 8240
-  pub left : Left m p m′ (r .numbers)
+  pub left : LeftState m p m′ (r .numbers)
 
 -- the fields in order
 abbrev pub RunsFields : List ℕ → List ℕ → List Tree → List ℕ → Numbers → List ℕ → List ℕ → List ℕ → Reached → Type 0

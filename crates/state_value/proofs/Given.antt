@@ -5,31 +5,31 @@ use mathlib.Core.List.{List, [], _∷_, _++_}
 use mathlib.Core.Option.{some, none}
 use Prim.Native.Nat.{ℕ, suc, _+_, _-_, _≤_, _<_}
 use native.Mathlib.Omega.{arith}
-use lib.ListN.{length, getD, take, drop, set, replicate, getElem?, length-set, length-replicate, replicate-append-replicate}
-use lib.Seq.{length-take-le, set-append-left, drop-nil}
-use borrow.Author.Tests.{eq-eqb, ne-eqb, lt-ltb, le-ltb, le-leb, lt-leb}
+use lib.ListN.{length, getD, take, drop, getElem?}
+use lib.Seq.{length-take-le, drop-nil}
+use borrow.Author.Tests.{eq-eqb, ne-eqb, lt-ltb, le-ltb, le-leb}
 use Rattle.utf8.specs.Utf8.{if_then_else_}
-use Rattle.rules.specs.Base.{null, minus, sliceFrom, _>>?_}
+use Rattle.rules.specs.Base.{null, sliceFrom, _>>?_}
 use Rattle.rules.specs.Outcome.{Outcome, ok, _>>=_, at}
 use Rattle.rules.specs.Split.{Item}
-use Rattle.rules.specs.State.{State, parsed, presentFrom, countPresent, unused, winner, construct, findIn, find, first, remove, pickFrom, pickWinner, saveConflicts, conflicts, conflictAt}
+use Rattle.rules.specs.State.{State, parsed, presentFrom, countPresent, unused, winner, findIn, find, first, remove, pickFrom, pickWinner, saveConflicts, conflicts, conflictAt}
 use Rattle.rules.specs.State.{conflict, setScope, untilPresent, proposed, adjacentScope, adjacentlyAvailableFrom}
-use Rattle.rules.specs.Run.{padded, parsedMark}
+use Rattle.rules.specs.Run.{parsedMark}
 use Rattle.rules.specs.Calls.{fromRaw, toRaw, stateIn}
 use Rattle.rules.specs.Sound.{Good}
 use Rattle.rules.specs.declared.State.{State as Raw}
 use Rattle.rules.specs.Codes.{placeOf}
-use Rattle.rules.proofs.Places.{at-below, slice-below, minus-below, write-below, count-from}
+use Rattle.rules.proofs.Places.{at-below, slice-below, count-from}
 use Rattle.rules.proofs.StepLaws.{set-scope-good}
 use Rattle.rules.proofs.CodeLaws.{place-some}
 use Rattle.state_marks.specs.Lent.{rawOf, numbersOf, stateOf, pickOf, firstOr, Fine, Removed}
 use Rattle.state_marks.specs.declared.Numbers.{Numbers}
 use Rattle.state_marks.specs.declared.Picked.{Picked}
-use Rattle.state_marks.specs.Written.{markerMark, fieldMark}
-use Rattle.state_marks.proofs.Mark.{marker-told, field-parsed, field-told}
+use Rattle.state_marks.specs.Written.{fieldMark}
+use Rattle.state_marks.proofs.Mark.{field-parsed, field-told}
 use Rattle.state_marks.proofs.Marks.{from-take, first-hit, first-within, first-none}
 use Rattle.state_marks.proofs.Laws.{in-kept, kept-fine, fine-long, fine-unused, mark-at, raw-back, marked, marked-is, marked-fine, marked-whole}
-use Rattle.state_value.specs.Options.{handedOver, allUnused, rangeOf, placeBelow, Until, SpanEnd}
+use Rattle.state_value.specs.Options.{handedOver, rangeOf, placeBelow, Until, SpanEnd}
 
 -- the state that a step gives, handed over
 pub handed-ok : (o : Outcome State) (u : State) (r : Raw) → o ≡ ok u → toRaw u ≡ r → handedOver o ≡ ok r
@@ -270,49 +270,3 @@ module _ (x : Raw) (g : stateIn (x .count) x ≡ ok (fromRaw x)) where
         pub conflict-there : (k ≡ 0 → ⊥) → conflict items (fromRaw x) ≡ ok (some (record { place = r; winner = k - 1 }))
         unfolding conflict first find findIn conflictAt _>>=_ at _>>?_ if_then_else_ fromRaw
         conflict-there h = rw (found, item-here .1, mark-here, ← z, place-some k h)
-
--- ---- after the split
-
-abbrev withMarker : ℕ → ℕ → Raw → Raw
-withMarker mark marker u = record {
-  marks = set (u .marks) (marker - 1) mark;
-  count = u .count;
-  remaining = u .remaining - 1;
-  current = u .current;
-  start = u .start;
-  end = u .end;
-}
-
-module _ (n : ℕ) (small : n ≤ 256) where
-  joined : _≡_ {A = List ℕ} (replicate n 0 ++ replicate (256 - n) 0) (replicate 256 0)
-  joined =
-      let z : n + (256 - n) ≡ 256 = omega arith in
-      rw (replicate-append-replicate {A = ℕ} n (256 - n) 0, z)
-
-  all-zero : padded 256 (replicate n 0) ≡ replicate 256 0
-  unfolding padded
-  all-zero = rw (length-replicate {A = ℕ} n 0) joined
-
-  pub fresh-over : (marker : ℕ) (u : Raw) → u ≡ allUnused n → marker ≡ 0 → handedOver (construct parsedMark n (placeOf marker)) ≡ ok u
-  unfolding handedOver construct placeOf toRaw _>>=_ if_then_else_
-  fresh-over marker u e z = rw (z, e, all-zero, length-replicate {A = ℕ} n 0)
-
-  -- the marker's place gets the mark that is told
-  marked-by : (mark marker : ℕ) (u : Raw) → u ≡ allUnused n → (marker ≡ 0 → ⊥) → marker ≤ n
-      → handedOver (construct mark n (placeOf marker)) ≡ ok (withMarker mark marker u)
-  unfolding handedOver construct placeOf toRaw padded _>>=_ at if_then_else_
-  marked-by mark marker u e z l =
-      let a : List ℕ = replicate n 0 in
-      let b : List ℕ = replicate (256 - n) 0 in
-      let long : length a ≡ n = length-replicate {A = ℕ} n 0 in
-      let i : marker - 1 < length a = omega arith in
-      let s : length (set a (marker - 1) mark) ≡ n = length-set a (marker - 1) mark ∙ long in
-      let w : set a (marker - 1) mark ++ b ≡ set (replicate 256 0) (marker - 1) mark =
-      sym (set-append-left a b (marker - 1) mark i) ∙ ap (λ (k : List ℕ). set k (marker - 1) mark) joined in
-      rw (place-some marker z, write-below a (marker - 1) mark i, minus-below n 1 (omega arith), s, w, e)
-
-  pub marked-over : (marker : ℕ) (u : Raw) → u ≡ allUnused n → (marker ≡ 0 → ⊥) → marker ≤ n
-      → handedOver (construct parsedMark n (placeOf marker)) ≡ ok (withMarker markerMark marker u)
-  marked-over marker u e z l =
-      subst (λ (k : ℕ). handedOver (construct k n (placeOf marker)) ≡ ok (withMarker markerMark marker u)) marker-told
-      (marked-by markerMark marker u e z l)

@@ -4,7 +4,7 @@ use mathlib.Core.List.{List}
 use mathlib.Core.Option.{Option, some, none}
 use Prim.Native.Nat.{ℕ, _+_, _≤_}
 use lib.Dec.{ltb}
-use lib.ListN.{take, drop, replicate}
+use lib.ListN.{take, drop}
 use Rattle.utf8.specs.Utf8.{if_then_else_}
 use Rattle.rules.specs.Outcome.{Outcome, ok, _>>=_}
 use Rattle.rules.specs.State.{State, Scope as Range, Conflict, untilPresent, span}
@@ -19,9 +19,6 @@ use Rattle.state_value.specs.declared.ConflictOption.the-variants as con
 -- a state as it is handed over
 unfoldable pub handedOver : Outcome State → Outcome Raw
 handedOver o = o >>= λ u. ok (toRaw u)
-
-abbrev pub allUnused : ℕ → Raw
-allUnused n = record { marks = replicate 256 0; count = n; remaining = n; current = 0; start = 0; end = n }
 
 abbrev pub rangeOf : Scope → Range
 rangeOf r = record { start = r .start; end = r .end }

@@ -5,16 +5,14 @@ ghost use Prim.Native.Nat.{_≤_, _<_};
 ghost use lib.ListN.{length};
 ghost use Rattle.rules.specs.Outcome.{ok};
 ghost use Rattle.rules.specs.Split.{Item};
-ghost use Rattle.rules.specs.State.{emptyState, construct, pickWinner, saveConflicts, setScope, adjacentScope, adjacentlyAvailableFrom};
+ghost use Rattle.rules.specs.State.{pickWinner, saveConflicts, setScope, adjacentScope, adjacentlyAvailableFrom};
 ghost use Rattle.rules.specs.State.{remove as removal, conflict as firstConflict};
 ghost use Rattle.rules.specs.Run.{parsedMark};
 ghost use Rattle.rules.specs.Calls.{fromRaw, toRaw, stateIn};
-ghost use Rattle.rules.specs.Codes.{placeOf};
 ghost use Rattle.state_marks.specs.Lent.{pickOf};
-ghost use Rattle.state_value.specs.Options.{handedOver, allUnused, rangeOf, scopeOf, conflictOf, Until, SpanEnd};
+ghost use Rattle.state_value.specs.Options.{handedOver, rangeOf, scopeOf, conflictOf, Until, SpanEnd};
 use rules::State;
 use state_marks::FIELD;
-use state_marks::MARKER;
 use state_marks::Picked;
 use state_marks::is_parsed;
 use state_marks::is_present;
@@ -158,39 +156,4 @@ pub fn conflict(s: State) -> ConflictOption
         return ConflictOption::None;
     }
     ConflictOption::Some(i as u32, winner - 1)
-}
-
-// All n places unused.
-fn unused(n: u32) -> State
-    ensures { λ r. ⌜ r ≡ allUnused n ⌝ }
-{
-    State {
-        marks: [0u16; 256],
-        count: n,
-        remaining: n,
-        current: 0,
-        start: 0,
-        end: n,
-    }
-}
-
-pub fn empty() -> State
-    ensures { λ r. ⌜ r ≡ toRaw emptyState ⌝ }
-{
-    unused(0)
-}
-
-// After the split: all n places unused but the marker's. The marker is the place of the first `--` plus 1, or 0 for none.
-pub fn fresh(n: usize, marker: usize) -> State
-    requires { ⌜ (n ≤ 256) × (marker ≤ n) ⌝ }
-    ensures { λ r. ⌜ handedOver (construct parsedMark n (placeOf marker)) ≡ ok r ⌝ }
-{
-    let mut s = unused(n as u32);
-    if marker == 0 {
-        return s;
-    }
-    let i = marker - 1;
-    s.marks[i] = MARKER;
-    s.remaining = s.remaining - 1;
-    s
 }

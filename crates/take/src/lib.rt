@@ -17,8 +17,8 @@ ghost use Rattle.state_marks.specs.Lent.{Fine};
 ghost use Rattle.form_codes.specs.Codes.{namedAt};
 ghost use Rattle.take_search.specs.Items.{operandKind};
 ghost use Rattle.take_search.specs.Search.{HasNames, HasItem, Sought};
-ghost use Rattle.take_table.specs.Known.{Says};
-ghost use Rattle.take.specs.Takes.{Ready, Skips, Reaches, setCurrent, refusedAt, freeBelow, textPart, strictItem, comparedItem, UsesBoth, TakesFlag, TakesArg, TakesPositional, TakesCmd};
+ghost use Rattle.take_table.specs.Known.{TableTells};
+ghost use Rattle.take.specs.Takes.{CanTake, Skips, HasBits, setCurrent, refusedAt, freeBelow, textPart, strictItem, comparedItem, UsesBoth, TakesFlag, TakesArg, TakesPositional, TakesCmd};
 use split_arg::Item;
 use split_arg::Part;
 use state_marks::Numbers;
@@ -116,7 +116,7 @@ fn is_command(sheet: &[u8], items: &[u32], i: usize, word: &[u8]) -> bool
 // A flag for which a search found `place`, or the end of the scope.
 fn use_flag(marks: &mut [u16; 256], p: Numbers, place: usize, mark: u16) -> Flag
     requires { ⌜ Fine (now marks) p × (parsed mark ≡ true) ⌝ }
-    ensures { λ r. ⌜ ((area words : List ℕ) (n : Named) → Ready area words (now (marks .entry)) p mark → Sought area words (matchesArg n false) (now (marks .entry)) (p .start) (p .end) place → TakesFlag mark area words n (now (marks .entry)) p (now (marks .exit)) r) ⌝ }
+    ensures { λ r. ⌜ ((area words : List ℕ) (n : Named) → CanTake area words (now (marks .entry)) p mark → Sought area words (matchesArg n false) (now (marks .entry)) (p .start) (p .end) place → TakesFlag mark area words n (now (marks .entry)) p (now (marks .exit)) r) ⌝ }
 {
     if wide(p.end) <= place {
         return Flag {
@@ -143,7 +143,7 @@ pub fn take_flag(
     count: usize,
     mark: u16,
 ) -> Flag
-    requires { ⌜ HasNames (now form) (now codes) first count × (sheetFault (now sheet) ≡ 0) × Ready (sheetArea (now sheet)) (now items) (now marks) p mark ⌝ }
+    requires { ⌜ HasNames (now form) (now codes) first count × (sheetFault (now sheet) ≡ 0) × CanTake (sheetArea (now sheet)) (now items) (now marks) p mark ⌝ }
     ensures { λ r. ⌜ TakesFlag mark (sheetArea (now (sheet .entry))) (now (items .entry)) (namedAt (now (form .entry)) first count) (now (marks .entry)) p (now (marks .exit)) r ⌝ }
 {
     let start = wide(p.start);
@@ -166,8 +166,8 @@ pub fn take_flag_known(
     node: usize,
     mark: u16,
 ) -> Flag
-    requires { ⌜ Fine (now marks) p × (parsed mark ≡ true) × Reaches (now known) p node × (from ≤ p .end) ⌝ }
-    ensures { λ r. ⌜ ((area words : List ℕ) (n : Named) → Ready area words (now (marks .entry)) p mark → Says (now (known .entry)) (p .end) node area words (matchesArg n false) → Skips area words (matchesArg n false) (now (marks .entry)) p from → TakesFlag mark area words n (now (marks .entry)) p (now (marks .exit)) r) ⌝ }
+    requires { ⌜ Fine (now marks) p × (parsed mark ≡ true) × HasBits (now known) p node × (from ≤ p .end) ⌝ }
+    ensures { λ r. ⌜ ((area words : List ℕ) (n : Named) → CanTake area words (now (marks .entry)) p mark → TableTells (now (known .entry)) (p .end) node area words (matchesArg n false) → Skips area words (matchesArg n false) (now (marks .entry)) p from → TakesFlag mark area words n (now (marks .entry)) p (now (marks .exit)) r) ⌝ }
 {
     let place = take_table::find(known, marks, node, from, wide(p.end));
     use_flag(marks, p, place, mark)
@@ -202,8 +202,8 @@ fn use_argument(
     key: usize,
     mark: u16,
 ) -> Argument
-    requires { ⌜ ((area : List ℕ) × Ready area (now items) (now marks) p mark) ⌝ }
-    ensures { λ r. ⌜ ((area : List ℕ) (n : Named) (adjacent : Bool) → Ready area (now (items .entry)) (now (marks .entry)) p mark → Sought area (now (items .entry)) (matchesArg n adjacent) (now (marks .entry)) (p .start) (p .end) key → TakesArg mark area (now (items .entry)) n adjacent (now (marks .entry)) p (now (marks .exit)) r) ⌝ }
+    requires { ⌜ ((area : List ℕ) × CanTake area (now items) (now marks) p mark) ⌝ }
+    ensures { λ r. ⌜ ((area : List ℕ) (n : Named) (adjacent : Bool) → CanTake area (now (items .entry)) (now (marks .entry)) p mark → Sought area (now (items .entry)) (matchesArg n adjacent) (now (marks .entry)) (p .start) (p .end) key → TakesArg mark area (now (items .entry)) n adjacent (now (marks .entry)) p (now (marks .exit)) r) ⌝ }
 {
     let end = wide(p.end);
     if end <= key {
@@ -237,7 +237,7 @@ pub fn take_arg(
     names: Names,
     mark: u16,
 ) -> Argument
-    requires { ⌜ HasNames (now form) (now codes) (names .first) (names .count) × (sheetFault (now sheet) ≡ 0) × Ready (sheetArea (now sheet)) (now items) (now marks) p mark ⌝ }
+    requires { ⌜ HasNames (now form) (now codes) (names .first) (names .count) × (sheetFault (now sheet) ≡ 0) × CanTake (sheetArea (now sheet)) (now items) (now marks) p mark ⌝ }
     ensures { λ r. ⌜ TakesArg mark (sheetArea (now (sheet .entry))) (now (items .entry)) (namedAt (now (form .entry)) (names .first) (names .count)) (names .adjacent) (now (marks .entry)) p (now (marks .exit)) r ⌝ }
 {
     let start = wide(p.start);
@@ -256,8 +256,8 @@ pub fn take_arg_known(
     node: usize,
     mark: u16,
 ) -> Argument
-    requires { ⌜ ((area : List ℕ) × Ready area (now items) (now marks) p mark) × Reaches (now known) p node × (from ≤ p .end) ⌝ }
-    ensures { λ r. ⌜ ((area : List ℕ) (n : Named) (adjacent : Bool) → Ready area (now (items .entry)) (now (marks .entry)) p mark → Says (now (known .entry)) (p .end) node area (now (items .entry)) (matchesArg n adjacent) → Skips area (now (items .entry)) (matchesArg n adjacent) (now (marks .entry)) p from → TakesArg mark area (now (items .entry)) n adjacent (now (marks .entry)) p (now (marks .exit)) r) ⌝ }
+    requires { ⌜ ((area : List ℕ) × CanTake area (now items) (now marks) p mark) × HasBits (now known) p node × (from ≤ p .end) ⌝ }
+    ensures { λ r. ⌜ ((area : List ℕ) (n : Named) (adjacent : Bool) → CanTake area (now (items .entry)) (now (marks .entry)) p mark → TableTells (now (known .entry)) (p .end) node area (now (items .entry)) (matchesArg n adjacent) → Skips area (now (items .entry)) (matchesArg n adjacent) (now (marks .entry)) p from → TakesArg mark area (now (items .entry)) n adjacent (now (marks .entry)) p (now (marks .exit)) r) ⌝ }
 {
     let key = take_table::find(known, marks, node, from, wide(p.end));
     use_argument(items, marks, p, key, mark)
@@ -289,7 +289,7 @@ pub fn take_positional_word(
     p: Numbers,
     mark: u16,
 ) -> Positional
-    requires { ⌜ ((area : List ℕ) × Ready area (now items) (now marks) p mark) ⌝ }
+    requires { ⌜ ((area : List ℕ) × CanTake area (now items) (now marks) p mark) ⌝ }
     ensures { λ r. ⌜ ((area : List ℕ) → TakesPositional mark area (now (items .entry)) (now (marks .entry)) p (now (marks .exit)) r) ⌝ }
 {
     let start = wide(p.start);
@@ -303,7 +303,7 @@ pub fn take_positional_word_from(
     from: usize,
     mark: u16,
 ) -> Positional
-    requires { ⌜ ((area : List ℕ) × Ready area (now items) (now marks) p mark × Skips area (now items) isOperand (now marks) p from) ⌝ }
+    requires { ⌜ ((area : List ℕ) × CanTake area (now items) (now marks) p mark × Skips area (now items) isOperand (now marks) p from) ⌝ }
     ensures { λ r. ⌜ ((area : List ℕ) → TakesPositional mark area (now (items .entry)) (now (marks .entry)) p (now (marks .exit)) r) ⌝ }
 {
     let end = wide(p.end);
@@ -331,7 +331,7 @@ pub fn take_cmd(
     word: &[u8],
     mark: u16,
 ) -> Flag
-    requires { ⌜ (sheetFault (now sheet) ≡ 0) × Ready (sheetArea (now sheet)) (now items) (now marks) p mark ⌝ }
+    requires { ⌜ (sheetFault (now sheet) ≡ 0) × CanTake (sheetArea (now sheet)) (now items) (now marks) p mark ⌝ }
     ensures { λ r. ⌜ TakesCmd mark (sheetArea (now (sheet .entry))) (now (items .entry)) (now (word .entry)) (now (marks .entry)) p (now (marks .exit)) r ⌝ }
 {
     let start = wide(p.start);

@@ -10,11 +10,11 @@ use Rattle.rules.specs.Split.{Item}
 use Rattle.take_search.specs.Search.{Sought}
 use Rattle.take_search.proofs.Search.{seeking-first, seeking-last, sought-all}
 use Rattle.take_table.specs.Bits.{bitAt}
-use Rattle.take_table.specs.Known.{Says}
+use Rattle.take_table.specs.Known.{TableTells}
 
 module _ (table : List ℕ) (node : ℕ) (absent : Bool) (e : absent ≡ not (bitAt (getD table 256 0) node)) (h : absent ≡ true) where
   pub absent-sought : (marks : List ℕ) (from end : ℕ) → from ≤ end → (area words : List ℕ) (test : Item → Bool)
-      → Says table end node area words test
+      → TableTells table end node area words test
       → Sought area words test marks from end end
   absent-sought marks from end o area words test s =
       let none = s .none (not-true (bitAt (getD table 256 0) node) (sym e ∙ h)) in

@@ -54,6 +54,6 @@ pub record Known (b area words : List ℕ) (n : ℕ) (table : List ℕ) : Type 0
   pub any : (k : ℕ) → bitAt (getD table 256 0) k ≡ false → (i : ℕ) → i < n → bitAt (getD table i 0) k ≡ false
 
 -- of the first n items, the bits of a node are a test; a node that word 256 does not have is in none of them
-pub record Says (table : List ℕ) (n node : ℕ) (area words : List ℕ) (test : Item → Bool) : Type 0 where
+pub record TableTells (table : List ℕ) (n node : ℕ) (area words : List ℕ) (test : Item → Bool) : Type 0 where
   pub at : (i : ℕ) (x : Item) → i < n → itemFrom area (recordAt words i) ≡ some x → bitAt (getD table i 0) node ≡ test x
   pub none : bitAt (getD table 256 0) node ≡ false → (i : ℕ) → i < n → bitAt (getD table i 0) node ≡ false

@@ -13,7 +13,7 @@ ghost use Rattle.form_layout.specs.Layout.{nodeOf, GoodNames};
 ghost use Rattle.take_search.specs.Search.{HasItem, Sought};
 ghost use Rattle.form_letters.specs.Classes.{MarkedBits};
 ghost use Rattle.take_table.specs.Bits.{bitAt};
-ghost use Rattle.take_table.specs.Known.{isAdjacent, SetOf, Matchable, MatchSet, Known, Says};
+ghost use Rattle.take_table.specs.Known.{isAdjacent, SetOf, Matchable, MatchSet, Known, TableTells};
 ghost use Rattle.take_table.specs.Owners.{Owners, Added, isLoose, Lookup, hasShort, hasLong};
 use split_arg::Item;
 use state_marks::is_present;
@@ -230,7 +230,7 @@ pub fn is_absent(table: &[u64], node: usize) -> bool
 // The first present place from `from` on, below `end`, whose word has the bit of a node; `end` if there is none.
 pub fn find(table: &[u64], marks: &[u16], node: usize, from: usize, end: usize) -> usize
     requires { ⌜ (node < 64) × (from ≤ end) × (end ≤ 256) × (257 ≤ length (now table)) × (end ≤ length (now marks)) ⌝ }
-    ensures { λ r. ⌜ ((area words : List ℕ) (test : RulesItem → Bool) → Says (now (table .entry)) end node area words test → Sought area words test (now (marks .entry)) from end r) ⌝ }
+    ensures { λ r. ⌜ ((area words : List ℕ) (test : RulesItem → Bool) → TableTells (now (table .entry)) end node area words test → Sought area words test (now (marks .entry)) from end r) ⌝ }
 {
     if is_absent(table, node) {
         return end;

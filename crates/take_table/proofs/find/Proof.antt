@@ -7,14 +7,14 @@ use Prim.Native.Nat.{ℕ, _-_}
 use borrow.Author.Needs.{needs}
 use Rattle.rules.specs.Split.{Item}
 use Rattle.take_search.proofs.Search.{Seeking, seeking-first, seeking-used, seeking-other, seeking-hit, seeking-last}
-use Rattle.take_table.specs.Known.{Says}
+use Rattle.take_table.specs.Known.{TableTells}
 use Rattle.take_table.proofs.Absent.{absent-sought}
 use Rattle.take_table.proofs.find.Statement.{statement}
 use Rattle.take_table.proofs.find.Tie as tie
 
 abbrev Inv-loop : tie.InvT-loop
 Inv-loop table marks node from end i₀ i =
-    (area words : List ℕ) (test : Item → Bool) → Says table end node area words test → Seeking area words test marks from end i
+    (area words : List ℕ) (test : Item → Bool) → TableTells table end node area words test → Seeking area words test marks from end i
 
 abbrev μ-loop : tie.MeasureT-loop
 μ-loop table marks node from end i₀ i = end - i
