@@ -22,7 +22,7 @@ use Rattle.call_answers.specs.declared.StateAnswer.{StateAnswer}
 use Rattle.call_item.specs.Calls.{gotOf, gotWords, Gets}
 use Rattle.call_item.specs.declared.Got.{Got}
 use Rattle.call_node.specs.Node.{evaluatedAnswer}
-use Rattle.call_node.specs.declared.NodeAnswer.{NodeAnswer}
+use Rattle.run_fields.specs.declared.RunAnswer.{RunAnswer}
 use Rattle.call_check.specs.Reader.{splittingOf}
 use Rattle.call_check.specs.declared.SplitAnswer.{SplitAnswer}
 use Rattle.tokens.specs.declared.call.Call.{Call}
@@ -124,7 +124,7 @@ module _ (form sheet items : List ℕ) (given : State) (text : List ℕ) where
       → 8240 ≡ length before
       → (node x : ℕ)
       → x ≡ node
-      → (answer : NodeAnswer) (answers : List ℕ)
+      → (answer : RunAnswer) (answers : List ℕ)
       → evaluatedAnswer (callEval form sheet items before given x) ≡ some (record { answer = answer; answers = answers })
       → (a : ℕ)
       → Follows text 0 (101 ∷ 118 ∷ 97 ∷ 108 ∷ []) a

@@ -18,7 +18,7 @@ use Rattle.call_answers.specs.Answers.{stateAnswerOf}
 use Rattle.call_answers.specs.declared.Answer.{Answer}
 use Rattle.call_answers.specs.declared.StateAnswer.{StateAnswer}
 use Rattle.call_node.specs.Node.{evaluatedAnswer}
-use Rattle.call_node.specs.declared.NodeAnswer.{NodeAnswer}
+use Rattle.run_fields.specs.declared.RunAnswer.{RunAnswer}
 use Rattle.call_check.specs.Reader.{splittingOf}
 use Rattle.call_check.specs.declared.SplitAnswer.{SplitAnswer}
 use Rattle.tokens.specs.declared.call.Call.{Call}
@@ -106,7 +106,7 @@ pub record CallTold (form sheet items : List ℕ) (given : State) (text : List �
   pub second : layoutOf call .two ≡ true → zeros (drop (other .count) (other .marks)) ≡ true
 
 -- `eval`, the node; the refusal, `tries`, `words`; the states
-unfoldable pub evalText : ℕ → NodeAnswer → List ℕ → State → List ℕ
+unfoldable pub evalText : ℕ → RunAnswer → List ℕ → State → List ℕ
 evalText node r answers s =
     (101 ∷ 118 ∷ 97 ∷ 108 ∷ [])
     ++ spaced node
@@ -123,7 +123,7 @@ pub record EvalTold (form sheet items : List ℕ) (given : State) (text : List �
   pub node : ℕ
   pub before : List ℕ
   pub long : 8240 ≡ length before
-  pub answer : NodeAnswer
+  pub answer : RunAnswer
   pub answers : List ℕ
   pub says : evaluatedAnswer (callEval form sheet items before given node) ≡ some (record { answer = answer; answers = answers })
   pub same : text ≡ evalText node answer answers given

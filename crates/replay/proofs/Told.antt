@@ -14,7 +14,7 @@ use Rattle.rules.specs.declared.Refused.{Refused}
 use Rattle.call_check.specs.Reader.{splittingOf}
 use Rattle.call_check.specs.declared.SplitAnswer.{SplitAnswer}
 use Rattle.run.specs.Runner.{runAnswer, ended}
-use Rattle.run.specs.declared.RunAnswer.{RunAnswer}
+use Rattle.run_fields.specs.declared.RunAnswer.{RunAnswer}
 use Rattle.call_text.specs.Text.{TextOf}
 use Rattle.tokens.specs.Compare.{Follows, WordsFollow, StateFollows, refusalText, spaced, stateText, hexText}
 use Rattle.tokens.proofs.Standing.{joined}

@@ -7,7 +7,7 @@ use lib.ListN.{take, drop}
 use Rattle.rules.specs.Tree.{zeros}
 use Rattle.rules.specs.Run.{run}
 use Rattle.run.specs.Runner.{runAnswer, ended}
-use Rattle.run.specs.declared.RunAnswer.{RunAnswer}
+use Rattle.run_fields.specs.declared.RunAnswer.{RunAnswer}
 use Rattle.tokens.specs.Compare.{refusalText, spaced, stateText, wordsText}
 use Rattle.tokens.specs.Inputs.{Headed}
 
