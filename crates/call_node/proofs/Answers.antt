@@ -37,9 +37,9 @@ use Rattle.eval_told.specs.Told.{Told, told, toldWith}
 use Rattle.eval_told.specs.Nodes.{treeAt}
 use Rattle.eval_told.proofs.NodeLaw.{at-tree}
 use Rattle.eval_list.specs.Lists.{Writes}
-use Rattle.run_fields.specs.Line.{Placed}
-use Rattle.call_node.specs.Node.{Answered, evaluatedAnswer, unchangedBy, answerOf, Admitted, Admits, Cleared, Runs}
-use Rattle.call_node.specs.declared.NodeAnswer.{NodeAnswer}
+use Rattle.run_fields.specs.Line.{FieldReady}
+use Rattle.call_node.specs.Node.{Answered, evaluatedAnswer, unchangedBy, answerOf, Admitted, Admits, ClearedAnswers, Runs}
+use Rattle.run_fields.specs.declared.RunAnswer.{RunAnswer}
 use Rattle.call_node.proofs.Leaves.{few-leaves}
 use Rattle.call_node.proofs.Tests.{admitted-runs}
 
@@ -68,13 +68,7 @@ all-zero o =
     sets-eq (replicate (length o) 0) o 0 (omega (arith, length-replicate {A = ℕ} (length o) 0))
     ∙ rw (zero-add (length (replicate {A = ℕ} (length o) 0)), length-replicate {A = ℕ} (length o) 0, drop-length o, append-nil (replicate {A = ℕ} (length o) 0))
 
--- ---- the codes of the short names
-pub codes-room : (b l : List ℕ) → GoodNames b → l ≡ replicate 128 0 → nameCount b ≤ length l
-codes-room b l c e =
-    let few = sized b (c .good) .counts .names in
-    let long : length l ≡ 128 = ap length e ∙ length-replicate {A = ℕ} 128 0 in
-    omega arith
-
+-- ---- the table of what is known
 pub known-long : (l : List ℕ) → l ≡ replicate 257 0 → length l ≡ 257
 known-long l e = ap length e ∙ length-replicate {A = ℕ} 257 0
 
@@ -89,17 +83,17 @@ known-matchable b codes s words n c w made h = record {
   inside = omega (arith, h .count);
 }
 
-pub cleared-holds : (b s words o : List ℕ) (x : Raw) (k : ℕ) → Cleared b s words o x k → (n : ℕ) → n ≡ x .count → Holds (sheetArea s) words n
+pub cleared-holds : (b s words o : List ℕ) (x : Raw) (k : ℕ) → ClearedAnswers b s words o x k → (n : ℕ) → n ≡ x .count → Holds (sheetArea s) words n
 cleared-holds b s words o x k c n e = rw e (c .input .holds)
 
 -- a state has a mark for each of its items
-pub cleared-few : (b s words o : List ℕ) (x : Raw) (k : ℕ) → Cleared b s words o x k → (n : ℕ) → n ≡ x .count → n ≤ 256
+pub cleared-few : (b s words o : List ℕ) (x : Raw) (k : ℕ) → ClearedAnswers b s words o x k → (n : ℕ) → n ≡ x .count → n ≤ 256
 cleared-few b s words o x k c n e = omega (arith, in-kept (x .count) x (c .input .good) .small)
 
-pub cleared-made : (b s words o : List ℕ) (x : Raw) (k : ℕ) → Cleared b s words o x k → sheetFault s ≡ 0
+pub cleared-made : (b s words o : List ℕ) (x : Raw) (k : ℕ) → ClearedAnswers b s words o x k → sheetFault s ≡ 0
 cleared-made b s words o x k c = c .input .made
 
-pub cleared-checked : (b s words o : List ℕ) (x : Raw) (k : ℕ) → Cleared b s words o x k → GoodNames b
+pub cleared-checked : (b s words o : List ℕ) (x : Raw) (k : ℕ) → ClearedAnswers b s words o x k → GoodNames b
 cleared-checked b s words o x k c =
     let a = c .input .accepts in
     record {
@@ -127,8 +121,8 @@ told-handed n r x e = go (r .outcome) refl
     go (refused d) h = rw (h, evaluated) (ap (λ (y : Option Told). y >>? λ z. some (handed n z)) (rw (h, told) at e))
     go (fault d) h = absurd (Option·none-ne-some x (rw (h, told) at e))
 
-module _ (b s words o : List ℕ) (x : Raw) (k : ℕ) (c : Cleared b s words o x k) (p : Numbers) (ep : p ≡ numbersOf x) where
-  pub node-stands : (n : ℕ) → n ≡ x .count → (known : List ℕ) → Known b (sheetArea s) words n known → Placed b known s words (x .marks) p (record { node = k; at = 0; mark = 1 }) o
+module _ (b s words o : List ℕ) (x : Raw) (k : ℕ) (c : ClearedAnswers b s words o x k) (p : Numbers) (ep : p ≡ numbersOf x) where
+  pub node-stands : (n : ℕ) → n ≡ x .count → (known : List ℕ) → Known b (sheetArea s) words n known → FieldReady b known s words (x .marks) p (record { node = k; at = 0; mark = 1 }) o
   unfolding parsed
   node-stands n same known w =
       let i = c .input in
@@ -153,7 +147,7 @@ module _ (b s words o : List ℕ) (x : Raw) (k : ℕ) (c : Cleared b s words o x
       })
 
   pub node-runs :
-      (m o′ : List ℕ) (ran : Ran) (r : NodeAnswer)
+      (m o′ : List ℕ) (ran : Ran) (r : RunAnswer)
       → length (x .marks) ≡ 256
       → ((t : Tree) → treeAt b k ≡ some t → Writes 1 (sheetArea s) words t (x .marks) p m o 0 o′ ran)
       → r ≡ answerOf ran m
@@ -174,7 +168,7 @@ module _ (b s words o : List ℕ) (x : Raw) (k : ℕ) (c : Cleared b s words o x
 
 -- ---- the call
 module _ (b s words o : List ℕ) (x : Raw) (k : ℕ) (q : Refused) (a : Admits b s words o x k q) where
-  pub call-refused : (q .number ≡ 0 → ⊥) → (r : NodeAnswer) → r ≡ unchangedBy q x
+  pub call-refused : (q .number ≡ 0 → ⊥) → (r : RunAnswer) → r ≡ unchangedBy q x
       → evaluatedAnswer (callEval b s words o x k) ≡ some (record { answer = r; answers = o })
   unfolding callEval unchanged evaluatedAnswer refusedOf
   call-refused z r e =
@@ -186,13 +180,13 @@ module _ (b s words o : List ℕ) (x : Raw) (k : ℕ) (q : Refused) (a : Admits 
     clear-long : length p ≡ length o
     clear-long = ap length ep ∙ length-sets o 0 (replicate (length o) 0)
 
-    pub call-cleared : Cleared b s words p x k
+    pub call-cleared : ClearedAnswers b s words p x k
     call-cleared = record {
       input = subst (λ (n : ℕ). Admitted b s words n x k) (sym clear-long) (a .good z);
       zeros = ep ∙ all-zero o ∙ ap (λ (n : ℕ). replicate {A = ℕ} n 0) (sym clear-long);
     }
 
-    pub call-runs : (o′ : List ℕ) (r : NodeAnswer) → Runs b s words (length p) x k o′ r
+    pub call-runs : (o′ : List ℕ) (r : RunAnswer) → Runs b s words (length p) x k o′ r
         → evaluatedAnswer (callEval b s words o x k) ≡ some (record { answer = r; answers = o′ })
     unfolding callEval
     call-runs o′ r h =

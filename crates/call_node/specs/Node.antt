@@ -20,11 +20,11 @@ use Rattle.state_marks.specs.Lent.{rawOf}
 use Rattle.eval_told.specs.declared.Ran.{Ran}
 use Rattle.eval_told.specs.Nodes.{treeAt}
 use Rattle.call_table.specs.Given.{Holds}
-use Rattle.call_node.specs.declared.NodeAnswer.{NodeAnswer}
+use Rattle.run_fields.specs.declared.RunAnswer.{RunAnswer}
 
 -- ---- what is handed back: numbers and a state, and the words of the answer slice
 pub record Answered : Type 0 where
-  pub answer : NodeAnswer
+  pub answer : RunAnswer
   pub answers : List ℕ
 
 -- a fault has none
@@ -43,11 +43,11 @@ evaluatedAnswer (refused e) = none
 evaluatedAnswer (fault f) = none
 
 -- refused, with the state that was given
-abbrev pub unchangedBy : Refused → Raw → NodeAnswer
+abbrev pub unchangedBy : Refused → Raw → RunAnswer
 unchangedBy r x = record { number = r .number; place = r .place; tries = 0; words = 0; state = x }
 
 -- a result, with the marks that were left
-abbrev pub answerOf : Ran → List ℕ → NodeAnswer
+abbrev pub answerOf : Ran → List ℕ → RunAnswer
 answerOf r m = record {
   number = r .number;
   place = r .place;
@@ -74,12 +74,12 @@ pub record Admits (b s words answers : List ℕ) (x : Raw) (k : ℕ) (r : Refuse
   pub bad : (r .number ≡ 0 → ⊥) → evalIn b s words answers x k ≡ refused (refusalOf r)
 
 -- and an answer slice that is all 0
-pub record Cleared (b s words o : List ℕ) (x : Raw) (k : ℕ) : Type 0 where
+pub record ClearedAnswers (b s words o : List ℕ) (x : Raw) (k : ℕ) : Type 0 where
   pub input : Admitted b s words (length o) x k
   pub zeros : o ≡ replicate (length o) 0
 
 -- ---- the run, for the items of the words and the node's tree
-abbrev pub Runs : List ℕ → List ℕ → List ℕ → ℕ → Raw → ℕ → List ℕ → NodeAnswer → Type 0
+abbrev pub Runs : List ℕ → List ℕ → List ℕ → ℕ → Raw → ℕ → List ℕ → RunAnswer → Type 0
 Runs b s words n x k o′ r =
     (is : List Item) (t : Tree) → itemsIn (sheetArea s) words ≡ ok is → treeAt b k ≡ some t
     → evaluatedAnswer (evaluated n (eval parsedMark is t (fromRaw x))) ≡ some (record { answer = r; answers = o′ })

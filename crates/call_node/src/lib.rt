@@ -2,87 +2,27 @@
 ghost use mathlib.Core.Path.{_≡_};
 ghost use mathlib.Core.Option.{some};
 ghost use Prim.Native.Nat.{_≤_};
-ghost use lib.ListN.{length, replicate};
+ghost use lib.ListN.{length};
 ghost use Rattle.rules.specs.Sheet.{sheetArea, sheetFault};
 ghost use Rattle.rules.specs.Calls.{callEval};
-ghost use Rattle.state_marks.specs.Lent.{rawOf, numbersOf};
 ghost use Rattle.form_layout.specs.Layout.{GoodNames};
-ghost use Rattle.form_codes.specs.Codes.{CodedNames};
 ghost use Rattle.take_table.specs.Known.{Known};
 ghost use Rattle.call_table.specs.Given.{Holds};
-ghost use Rattle.call_node.specs.Node.{evaluatedAnswer, unchangedBy, answerOf, Admits, Cleared, Runs};
+ghost use Rattle.call_node.specs.Node.{evaluatedAnswer, unchangedBy, answerOf, Admits, ClearedAnswers, Runs};
 use eval_list::Field;
 use eval_told::Ran;
 use rules::Refused;
 use rules::State;
-use state_marks::Numbers;
+use run_fields::RunAnswer;
 use wire::wide;
-
-// How an evaluation ended, and the state that it left. A place is itself plus 1, or 0 for none; `words` is how many answer
-// words there are.
-#[repr(C)]
-pub struct NodeAnswer {
-    pub number: u32,
-    pub place: u32,
-    pub tries: u32,
-    pub words: u32,
-    pub state: State,
-}
-
-fn numbers(s: State) -> Numbers
-    ensures { λ r. ⌜ r ≡ numbersOf s ⌝ }
-{
-    Numbers {
-        count: s.count,
-        remaining: s.remaining,
-        current: s.current,
-        start: s.start,
-        end: s.end,
-    }
-}
-
-fn joined(marks: [u16; 256], p: Numbers) -> State
-    ensures { λ r. ⌜ r ≡ rawOf marks p ⌝ }
-{
-    State {
-        marks: marks,
-        count: p.count,
-        remaining: p.remaining,
-        current: p.current,
-        start: p.start,
-        end: p.end,
-    }
-}
-
-fn no_codes() -> [u32; 128]
-    ensures { λ r. ⌜ r ≡ replicate 128 0 ⌝ }
-{
-    [0u32; 128]
-}
-
-// The codes of the form's short names.
-fn codes_of(form: &[u8]) -> [u32; 128]
-    requires { ⌜ GoodNames (now form) ⌝ }
-    ensures { λ r. ⌜ CodedNames (now (form .entry)) r ⌝ }
-{
-    let mut codes = no_codes();
-    form_codes::codes(form, &mut codes);
-    codes
-}
-
-fn nothing_known() -> [u64; 257]
-    ensures { λ r. ⌜ r ≡ replicate 257 0 ⌝ }
-{
-    [0u64; 257]
-}
 
 // Which nodes each of the items matches.
 fn known_of(form: &[u8], sheet: &[u8], items: &[u32], count: usize) -> [u64; 257]
     requires { ⌜ GoodNames (now form) × (sheetFault (now sheet) ≡ 0) × Holds (sheetArea (now sheet)) (now items) count × (count ≤ 256) ⌝ }
     ensures { λ r. ⌜ Known (now (form .entry)) (sheetArea (now (sheet .entry))) (now (items .entry)) count r ⌝ }
 {
-    let codes = codes_of(form);
-    let mut known = nothing_known();
+    let codes = form_codes::codes_of(form);
+    let mut known = run_fields::nothing_known();
     take_table::known(form, &codes, sheet, items, count, &mut known);
     known
 }
@@ -131,12 +71,12 @@ fn admit(
     refused(0)
 }
 
-fn answered(ran: Ran, marks: [u16; 256]) -> NodeAnswer
+fn answered(ran: Ran, marks: [u16; 256]) -> RunAnswer
     ensures { λ r. ⌜ r ≡ answerOf ran marks ⌝ }
 {
     let left = ran.numbers;
-    let state = joined(marks, left);
-    NodeAnswer {
+    let state = state_marks::joined(marks, left);
+    RunAnswer {
         number: ran.number,
         place: ran.place,
         tries: ran.tries,
@@ -146,10 +86,10 @@ fn answered(ran: Ran, marks: [u16; 256]) -> NodeAnswer
 }
 
 // Refused before the run: nothing is tried, and the state is the one that was given.
-fn unchanged(r: Refused, s: State) -> NodeAnswer
+fn unchanged(r: Refused, s: State) -> RunAnswer
     ensures { λ x. ⌜ x ≡ unchangedBy r s ⌝ }
 {
-    NodeAnswer {
+    RunAnswer {
         number: r.number,
         place: r.place,
         tries: 0,
@@ -166,13 +106,13 @@ fn run_admitted(
     answers: &mut [u32],
     s: State,
     node: usize,
-) -> NodeAnswer
-    requires { ⌜ Cleared (now form) (now sheet) (now items) (now answers) s node ⌝ }
+) -> RunAnswer
+    requires { ⌜ ClearedAnswers (now form) (now sheet) (now items) (now answers) s node ⌝ }
     ensures { λ r. ⌜ Runs (now (form .entry)) (now (sheet .entry)) (now (items .entry)) (length (now (answers .entry))) s node (now (answers .exit)) r ⌝ }
 {
     let known = known_of(form, sheet, items, wide(s.count));
     let mut marks = s.marks;
-    let p = numbers(s);
+    let p = state_marks::numbers_of(s);
     let field = Field {
         node,
         at: 0,
@@ -191,7 +131,7 @@ pub fn eval(
     answers: &mut [u32],
     s: State,
     node: usize,
-) -> NodeAnswer
+) -> RunAnswer
     ensures { λ r. ⌜ evaluatedAnswer (callEval (now (form .entry)) (now (sheet .entry)) (now (items .entry)) (now (answers .entry)) s node) ≡ some (record { answer = r; answers = now (answers .exit) }) ⌝ }
 {
     let tested = admit(form, sheet, items, answers, s, node);

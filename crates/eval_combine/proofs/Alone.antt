@@ -16,7 +16,8 @@ use Rattle.eval_structs.specs.declared.Pick.{Pick}
 use Rattle.eval_structs.specs.declared.Pick.the-variants.{First, Second, Neither}
 use Rattle.eval_structs.specs.Laws.{picks-first, picks-second, picks-neither}
 use Rattle.eval_told.specs.declared.Ran.{Ran}
-use Rattle.eval_combine.specs.Made.{refusalOf as refusalWith, missingOf, Unchanged, Sides, ChoiceOf, endedOf, wonOf}
+use Rattle.eval_told.specs.Results.{refusalRan}
+use Rattle.eval_combine.specs.Made.{missingOf, MarksUnchanged, Sides, ChoiceOf, endedOf, wonOf}
 use Rattle.eval_combine.proofs.Choices.{choice-first, choice-second, choice-neither}
 
 -- how the missing side ended
@@ -36,14 +37,14 @@ module _ (p : Numbers) (ran : Ran) (r : Ran) where
   First·made b =
       (before m : List ℕ)
       → Sides before p m ran before (missingOf p)
-      → Unchanged before m ran
+      → MarksUnchanged before m ran
       → ChoiceOf before p m ran before (missingOf p) m (record { ran = r; first = b })
 
   abbrev Second·made : Type 0
   Second·made =
       (before m : List ℕ)
       → Sides before p before (missingOf p) m ran
-      → Unchanged before m ran
+      → MarksUnchanged before m ran
       → ChoiceOf before p before (missingOf p) m ran m (record { ran = r; first = false })
 
   pub first-alone-won : ran .number ≡ 0 → r ≡ wonOf (ran .tries + 1) ran → First·made true
@@ -58,7 +59,7 @@ module _ (p : Numbers) (ran : Ran) (r : Ran) where
       (w ∙ ap (λ (t : ℕ). wonOf t ran) (omega arith))
 
   module _ (z : ran .number ≡ 0 → ⊥) (u : Refused) (eu : u ≡ endedOf ran) (c : Refused)
-      (w : r ≡ refusalWith (c .number) (c .place) (ran .tries + 1) p) where
+      (w : r ≡ refusalRan (c .number) (c .place) (ran .tries + 1) p) where
     numbered : u .number ≡ 0 → ⊥
     numbered n = z (sym (ap (λ (x : Refused). x .number) eu) ∙ n)
 
@@ -73,4 +74,4 @@ module _ (p : Numbers) (ran : Ran) (r : Ran) where
         subst (λ (l : List ℕ). ChoiceOf before p before (missingOf p) m ran l (record { ran = r; first = false })) (sym (same z))
         (choice-neither before p before (missingOf p) m ran sides (Neither c) missing u refl eu
         (λ e f s a b. picks-neither e f s a b missing u _ _ _ c (λ n. omega arith) numbered h) r c refl
-        (w ∙ ap (λ (t : ℕ). refusalWith (c .number) (c .place) t p) (omega arith)))
+        (w ∙ ap (λ (t : ℕ). refusalRan (c .number) (c .place) t p) (omega arith)))

@@ -31,7 +31,8 @@ use Rattle.eval_structs.specs.declared.Pick.the-variants.{First, Second, Winner
 use Rattle.eval_structs.specs.Decisions.{withRemaining, EndedBy, forgotten, pickBy}
 use Rattle.eval_told.specs.declared.Ran.{Ran}
 use Rattle.eval_told.specs.Told.{Told, told, Numbered, toldWith}
-use Rattle.eval_combine.specs.Made.{refusalOf as refusalWith, Sides, choiceWords, ChoiceOf, endedOf, wonOf, wonMarks, Marked, Decided, WinnerOf}
+use Rattle.eval_told.specs.Results.{refusalRan}
+use Rattle.eval_combine.specs.Made.{Sides, choiceWords, ChoiceOf, endedOf, wonOf, wonMarks, Marked, Decided, WinnerOf}
 use Rattle.eval_combine.specs.declared.Chosen.{Chosen}
 use Rattle.eval_combine.proofs.Tells.{runOf, told-same, value-told, refusal-told, left-told}
 
@@ -402,7 +403,7 @@ module _ (before : List ℕ) (p : Numbers) (first : List ℕ) (x : Ran) (m : Lis
     pub choice-neither :
         (c : Refused)
         → k ≡ Neither c
-        → r ≡ refusalWith (c .number) (c .place) both p
+        → r ≡ refusalRan (c .number) (c .place) both p
         → ChoiceOf before p first x m y before (record { ran = r; first = false })
     unfolding pickBy choiceWords if_then_else_
     choice-neither c e w =

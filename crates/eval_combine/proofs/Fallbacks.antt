@@ -21,7 +21,8 @@ use Rattle.eval_structs.specs.Decisions.{fallbackWay, fallbackBy}
 use Rattle.eval_structs.specs.Laws.{fallback-refused}
 use Rattle.eval_told.specs.declared.Ran.{Ran}
 use Rattle.eval_told.specs.Told.{Told, told, Numbered, toldWith, answered, scalarWords}
-use Rattle.eval_combine.specs.Made.{valueOf, refusalOf, Returned, FallbackOf, Unchanged}
+use Rattle.eval_told.specs.Results.{valueRan, refusalRan}
+use Rattle.eval_combine.specs.Made.{Returned, FallbackOf, MarksUnchanged}
 use Rattle.eval_combine.proofs.Tells.{runOf, told-same, value-told, refusal-told}
 
 -- ---- the number, by what was decided
@@ -76,7 +77,7 @@ module _ (v : BaseValue) (before : List ℕ) (p : Numbers) (ran : Ran) (m : List
           fallback-refused v s (runOf (refused e) t n l) e refl i
           ∙ ap (λ (y : Fallback). fallbackBy y v s (runOf (refused e) t n l)) (rw (x .number) (sym q))
 
-      own-same : Own ≡ fallbackWay (ran .number) → told (evalFallback v s (runOf (refused e) t n l)) ≡ some (answered (valueOf (ran .tries) 1 (word v) p) before)
+      own-same : Own ≡ fallbackWay (ran .number) → told (evalFallback v s (runOf (refused e) t n l)) ≡ some (answered (valueRan (ran .tries) 1 (word v) p) before)
       unfolding told fallbackBy after ended words scalarWords if_then_else_
       own-same q =
           let x = refusal-told ran m w t n l e h in
@@ -85,7 +86,7 @@ module _ (v : BaseValue) (before : List ℕ) (p : Numbers) (ran : Ran) (m : List
       passed-same :
           Passed ≡ fallbackWay (ran .number)
           → told (evalFallback v s (runOf (refused e) t n l))
-          ≡ some (answered (refusalOf (ran .number) (ran .place) (ran .tries) p) before)
+          ≡ some (answered (refusalRan (ran .number) (ran .place) (ran .tries) p) before)
       unfolding told fallbackBy after ended scalarWords if_then_else_
       passed-same q =
           let x = refusal-told ran m w t n l e h in
@@ -130,7 +131,7 @@ module _ (own : ℕ) (before : List ℕ) (p : Numbers) (ran : Ran) (m : List ℕ
   refusing f z = f (q ∙ value-way (ran .number) z)
 
   module _ (r : Ran) where
-    pub fallback-own : k ≡ Own → r ≡ valueOf (ran .tries) 1 own p → FallbackOf own before p ran m before r
+    pub fallback-own : k ≡ Own → r ≡ valueRan (ran .tries) 1 own p → FallbackOf own before p ran m before r
     fallback-own a e =
         let z = refusing (λ c. let y : _≡_ {A = ℕ} 0 1 = cc in omega arith) in
         rw e (record {
@@ -139,7 +140,7 @@ module _ (own : ℕ) (before : List ℕ) (p : Numbers) (ran : Ran) (m : List ℕ
         })
 
     pub fallback-passed :
-        k ≡ Passed → r ≡ refusalOf (ran .number) (ran .place) (ran .tries) p → FallbackOf own before p ran m before r
+        k ≡ Passed → r ≡ refusalRan (ran .number) (ran .place) (ran .tries) p → FallbackOf own before p ran m before r
     fallback-passed a e =
         let z = refusing (λ c. let y : _≡_ {A = ℕ} 0 1 = cc in omega arith) in
         rw e (record {
@@ -150,18 +151,18 @@ module _ (own : ℕ) (before : List ℕ) (p : Numbers) (ran : Ran) (m : List ℕ
 -- ---- where a refused child left the marks as they were
 module _ (own : ℕ) (p : Numbers) (ran : Ran) (k : Fallback) (q : k ≡ fallbackWay (ran .number)) where
   abbrev Made : Ran → Type 0
-  Made r = (before m : List ℕ) → Returned before p m ran → Unchanged before m ran → FallbackOf own before p ran m m r
+  Made r = (before m : List ℕ) → Returned before p m ran → MarksUnchanged before m ran → FallbackOf own before p ran m m r
 
   pub unchanged-child : k ≡ Child → Made ran
   unchanged-child a before m given _ = fallback-child own before p ran m given k q a
 
   module _ (r : Ran) where
-    pub unchanged-own : k ≡ Own → r ≡ valueOf (ran .tries) 1 own p → Made r
+    pub unchanged-own : k ≡ Own → r ≡ valueRan (ran .tries) 1 own p → Made r
     unchanged-own a e before m given u =
         let z = refusing own before p ran m given k q (λ c. let y : _≡_ {A = ℕ} 0 1 = cc in omega arith) in
         subst (λ (l : List ℕ). FallbackOf own before p ran m l r) (sym (u z)) (fallback-own own before p ran m given k q r a e)
 
-    pub unchanged-passed : k ≡ Passed → r ≡ refusalOf (ran .number) (ran .place) (ran .tries) p → Made r
+    pub unchanged-passed : k ≡ Passed → r ≡ refusalRan (ran .number) (ran .place) (ran .tries) p → Made r
     unchanged-passed a e before m given u =
         let z = refusing own before p ran m given k q (λ c. let y : _≡_ {A = ℕ} 0 1 = cc in omega arith) in
         subst (λ (l : List ℕ). FallbackOf own before p ran m l r) (sym (u z)) (fallback-passed own before p ran m given k q r a e)

@@ -20,7 +20,8 @@ use Rattle.rules.proofs.CodeLaws.{code-place}
 use Rattle.eval_structs.specs.Decisions.{guardBy}
 use Rattle.eval_told.specs.declared.Ran.{Ran}
 use Rattle.eval_told.specs.Told.{told, Numbered, answered, scalarWords}
-use Rattle.eval_combine.specs.Made.{refusalOf, GuardOf}
+use Rattle.eval_told.specs.Results.{refusalRan}
+use Rattle.eval_combine.specs.Made.{GuardOf}
 use Rattle.eval_combine.proofs.Tells.{runOf, told-same, value-told, refusal-told}
 
 -- one word is the word of a value that is no list
@@ -80,7 +81,7 @@ module _ (lo hi : ℕ) (ran : Ran) where
       failed-same :
           (g ≡ 0 → ⊥)
           → told (evalGuard lo hi (runOf (ok (base (isNumber k))) t n l))
-          ≡ some (answered (refusalOf g (ran .numbers .current) (ran .tries) (ran .numbers)) m)
+          ≡ some (answered (refusalRan g (ran .numbers .current) (ran .tries) (ran .numbers)) m)
       unfolding told guardBy scalarWords if_then_else_
       failed-same f =
           let x = value-told ran m words-of t n l (base (isNumber k)) h in
@@ -128,8 +129,8 @@ module _ (lo hi : ℕ) (ran : Ran) where
     pub guard-within : g ≡ 0 → GuardOf lo hi ran ran
     guard-within e = record { same = whole ran (λ m t n l k h. within-same m t n l k h e); numbers = refl }
 
-    pub guard-failed : (g ≡ 0 → ⊥) → (r : Ran) → r ≡ refusalOf g (ran .numbers .current) (ran .tries) (ran .numbers) → GuardOf lo hi ran r
+    pub guard-failed : (g ≡ 0 → ⊥) → (r : Ran) → r ≡ refusalRan g (ran .numbers .current) (ran .tries) (ran .numbers) → GuardOf lo hi ran r
     guard-failed f r e = rw e (record {
-      same = whole (refusalOf g (ran .numbers .current) (ran .tries) (ran .numbers)) (λ m t n l k h. failed-same m t n l k h f);
+      same = whole (refusalRan g (ran .numbers .current) (ran .tries) (ran .numbers)) (λ m t n l k h. failed-same m t n l k h f);
       numbers = refl;
     })

@@ -26,7 +26,8 @@ use Rattle.eval_structs.specs.Laws.{counted-none, option-refused}
 use Rattle.eval_structs.proofs.Counting as T
 use Rattle.eval_told.specs.declared.Ran.{Ran}
 use Rattle.eval_told.specs.Told.{told, Numbered, toldWith}
-use Rattle.eval_combine.specs.Made.{valueOf, refusalOf, Given, Undone, optionalWords, OptionalOf}
+use Rattle.eval_told.specs.Results.{valueRan, refusalRan}
+use Rattle.eval_combine.specs.Made.{ChildGiven, Undone, optionalWords, OptionalOf}
 use Rattle.eval_combine.specs.declared.Optioned.{Optioned}
 use Rattle.eval_combine.proofs.Tells.{runOf, told-same, value-told, refusal-told}
 
@@ -81,7 +82,7 @@ module _ (catch : Bool) (before : List ℕ) (p : Numbers) (ran : Ran) (m : List 
       → told (runOf o t n l) ≡ some (toldWith ran m w)
       → (len word : ℕ)
       → told (evalOptional catch s (runOf o t n l))
-      ≡ some (toldWith (valueOf (ran .tries) len word (ran .numbers)) m (optionalWords 0 true w))
+      ≡ some (toldWith (valueRan (ran .tries) len word (ran .numbers)) m (optionalWords 0 true w))
   unfolding told evalOptional parseOption after ended _then_ fewer optionalWords words if_then_else_
   value-same z (ok v) t n l w i h len word =
       let x = value-told ran m w t n l v h in
@@ -112,7 +113,7 @@ module _ (catch : Bool) (before : List ℕ) (p : Numbers) (ran : Ran) (m : List 
       absent-same :
           k ≡ Absent
           → told (evalOptional catch s (runOf (refused e) t n l))
-          ≡ some (toldWith (valueOf (ran .tries) 1 0 p) before (optionalWords 0 false w))
+          ≡ some (toldWith (valueRan (ran .tries) 1 0 p) before (optionalWords 0 false w))
       unfolding told evalOptional optionBy after ended _then_ hand optionalWords words if_then_else_
       absent-same a =
           let x = refusal-told ran m w t n l e h in
@@ -123,7 +124,7 @@ module _ (catch : Bool) (before : List ℕ) (p : Numbers) (ran : Ran) (m : List 
           k ≡ PassedOn
           → (ran .number ≡ 0 → ⊥)
           → told (evalOptional catch s (runOf (refused e) t n l))
-          ≡ some (toldWith (refusalOf (ran .number) (ran .place) (ran .tries) (ran .numbers)) m
+          ≡ some (toldWith (refusalRan (ran .number) (ran .place) (ran .tries) (ran .numbers)) m
           (optionalWords (ran .number) false w))
       unfolding told evalOptional optionBy someOf after ended _then_ hand optionalWords if_then_else_
       passed-same a z =
@@ -158,11 +159,11 @@ module _ (catch : Bool) (before : List ℕ) (p : Numbers) (ran : Ran) (m : List 
       go (fault x) t n l i h = absurd (Option·none-ne-some _ h)
 
 -- ---- as the code returns
-module _ (catch : Bool) (before : List ℕ) (p : Numbers) (ran : Ran) (m : List ℕ) (given : Given before p m ran) (k : Counting)
+module _ (catch : Bool) (before : List ℕ) (p : Numbers) (ran : Ran) (m : List ℕ) (given : ChildGiven before p m ran) (k : Counting)
     (q : k ≡ optionWay (ran .number) catch (p .remaining) (ran .numbers .remaining) (countedOf 4294967295)) (r : Ran) where
   pub optional-present :
       OneOf (0 ∷ 1 ∷ []) (tagOf T.the-type k)
-      → r ≡ valueOf (ran .tries) (ran .len + 1) (ran .word) (ran .numbers)
+      → r ≡ valueRan (ran .tries) (ran .len + 1) (ran .word) (ran .numbers)
       → OptionalOf catch before p ran m m (record { ran = r; present = true })
   optional-present o e =
       let z : ran .number ≡ 0 = way-value (ran .number) (p .remaining) (ran .numbers .remaining) catch _ k q o in
@@ -176,13 +177,13 @@ module _ (catch : Bool) (before : List ℕ) (p : Numbers) (ran : Ran) (m : List 
 
   pub optional-absent :
       k ≡ Absent
-      → r ≡ valueOf (ran .tries) 1 0 p
+      → r ≡ valueRan (ran .tries) 1 0 p
       → OptionalOf catch before p ran m before (record { ran = r; present = false })
   unfolding refusing
   optional-absent a e =
       let z = refusing-number (ran .number) (p .remaining) (ran .numbers .remaining) catch (countedOf 4294967295) (rw (← q, a) tt) in
       rw e (record {
-        same = whole catch before p ran m (record { ran = valueOf (ran .tries) 1 0 p; present = false }) before z
+        same = whole catch before p ran m (record { ran = valueRan (ran .tries) 1 0 p; present = false }) before z
             (λ x t n l w i h. absent-same catch before p ran m k q x t n l w i h a);
         left = left-same before p (given .fine);
         present = λ _ f. absurd (false≢true f);
@@ -192,14 +193,14 @@ module _ (catch : Bool) (before : List ℕ) (p : Numbers) (ran : Ran) (m : List 
 
   pub optional-passed :
       k ≡ PassedOn
-      → r ≡ refusalOf (ran .number) (ran .place) (ran .tries) (ran .numbers)
+      → r ≡ refusalRan (ran .number) (ran .place) (ran .tries) (ran .numbers)
       → OptionalOf catch before p ran m m (record { ran = r; present = false })
   unfolding refusing
   optional-passed a e =
       let z = refusing-number (ran .number) (p .remaining) (ran .numbers .remaining) catch (countedOf 4294967295) (rw (← q, a) tt) in
       rw e (record {
         same = whole catch before p ran m
-            (record { ran = refusalOf (ran .number) (ran .place) (ran .tries) (ran .numbers); present = false }) m z
+            (record { ran = refusalRan (ran .number) (ran .place) (ran .tries) (ran .numbers); present = false }) m z
             (λ x t n l w i h. passed-same catch before p ran m k q x t n l w i h a z);
         left = given .left;
         present = λ _ f. absurd (false≢true f);
@@ -211,15 +212,15 @@ module _ (catch : Bool) (before : List ℕ) (p : Numbers) (ran : Ran) (m : List 
 module _ (catch : Bool) (p : Numbers) (ran : Ran) (k : Counting)
     (q : k ≡ optionWay (ran .number) catch (p .remaining) (ran .numbers .remaining) (countedOf 4294967295)) (r : Ran) where
   abbrev Made : Bool → Type 0
-  Made b = (before m : List ℕ) → Given before p m ran → Undone catch before p m ran → OptionalOf catch before p ran m m (record { ran = r; present = b })
+  Made b = (before m : List ℕ) → ChildGiven before p m ran → Undone catch before p m ran → OptionalOf catch before p ran m m (record { ran = r; present = b })
 
-  pub unchanged-present : OneOf (0 ∷ 1 ∷ []) (tagOf T.the-type k) → r ≡ valueOf (ran .tries) (ran .len + 1) (ran .word) (ran .numbers) → Made true
+  pub unchanged-present : OneOf (0 ∷ 1 ∷ []) (tagOf T.the-type k) → r ≡ valueRan (ran .tries) (ran .len + 1) (ran .word) (ran .numbers) → Made true
   unchanged-present o e before m given _ = optional-present catch before p ran m given k q r o e
 
-  pub unchanged-absent : k ≡ Absent → r ≡ valueOf (ran .tries) 1 0 p → Made false
+  pub unchanged-absent : k ≡ Absent → r ≡ valueRan (ran .tries) 1 0 p → Made false
   unchanged-absent a e before m given u =
       subst (λ (l : List ℕ). OptionalOf catch before p ran m l (record { ran = r; present = false })) (sym (u (sym q ∙ a)))
       (optional-absent catch before p ran m given k q r a e)
 
-  pub unchanged-passed : k ≡ PassedOn → r ≡ refusalOf (ran .number) (ran .place) (ran .tries) (ran .numbers) → Made false
+  pub unchanged-passed : k ≡ PassedOn → r ≡ refusalRan (ran .number) (ran .place) (ran .tries) (ran .numbers) → Made false
   unchanged-passed a e before m given _ = optional-passed catch before p ran m given k q r a e

@@ -22,29 +22,30 @@ use Rattle.eval_structs.proofs.Counting as T
 use Rattle.eval_told.specs.declared.Ran.{Ran}
 use Rattle.eval_combine.specs.declared.Optioned.{Optioned}
 use Rattle.eval_combine.specs.declared.Chosen.{Chosen}
-use Rattle.eval_combine.specs.Made.{valueOf, refusalOf, endedOf, wonOf}
+use Rattle.eval_told.specs.Results.{valueRan, refusalRan}
+use Rattle.eval_combine.specs.Made.{endedOf, wonOf}
 use Rattle.eval_combine.specs.Unchanged.{optionalBy, optionalMade, fallbackBy, fallbackMade, combined, sideMade, firstMade, secondMade}
 
 -- ---- optional
 module _ (catch : Bool) (p : Numbers) (ran : Ran) (k : Counting)
     (q : k ≡ optionWay (ran .number) catch (p .remaining) (ran .numbers .remaining) (countedOf 4294967295)) (r : Ran) where
-  pub made-present : OneOf (0 ∷ 1 ∷ []) (tagOf T.the-type k) → r ≡ valueOf (ran .tries) (ran .len + 1) (ran .word) (ran .numbers)
+  pub made-present : OneOf (0 ∷ 1 ∷ []) (tagOf T.the-type k) → r ≡ valueRan (ran .tries) (ran .len + 1) (ran .word) (ran .numbers)
       → _≡_ {A = Optioned} (record { ran = r; present = true }) (optionalMade catch p ran)
   unfolding optionalMade optionalBy
   made-present o e = rw (← q, e) (by-tag k o)
     where
       by-tag : (j : Counting) → OneOf (0 ∷ 1 ∷ []) (tagOf T.the-type j)
-          → _≡_ {A = Optioned} (record { ran = valueOf (ran .tries) (ran .len + 1) (ran .word) (ran .numbers); present = true }) (optionalBy j p ran)
+          → _≡_ {A = Optioned} (record { ran = valueRan (ran .tries) (ran .len + 1) (ran .word) (ran .numbers); present = true }) (optionalBy j p ran)
       by-tag Counted o = refl
       by-tag Uncounted o = refl
       by-tag Absent o = absurd (⊎-elim (λ (e : _≡_ {A = ℕ} 2 0). omega arith) (λ (e : _≡_ {A = ℕ} 2 1). omega arith) o)
       by-tag PassedOn o = absurd (⊎-elim (λ (e : _≡_ {A = ℕ} 3 0). omega arith) (λ (e : _≡_ {A = ℕ} 3 1). omega arith) o)
 
-  pub made-absent : k ≡ Absent → r ≡ valueOf (ran .tries) 1 0 p → _≡_ {A = Optioned} (record { ran = r; present = false }) (optionalMade catch p ran)
+  pub made-absent : k ≡ Absent → r ≡ valueRan (ran .tries) 1 0 p → _≡_ {A = Optioned} (record { ran = r; present = false }) (optionalMade catch p ran)
   unfolding optionalMade optionalBy
   made-absent a e = rw (← q, a, e)
 
-  pub made-passed : k ≡ PassedOn → r ≡ refusalOf (ran .number) (ran .place) (ran .tries) (ran .numbers)
+  pub made-passed : k ≡ PassedOn → r ≡ refusalRan (ran .number) (ran .place) (ran .tries) (ran .numbers)
       → _≡_ {A = Optioned} (record { ran = r; present = false }) (optionalMade catch p ran)
   unfolding optionalMade optionalBy
   made-passed a e = rw (← q, a, e)
@@ -56,11 +57,11 @@ module _ (own : ℕ) (p : Numbers) (ran : Ran) (k : Fallback) (q : k ≡ fallbac
   made-child a = rw (← q, a)
 
   module _ (r : Ran) where
-    pub made-own : k ≡ Own → r ≡ valueOf (ran .tries) 1 own p → r ≡ fallbackMade own p ran
+    pub made-own : k ≡ Own → r ≡ valueRan (ran .tries) 1 own p → r ≡ fallbackMade own p ran
     unfolding fallbackMade fallbackBy
     made-own a e = rw (← q, a) e
 
-    pub made-refusal : k ≡ Refusal → r ≡ refusalOf (ran .number) (ran .place) (ran .tries) p → r ≡ fallbackMade own p ran
+    pub made-refusal : k ≡ Refusal → r ≡ refusalRan (ran .number) (ran .place) (ran .tries) p → r ≡ fallbackMade own p ran
     unfolding fallbackMade fallbackBy
     made-refusal a e = rw (← q, a) e
 
@@ -78,7 +79,7 @@ module _ (p : Numbers) (ran : Ran) (r : Ran) where
   made-second z w = rw (eq-eqb (ran .number) 0 z, w)
 
   module _ (z : ran .number ≡ 0 → ⊥) (u : Refused) (eu : u ≡ endedOf ran) (c : Refused)
-      (w : r ≡ refusalOf (c .number) (c .place) (ran .tries + 1) p) where
+      (w : r ≡ refusalRan (c .number) (c .place) (ran .tries + 1) p) where
     pub made-first-refused : c ≡ error.refusedOf (combineWith (error.refusalOf u) (error.refusalOf missing))
         → _≡_ {A = Chosen} (record { ran = r; first = false }) (firstMade p ran)
     unfolding firstMade sideMade combined if_then_else_

@@ -20,23 +20,18 @@ use Rattle.take.specs.Takes.{LeftState}
 use Rattle.eval_structs.specs.declared.Counting.the-variants.{Absent}
 use Rattle.eval_structs.specs.Decisions.{countedOf, optionWay}
 use Rattle.eval_told.specs.declared.Ran.{Ran}
+use Rattle.eval_told.specs.Results.{valueRan, refusalRan}
 use Rattle.eval_told.specs.Told.{told, Numbered, toldWith, answered, scalarWords}
 use Rattle.eval_told.specs.Nodes.{treeAt}
 use Rattle.eval_combine.specs.declared.Optioned.{Optioned}
 use Rattle.eval_combine.specs.declared.Chosen.{Chosen}
 
-abbrev pub valueOf : ℕ → ℕ → ℕ → Numbers → Ran
-valueOf tries len word p = record { number = 0; place = 0; tries = tries; len = len; word = word; numbers = p }
-
-abbrev pub refusalOf : ℕ → ℕ → ℕ → Numbers → Ran
-refusalOf number place tries p = record { number = number; place = place; tries = tries; len = 0; word = 0; numbers = p }
-
 -- the result of a node that is missing: 20, after one try
 abbrev pub missingOf : Numbers → Ran
-missingOf p = refusalOf 20 0 1 p
+missingOf p = refusalRan 20 0 1 p
 
 -- a child's result, and what it left of the state that it was given
-pub record Given (before : List ℕ) (p : Numbers) (m : List ℕ) (ran : Ran) : Type 0 where
+pub record ChildGiven (before : List ℕ) (p : Numbers) (m : List ℕ) (ran : Ran) : Type 0 where
   pub fine : Fine before p
   pub left : LeftState before p m (ran .numbers)
   pub short : ran .len < 1000
@@ -72,8 +67,8 @@ pub record FallbackOf (word : ℕ) (before : List ℕ) (p : Numbers) (ran : Ran)
   pub left : LeftState before p m′ (r .numbers)
 
 -- a refused child left the marks as they were
-abbrev pub Unchanged : List ℕ → List ℕ → Ran → Type 0
-Unchanged before m ran = (ran .number ≡ 0 → ⊥) → m ≡ before
+abbrev pub MarksUnchanged : List ℕ → List ℕ → Ran → Type 0
+MarksUnchanged before m ran = (ran .number ≡ 0 → ⊥) → m ≡ before
 
 -- ---- guard
 pub record GuardOf (lo hi : ℕ) (ran r : Ran) : Type 0 where
@@ -109,7 +104,7 @@ abbrev pub endedOf : Ran → Refused
 endedOf ran = record { number = ran .number; place = ran .place }
 
 abbrev pub wonOf : ℕ → Ran → Ran
-wonOf tries ran = valueOf tries (ran .len) (ran .word) (ran .numbers)
+wonOf tries ran = valueRan tries (ran .len) (ran .word) (ran .numbers)
 
 -- the winner's marks beside the loser's, by the place that decided, plus 1, or 0 for none
 unfoldable pub wonMarks : ℕ → ℕ → List ℕ → List ℕ → List ℕ

@@ -15,14 +15,15 @@ use Rattle.eval_structs.specs.Decisions.{countedOf, optionWay, fallbackWay}
 use Rattle.eval_told.specs.declared.Ran.{Ran}
 use Rattle.eval_combine.specs.declared.Optioned.{Optioned}
 use Rattle.eval_combine.specs.declared.Chosen.{Chosen}
-use Rattle.eval_combine.specs.Made.{valueOf, refusalOf, endedOf, wonOf}
+use Rattle.eval_told.specs.Results.{valueRan, refusalRan}
+use Rattle.eval_combine.specs.Made.{endedOf, wonOf}
 
 -- ---- optional
 unfoldable pub optionalBy : Counting → Numbers → Ran → Optioned
-optionalBy Counted p ran = record { ran = valueOf (ran .tries) (ran .len + 1) (ran .word) (ran .numbers); present = true }
-optionalBy Uncounted p ran = record { ran = valueOf (ran .tries) (ran .len + 1) (ran .word) (ran .numbers); present = true }
-optionalBy Absent p ran = record { ran = valueOf (ran .tries) 1 0 p; present = false }
-optionalBy PassedOn p ran = record { ran = refusalOf (ran .number) (ran .place) (ran .tries) (ran .numbers); present = false }
+optionalBy Counted p ran = record { ran = valueRan (ran .tries) (ran .len + 1) (ran .word) (ran .numbers); present = true }
+optionalBy Uncounted p ran = record { ran = valueRan (ran .tries) (ran .len + 1) (ran .word) (ran .numbers); present = true }
+optionalBy Absent p ran = record { ran = valueRan (ran .tries) 1 0 p; present = false }
+optionalBy PassedOn p ran = record { ran = refusalRan (ran .number) (ran .place) (ran .tries) (ran .numbers); present = false }
 
 unfoldable pub optionalMade : Bool → Numbers → Ran → Optioned
 optionalMade catch p ran =
@@ -31,8 +32,8 @@ optionalMade catch p ran =
 -- ---- fallback, whose own value is this word
 unfoldable pub fallbackBy : Fallback → ℕ → Numbers → Ran → Ran
 fallbackBy Child own p ran = ran
-fallbackBy Own own p ran = valueOf (ran .tries) 1 own p
-fallbackBy Refusal own p ran = refusalOf (ran .number) (ran .place) (ran .tries) p
+fallbackBy Own own p ran = valueRan (ran .tries) 1 own p
+fallbackBy Refusal own p ran = refusalRan (ran .number) (ran .place) (ran .tries) p
 
 unfoldable pub fallbackMade : ℕ → Numbers → Ran → Ran
 fallbackMade own p ran = fallbackBy (fallbackWay (ran .number)) own p ran
@@ -48,7 +49,7 @@ unfoldable pub sideMade : Bool → Refused → Numbers → Ran → Chosen
 sideMade first e p ran =
     if eqb (ran .number) 0
     then record { ran = wonOf (ran .tries + 1) ran; first = first }
-    else record { ran = refusalOf (e .number) (e .place) (ran .tries + 1) p; first = false }
+    else record { ran = refusalRan (e .number) (e .place) (ran .tries + 1) p; first = false }
 
 unfoldable pub firstMade : Numbers → Ran → Chosen
 firstMade p ran = sideMade true (combined (endedOf ran) missing) p ran

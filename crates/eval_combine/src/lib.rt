@@ -6,12 +6,14 @@ ghost use Prim.Native.Nat.{ℕ, _+_, _^_, _<_};
 ghost use Rattle.rules.specs.Value.{BaseValue, word};
 ghost use Rattle.rules.specs.Tree.{Tree, Fallback as FallbackTree};
 ghost use Rattle.eval_told.specs.Nodes.{treeAt};
-ghost use Rattle.eval_combine.specs.Made.{valueOf, refusalOf, missingOf, Given, Undone, OptionalOf, Returned, FallbackOf, Unchanged, GuardOf, Sides, ChoiceOf, endedOf, wonOf, Decided, wonMarks, Marked, WinnerOf, FallbackAt};
+ghost use Rattle.eval_combine.specs.Made.{missingOf, ChildGiven, Undone, OptionalOf, Returned, FallbackOf, MarksUnchanged, GuardOf, Sides, ChoiceOf, endedOf, wonOf, Decided, wonMarks, Marked, WinnerOf, FallbackAt};
 ghost use Rattle.eval_combine.specs.Unchanged.{optionalMade, fallbackMade, firstMade, secondMade};
 use eval_structs::Counting;
 use eval_structs::Fallback;
 use eval_structs::Pick;
 use eval_told::Ran;
+use eval_told::refusal;
+use eval_told::value;
 use state_marks::Numbers;
 use wire::wide;
 
@@ -25,32 +27,6 @@ pub struct Chosen {
     pub first: bool,
 }
 
-fn value(tries: u32, len: u32, word: u32, p: Numbers) -> Ran
-    ensures { λ r. ⌜ r ≡ valueOf tries len word p ⌝ }
-{
-    Ran {
-        number: 0,
-        place: 0,
-        tries: tries,
-        len: len,
-        word: word,
-        numbers: p,
-    }
-}
-
-fn refusal(number: u32, place: u32, tries: u32, p: Numbers) -> Ran
-    ensures { λ r. ⌜ r ≡ refusalOf number place tries p ⌝ }
-{
-    Ran {
-        number: number,
-        place: place,
-        tries: tries,
-        len: 0,
-        word: 0,
-        numbers: p,
-    }
-}
-
 // What an optional makes of its child's result. `before` are the marks that the child was given.
 pub fn optional(
     ran: Ran,
@@ -59,7 +35,7 @@ pub fn optional(
     before: &[u16; 256],
     marks: &mut [u16; 256],
 ) -> Optioned
-    requires { ⌜ Given (now before) p (now marks) ran ⌝ }
+    requires { ⌜ ChildGiven (now before) p (now marks) ran ⌝ }
     ensures { λ r. ⌜ OptionalOf catch (now (before .entry)) p ran (now (marks .entry)) (now (marks .exit)) r ⌝ }
 {
     let left = ran.numbers;
@@ -86,7 +62,7 @@ pub fn optional(
 pub fn optional_unchanged(ran: Ran, p: Numbers, catch: bool) -> Optioned
     requires { ⌜ ran .len < 1000 ⌝ }
     ensures { λ r. ⌜ r ≡ optionalMade catch p ran ⌝ }
-    ensures { λ r. ⌜ ((before m : List ℕ) → Given before p m ran → Undone catch before p m ran → OptionalOf catch before p ran m m r) ⌝ }
+    ensures { λ r. ⌜ ((before m : List ℕ) → ChildGiven before p m ran → Undone catch before p m ran → OptionalOf catch before p ran m m r) ⌝ }
 {
     let left = ran.numbers;
     match eval_structs::parse_option(ran.number, catch, p.remaining, left.remaining, 4294967295) {
@@ -126,7 +102,7 @@ pub fn fallback(ran: Ran, p: Numbers, word: u32, before: &[u16; 256], marks: &mu
 // What a fallback makes of its child's result, where a refused child left the marks as they were.
 pub fn fallback_unchanged(ran: Ran, p: Numbers, word: u32) -> Ran
     ensures { λ r. ⌜ r ≡ fallbackMade word p ran ⌝ }
-    ensures { λ r. ⌜ ((before m : List ℕ) → Returned before p m ran → Unchanged before m ran → FallbackOf word before p ran m m r) ⌝ }
+    ensures { λ r. ⌜ ((before m : List ℕ) → Returned before p m ran → MarksUnchanged before m ran → FallbackOf word before p ran m m r) ⌝ }
 {
     match eval_structs::parse_fallback(ran.number) {
         Fallback::Child => ran,
@@ -276,7 +252,7 @@ pub fn choose(
 pub fn first_alone(ran: Ran, p: Numbers) -> Chosen
     requires { ⌜ ran .tries + 1 < 2 ^ 32 ⌝ }
     ensures { λ r. ⌜ r ≡ firstMade p ran ⌝ }
-    ensures { λ r. ⌜ ((before m : List ℕ) → Sides before p m ran before (missingOf p) → Unchanged before m ran → ChoiceOf before p m ran before (missingOf p) m r) ⌝ }
+    ensures { λ r. ⌜ ((before m : List ℕ) → Sides before p m ran before (missingOf p) → MarksUnchanged before m ran → ChoiceOf before p m ran before (missingOf p) m r) ⌝ }
 {
     let tries = ran.tries + 1;
     if ran.number == 0 {
@@ -302,7 +278,7 @@ pub fn first_alone(ran: Ran, p: Numbers) -> Chosen
 pub fn second_alone(ran: Ran, p: Numbers) -> Chosen
     requires { ⌜ ran .tries + 1 < 2 ^ 32 ⌝ }
     ensures { λ r. ⌜ r ≡ secondMade p ran ⌝ }
-    ensures { λ r. ⌜ ((before m : List ℕ) → Sides before p before (missingOf p) m ran → Unchanged before m ran → ChoiceOf before p before (missingOf p) m ran m r) ⌝ }
+    ensures { λ r. ⌜ ((before m : List ℕ) → Sides before p before (missingOf p) m ran → MarksUnchanged before m ran → ChoiceOf before p before (missingOf p) m ran m r) ⌝ }
 {
     let tries = ran.tries + 1;
     if ran.number == 0 {

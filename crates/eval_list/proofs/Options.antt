@@ -27,7 +27,7 @@ use Rattle.eval_told.specs.Nodes.{treeAt}
 use Rattle.eval_told.proofs.Visits.{visit-told, runs-numbered}
 use Rattle.eval_told.proofs.Repeats.{told-value}
 use Rattle.eval_combine.specs.declared.Optioned.{Optioned}
-use Rattle.eval_combine.specs.Made.{Given, optionalWords, OptionalOf}
+use Rattle.eval_combine.specs.Made.{ChildGiven, optionalWords, OptionalOf}
 use Rattle.eval_list.specs.declared.Field.{Field}
 use Rattle.eval_list.specs.Lists.{Writes, WritesField, OverList}
 use Rattle.eval_list.proofs.Words.{set-zero, sets-over, sets-read}
@@ -104,7 +104,7 @@ module _
     abbrev own : Writes mark (sheetArea s) items (r .below .stands .tree) m p m′ o at o′ ran
     own = h (r .below .stands .tree) (r .below .stands .node)
 
-    pub given : Given m p m′ ran
+    pub given : ChildGiven m p m′ ran
     given = let w = own in record { fine = state .fine; left = w .left; short = omega (arith, w .len, w .fits) }
 
     module _ {m″ : List ℕ} {made : Optioned} (f : OptionalOf catch m p ran m′ m″ made) where
@@ -144,7 +144,12 @@ module _
             node-short mark (state .told) m p (state .fine) (state .items) (state .same) (Optional catch t) sound (toldWith (made .ran) m″ value)
             (outer (state .items) (state .table, state .same))
 
-        ends : (o″ : List ℕ) (v : List ℕ) → value ≡ v → o″ ≡ sets o at v → made .ran .len ≡ length v → Writes mark (sheetArea s) items (Optional catch t) m p m″ o at o″ (made .ran)
+        ends :
+            (o″ v : List ℕ)
+            → value ≡ v
+            → o″ ≡ sets o at v
+            → made .ran .len ≡ length v
+            → Writes mark (sheetArea s) items (Optional catch t) m p m″ o at o″ (made .ran)
         ends o″ v e q l =
             record {
               value = value;

@@ -29,6 +29,7 @@ use Rattle.state_marks.specs.declared.Numbers.{Numbers}
 use Rattle.state_marks.specs.Lent.{stateOf}
 use Rattle.take.specs.Takes as takes
 use Rattle.eval_told.specs.declared.Ran.{Ran}
+use Rattle.eval_told.specs.Results.{refusalRan}
 use Rattle.eval_told.specs.Told.{Told, told, Numbered}
 use Rattle.eval_told.specs.Nodes.{treeAt}
 use Rattle.eval_told.specs.Lists.{ToldList, toldList}
@@ -38,7 +39,7 @@ use Rattle.eval_node.specs.declared.Repeat.{Repeat}
 use Rattle.eval_node.specs.declared.Repeated.{Repeated}
 use Rattle.eval_node.specs.Cycle.{listed, Room, Repeating, Repeats}
 use Rattle.eval_list.specs.declared.Field.{Field}
-use Rattle.eval_list.specs.Lists.{Writes, OverScalar, WritesOver, refusedList, Counted}
+use Rattle.eval_list.specs.Lists.{Writes, OverScalar, WritesOver, CountedList}
 use Rattle.eval_list.proofs.Words.{sets-head}
 use Rattle.eval_list.proofs.Runs.{node-good}
 
@@ -156,7 +157,7 @@ module _
         → ((is : List Item) → takes.Items area items p is
         → told (eval mark is u (stateOf m p)) ≡ some (record { number = number; place = place; tries = all .tries; words = []; state = stateOf m′ (all .numbers) }))
         → (q : Ran)
-        → q ≡ refusedList number place (all .tries) (all .numbers)
+        → q ≡ refusalRan number place (all .tries) (all .numbers)
         → Writes mark area items u m p m′ o at o′ q
     refused-writes u number place v same q e =
         subst (λ (r : Ran). Writes mark area items u m p m′ o at o′ r) (sym e)
@@ -170,7 +171,7 @@ module _
         (record
         { number = 0; place = 0; tries = all .tries; words = length (h .values) ∷ flatten (h .values); state = stateOf m′ (all .numbers) }))
         → (o″ : List ℕ) (q : Ran)
-        → Counted all o′ at o″ q
+        → CountedList all o′ at o″ q
         → Writes mark area items u m p m′ o at o″ q
     unfolding if_then_else_
     counted-writes u same o″ q c =
@@ -206,13 +207,17 @@ module _
       many-told is e =
           visit-told (Many catch t) (stateOf m p) (evalMany catch (eval mark is t) (stateOf m p))
 
-      pub many-denied : (all .number ≡ 0 → ⊥) → (q : Ran) → q ≡ refusedList (all .number) (all .place) (all .tries) (all .numbers) → Writes mark area items (Many catch t) m p m′ o at o′ q
+      pub many-denied :
+          (all .number ≡ 0 → ⊥)
+          → (q : Ran)
+          → q ≡ refusalRan (all .number) (all .place) (all .tries) (all .numbers)
+          → Writes mark area items (Many catch t) m p m′ o at o′ q
       many-denied n q e =
           refused-writes (Many catch t) (all .number) (all .place) (values-none n)
           (λ is k. many-told is (k .1) ∙ many-refused (eval mark is t) (stateOf m p) x catch (h .same is k) (repeat-told is (sound-many catch t z) (k .1)) n)
           q e
 
-      pub many-made : all .number ≡ 0 → (o″ : List ℕ) (q : Ran) → Counted all o′ at o″ q → Writes mark area items (Many catch t) m p m′ o at o″ q
+      pub many-made : all .number ≡ 0 → (o″ : List ℕ) (q : Ran) → CountedList all o′ at o″ q → Writes mark area items (Many catch t) m p m′ o at o″ q
       many-made n o″ q c =
           counted-writes (Many catch t)
           (λ is k. many-told is (k .1) ∙ many-value (eval mark is t) (stateOf m p) x catch (h .same is k) (repeat-told is (sound-many catch t z) (k .1)) n)
@@ -225,7 +230,11 @@ module _
       some-told is e =
           visit-told (Some catch t) (stateOf m p) (evalSome catch (eval mark is t) (stateOf m p))
 
-      pub some-denied : (all .number ≡ 0 → ⊥) → (q : Ran) → q ≡ refusedList (all .number) (all .place) (all .tries) (all .numbers) → Writes mark area items (Some catch t) m p m′ o at o′ q
+      pub some-denied :
+          (all .number ≡ 0 → ⊥)
+          → (q : Ran)
+          → q ≡ refusalRan (all .number) (all .place) (all .tries) (all .numbers)
+          → Writes mark area items (Some catch t) m p m′ o at o′ q
       some-denied n q e =
           refused-writes (Some catch t) (all .number) (all .place) (values-none n)
           (λ is k. some-told is (k .1) ∙ some-refused (eval mark is t) (stateOf m p) x catch (h .same is k) (repeat-told is (sound-some catch t z) (k .1)) n)
@@ -271,14 +280,14 @@ module _
             go zero e = refl
             go (suc k) e = absurd (w (any-number (λ y. omega arith)))
 
-        pub some-empty : (r ≡ 0 → ⊥) → (q : Ran) → q ≡ refusedList r 0 (all .tries) (all .numbers) → Writes mark area items (Some catch t) m p m′ o at o′ q
+        pub some-empty : (r ≡ 0 → ⊥) → (q : Ran) → q ≡ refusalRan r 0 (all .tries) (all .numbers) → Writes mark area items (Some catch t) m p m′ o at o′ q
         some-empty w q e =
             let l = none-there w in
             refused-writes (Some catch t) 21 0 (empty (h .values) l)
             (λ is k. some-told is (k .1) ∙ some-none (eval mark is t) (stateOf m p) x catch (h .same is k) (repeat-told is (sound-some catch t z) (k .1)) n l)
-            q (e ∙ ap (λ (k : ℕ). refusedList k 0 (all .tries) (all .numbers)) (none-number l))
+            q (e ∙ ap (λ (k : ℕ). refusalRan k 0 (all .tries) (all .numbers)) (none-number l))
 
-        pub some-made : r ≡ 0 → (o″ : List ℕ) (q : Ran) → Counted all o′ at o″ q → Writes mark area items (Some catch t) m p m′ o at o″ q
+        pub some-made : r ≡ 0 → (o″ : List ℕ) (q : Ran) → CountedList all o′ at o″ q → Writes mark area items (Some catch t) m p m′ o at o″ q
         some-made w o″ q c =
             let l : length (h .values) ≡ 0 → ⊥ = λ e. let u = none-number e in omega arith in
             counted-writes (Some catch t)
@@ -331,13 +340,13 @@ module _
         pub many-refuses :
             (all .number ≡ 0 → ⊥)
             → {q : Ran}
-            → q ≡ refusedList (all .number) (all .place) (all .tries) (all .numbers)
+            → q ≡ refusalRan (all .number) (all .place) (all .tries) (all .numbers)
             → WritesOver (Many catch) b s items child m p m′ o o′ q
         many-refuses n {q} e t g =
             many-denied catch child (sheetArea s) items t m p (r .below .stands .state) m′ o o′ all (h t g)
             (child-sound (sound-many catch) r t g) n q e
 
-        pub many-ends : all .number ≡ 0 → {o″ : List ℕ} {q : Ran} → Counted all o′ (child .at) o″ q → WritesOver (Many catch) b s items child m p m′ o o″ q
+        pub many-ends : all .number ≡ 0 → {o″ : List ℕ} {q : Ran} → CountedList all o′ (child .at) o″ q → WritesOver (Many catch) b s items child m p m′ o o″ q
         many-ends n {o″} {q} c t g =
             many-made catch child (sheetArea s) items t m p (r .below .stands .state) m′ o o′ all (h t g)
             (child-sound (sound-many catch) r t g) n o″ q c
@@ -349,7 +358,7 @@ module _
         pub some-refuses :
             (all .number ≡ 0 → ⊥)
             → {q : Ran}
-            → q ≡ refusedList (all .number) (all .place) (all .tries) (all .numbers)
+            → q ≡ refusalRan (all .number) (all .place) (all .tries) (all .numbers)
             → WritesOver (Some catch) b s items child m p m′ o o′ q
         some-refuses n {q} e t g =
             some-denied catch child (sheetArea s) items t m p (r .below .stands .state) m′ o o′ all (h t g)
@@ -359,13 +368,13 @@ module _
           pub some-nothing :
               (k ≡ 0 → ⊥)
               → {q : Ran}
-              → q ≡ refusedList k 0 (all .tries) (all .numbers)
+              → q ≡ refusalRan k 0 (all .tries) (all .numbers)
               → WritesOver (Some catch) b s items child m p m′ o o′ q
           some-nothing w {q} e t g =
               some-empty catch child (sheetArea s) items t m p (r .below .stands .state) m′ o o′ all (h t g)
               (child-sound (sound-some catch) r t g) n k by w q e
 
-          pub some-ends : k ≡ 0 → {o″ : List ℕ} {q : Ran} → Counted all o′ (child .at) o″ q → WritesOver (Some catch) b s items child m p m′ o o″ q
+          pub some-ends : k ≡ 0 → {o″ : List ℕ} {q : Ran} → CountedList all o′ (child .at) o″ q → WritesOver (Some catch) b s items child m p m′ o o″ q
           some-ends w {o″} {q} c t g =
               some-made catch child (sheetArea s) items t m p (r .below .stands .state) m′ o o′ all (h t g)
               (child-sound (sound-some catch) r t g) n k by w o″ q c

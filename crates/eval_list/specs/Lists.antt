@@ -17,6 +17,7 @@ use Rattle.state_marks.specs.declared.Numbers.{Numbers}
 use Rattle.state_marks.specs.Lent.{stateOf}
 use Rattle.take.specs.Takes.{LeftState, Items}
 use Rattle.eval_told.specs.declared.Ran.{Ran}
+use Rattle.eval_told.specs.Results.{valueRan}
 use Rattle.eval_told.specs.Told.{told, toldWith}
 use Rattle.eval_told.specs.Nodes.{treeAt, isScalar, Standing, Scalar}
 use Rattle.eval_node.specs.Cycle.{Room}
@@ -69,12 +70,9 @@ pub record EitherList (b known s words m : List ℕ) (p : Numbers) (left : Field
   pub sound : Sound (Choice (first .stands .tree) (second .stands .tree))
 
 -- ---- what the small functions make
-abbrev pub refusedList : ℕ → ℕ → ℕ → Numbers → Ran
-refusedList number place tries p = record { number = number; place = place; tries = tries; len = 0; word = 0; numbers = p }
-
 -- a list, and its count before its words
-pub record Counted (all : Repeated) (o : List ℕ) (at : ℕ) (o′ : List ℕ) (r : Ran) : Type 0 where
-  pub same : r ≡ record { number = 0; place = 0; tries = all .tries; len = all .size + 1; word = 0; numbers = all .numbers }
+pub record CountedList (all : Repeated) (o : List ℕ) (at : ℕ) (o′ : List ℕ) (r : Ran) : Type 0 where
+  pub same : r ≡ valueRan (all .tries) (all .size + 1) 0 (all .numbers)
   pub put : o′ ≡ sets o at (all .count ∷ [])
 
 -- words that are set aside, and are 0 then

@@ -8,7 +8,7 @@ ghost use lib.Seq.{sets};
 ghost use Rattle.rules.specs.Sheet.{sheetArea};
 ghost use Rattle.rules.specs.Tree.{Tree, Optional, Many, Some, Choice};
 ghost use Rattle.eval_told.specs.Nodes.{treeAt};
-ghost use Rattle.eval_list.specs.Lists.{Listed, Writes, WritesField, OverScalar, OverList, WritesOver, EitherList, refusedList, Counted, Aside, settled};
+ghost use Rattle.eval_list.specs.Lists.{Listed, Writes, WritesField, OverScalar, OverList, WritesOver, EitherList, CountedList, Aside, settled};
 use eval_node::Repeat;
 use eval_node::Repeated;
 use eval_told::Ran;
@@ -74,34 +74,14 @@ fn settle(out: &mut [u32], at: usize, number: u32, first: bool, kept: &[u32], n:
     }
 }
 
-fn refused(number: u32, place: u32, tries: u32, p: Numbers) -> Ran
-    ensures { λ r. ⌜ r ≡ refusedList number place tries p ⌝ }
-{
-    Ran {
-        number: number,
-        place: place,
-        tries: tries,
-        len: 0,
-        word: 0,
-        numbers: p,
-    }
-}
-
 // A list's count goes before the words of its values.
 fn counted(all: Repeated, at: usize, out: &mut [u32]) -> Ran
     requires { ⌜ (all .size ≤ 514) × (at < length (now out)) ⌝ }
-    ensures { λ r. ⌜ Counted all (now (out .entry)) at (now (out .exit)) r ⌝ }
+    ensures { λ r. ⌜ CountedList all (now (out .entry)) at (now (out .exit)) r ⌝ }
 {
     out[at] = all.count;
     let left = all.numbers;
-    Ran {
-        number: 0,
-        place: 0,
-        tries: all.tries,
-        len: all.size + 1,
-        word: 0,
-        numbers: left,
-    }
+    eval_told::value(all.tries, all.size + 1, 0, left)
 }
 
 fn run_many(
@@ -128,7 +108,7 @@ fn run_many(
     let all = eval_node::run_repeat(form, known, sheet, items, marks, p, how, out, child.mark);
     if all.number != 0 {
         let left = all.numbers;
-        return refused(all.number, all.place, all.tries, left);
+        return eval_told::refusal(all.number, all.place, all.tries, left);
     }
     counted(all, child.at, out)
 }
@@ -158,11 +138,11 @@ fn run_some(
     let all = eval_node::run_repeat(form, known, sheet, items, marks, p, how, out, child.mark);
     let left = all.numbers;
     if all.number != 0 {
-        return refused(all.number, all.place, all.tries, left);
+        return eval_told::refusal(all.number, all.place, all.tries, left);
     }
     let number = eval_structs::parse_some(all.count);
     if number != 0 {
-        return refused(number, 0, all.tries, left);
+        return eval_told::refusal(number, 0, all.tries, left);
     }
     counted(all, child.at, out)
 }

@@ -30,11 +30,12 @@ use Rattle.eval_told.specs.Lists.{toldList}
 use Rattle.eval_told.proofs.ListLaws.{listTold, count-value, count-refused, last-refused, last-again, last-value}
 use Rattle.eval_shortcut.specs.Children.{Wraps, Wrapped}
 use Rattle.eval_shortcut.proofs.Trees.{sound-at}
-use Rattle.eval_shortcut.proofs.Given.{Says}
+use Rattle.eval_shortcut.specs.Children.{NodeSays}
 use Rattle.eval_shortcut.proofs.Steps.{inside, wrapped, child-told, child-left, child-tries}
+use Rattle.eval_told.specs.Results.{moreTries}
 use Rattle.eval_node.specs.declared.Repeat.{Repeat}
 use Rattle.eval_node.specs.declared.Repeated.{Repeated}
-use Rattle.eval_node.specs.Values.{refusedList, countedValues, lastValue, moreTries}
+use Rattle.eval_node.specs.Values.{deniedList, countedValues, lastValue}
 use Rattle.eval_node.specs.Cycle.{listed, Repeating, Repeats}
 
 -- the repeat of `count` and of `last`
@@ -96,7 +97,7 @@ module _
           tells : toldList (repeated false true run (stateOf m p)) ≡ some (listed all m′ (answer .values))
           tells = answer .same is i
 
-          count-denied : (all .number ≡ 0 → ⊥) → told (evalCount run (stateOf m p)) ≡ some (answered (refusedList all) m′)
+          count-denied : (all .number ≡ 0 → ⊥) → told (evalCount run (stateOf m p)) ≡ some (answered (deniedList all) m′)
           unfolding scalarWords if_then_else_
           count-denied e = count-refused run (stateOf m p) (listed all m′ (answer .values)) tells numbered e
 
@@ -106,7 +107,7 @@ module _
               count-value run (stateOf m p) (listed all m′ (answer .values)) tells numbered e
               ∙ ap (λ (k : ℕ). some (listTold (listed all m′ (answer .values)) (k ∷ []))) (sym (answer .count))
 
-          last-denied : (all .number ≡ 0 → ⊥) → told (evalLast run (stateOf m p)) ≡ some (answered (refusedList all) m′)
+          last-denied : (all .number ≡ 0 → ⊥) → told (evalLast run (stateOf m p)) ≡ some (answered (deniedList all) m′)
           unfolding scalarWords if_then_else_
           last-denied e = last-refused run (stateOf m p) (listed all m′ (answer .values)) tells numbered e
 
@@ -138,7 +139,7 @@ module _
           scalar = z .scalar;
         }
 
-        module _ (m″ : List ℕ) (ran : Ran) (said : Says b s ws m′ (all .numbers) mark n m″ ran) where
+        module _ (m″ : List ℕ) (ran : Ran) (said : NodeSays b s ws m′ (all .numbers) mark n m″ ran) where
           pub last-fits : all .tries + ran .tries < 4294967296
           last-fits =
               let h = child-tries b known s ws m′ (all .numbers) mark n last-ready m″ ran said in
@@ -189,7 +190,7 @@ module _ (b known s ws m : List ℕ) (p : Numbers) (mark n : ℕ) (z : Wraps Cou
             left = rw q (f t (z .below .stands .node) .left);
           })
 
-      pub count-refuses : (all .number ≡ 0 → ⊥) → r ≡ refusedList all → Wrapped Count mark b s ws n m p m′ r
+      pub count-refuses : (all .number ≡ 0 → ⊥) → r ≡ deniedList all → Wrapped Count mark b s ws n m p m′ r
       count-refuses e q =
           count-wraps
           (λ is i. rw q (count-denied b known s ws m p mark n (z .below) count-flat m′ o o′ all f is i e))
@@ -230,10 +231,10 @@ module _ (b known s ws m : List ℕ) (p : Numbers) (mark n : ℕ) (z : Wraps Las
             left = l;
           })
 
-      pub last-refuses : (all .number ≡ 0 → ⊥) → (r : Ran) → r ≡ refusedList all → Wrapped Last mark b s ws n m p m′ r
+      pub last-refuses : (all .number ≡ 0 → ⊥) → (r : Ran) → r ≡ deniedList all → Wrapped Last mark b s ws n m p m′ r
       last-refuses e r q =
           rw q
-          (last-wraps m′ (refusedList all)
+          (last-wraps m′ (deniedList all)
           (λ is i. last-denied b known s ws m p mark n (z .below) last-flat m′ o o′ all f is i e)
           (f (z .below .stands .tree) (z .below .stands .node) .left))
 
@@ -247,7 +248,7 @@ module _ (b known s ws m : List ℕ) (p : Numbers) (mark n : ℕ) (z : Wraps Las
       pub again-ready : Scalar b known s ws m′ (all .numbers) mark n
       again-ready = last-ready b known s ws m p mark n (z .below) last-flat m′ o o′ all f
 
-      module _ (m″ : List ℕ) (ran : Ran) (said : Says b s ws m′ (all .numbers) mark n m″ ran) where
+      module _ (m″ : List ℕ) (ran : Ran) (said : NodeSays b s ws m′ (all .numbers) mark n m″ ran) where
         pub again-fits : all .tries + ran .tries < 4294967296
         again-fits = last-fits b known s ws m p mark n (z .below) last-flat m′ o o′ all f m″ ran said
 

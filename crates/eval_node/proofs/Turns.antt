@@ -37,12 +37,12 @@ use Rattle.eval_told.proofs.Repeats.{told-state, told-tries, prefixed-none, Wen
 use Rattle.eval_shortcut.specs.Marks.{keepsMarks}
 use Rattle.eval_shortcut.specs.Children.{Hint, Turns}
 use Rattle.eval_shortcut.proofs.Words.{scalar-short}
-use Rattle.eval_shortcut.proofs.Given.{Says}
+use Rattle.eval_shortcut.specs.Children.{NodeSays}
 use Rattle.eval_shortcut.proofs.Absent.{absent-by}
 use Rattle.eval_shortcut.proofs.Steps.{few-left, child-runs, child-told, child-left}
 use Rattle.eval_node.specs.declared.Repeat.{Repeat}
 use Rattle.eval_node.specs.declared.Repeated.{Repeated}
-use Rattle.eval_node.specs.Values.{Wrote, noValue, Fits, oneMore, endedWith, passedOn, nextFrom}
+use Rattle.eval_node.specs.Values.{WroteValue, noValue, OneMoreFits, oneMore, endedWith, passedOn, nextFrom}
 use Rattle.eval_node.specs.Cycle.{listed, Room, Repeating, Repeats}
 use Rattle.eval_node.proofs.Words.{sets-append, sets-back}
 use Rattle.eval_node.proofs.Hints.{hint-first, hint-next}
@@ -163,7 +163,7 @@ kept-more :
     → Kept writes at o₀ o vs all
     → words v ≡ scalarWords (ran .len) (ran .word)
     → ran .tries ≤ 64
-    → Wrote writes o (at + 1 + all .size) (ran .len) (ran .word) o′ width
+    → WroteValue writes o (at + 1 + all .size) (ran .len) (ran .word) o′ width
     → Kept writes at o₀ o′ (vs ++ (v ∷ [])) (oneMore all ran width)
 unfolding if_then_else_
 kept-more writes at o₀ o vs all v ran o′ width k e few w =
@@ -314,7 +314,7 @@ module _ (b known sh ws m₀ : List ℕ) (how : Repeat) (o₀ : List ℕ) (mark 
       pub long-kept : length o ≡ length o₀
       long-kept = i .kept .long
 
-      pub long-wrote : (k len word : ℕ) (o′ : List ℕ) (width : ℕ) → Wrote writes o k len word o′ width → length o′ ≡ length o₀
+      pub long-wrote : (k len word : ℕ) (o′ : List ℕ) (width : ℕ) → WroteValue writes o k len word o′ width → length o′ ≡ length o₀
       long-wrote k len word o′ width g = ap length (g .same) ∙ if-length writes o (scalarWords len word) k ∙ i .kept .long
 
       pub long-wiped : (o′ : List ℕ) → o′ ≡ (if writes then sets o (at + 1) (replicate (all .size) 0) else o) → length o′ ≡ length o₀
@@ -323,7 +323,7 @@ module _ (b known sh ws m₀ : List ℕ) (how : Repeat) (o₀ : List ℕ) (mark 
       pub space-kept : writes ≡ true → at + 1 ≤ length o
       space-kept t = let r = i .asked .space t .room in omega (arith, i .kept .long)
 
-      module _ (m′ : List ℕ) (ran : Ran) (said : Says b sh ws m s mark n m′ ran) where
+      module _ (m′ : List ℕ) (ran : Ran) (said : NodeSays b sh ws m s mark n m′ ran) where
         abbrev these : Items (sheetArea sh) ws s items
         these = (ready .table, ready .same)
 
@@ -547,8 +547,8 @@ module _ (b known sh ws m₀ : List ℕ) (how : Repeat) (o₀ : List ℕ) (mark 
               let r = i .asked .space t .room in
               omega (arith, near, i .few, i .kept .short, i .kept .long)
 
-          module _ (o′ : List ℕ) (width : ℕ) (g : Wrote writes o (at + 1 + all .size) (ran .len) (ran .word) o′ width) where
-            pub turn-adds : Fits all ran width
+          module _ (o′ : List ℕ) (width : ℕ) (g : WroteValue writes o (at + 1 + all .size) (ran .len) (ran .word) o′ width) where
+            pub turn-adds : OneMoreFits all ran width
             unfolding if_then_else_
             turn-adds = record {
               tries = turn-fits;

@@ -11,7 +11,7 @@ use lib.Seq.{sets, set-comm, set-set, set-getD}
 use borrow.Author.Tests.{ne-eqb}
 use Rattle.utf8.specs.Utf8.{if_then_else_}
 use Rattle.eval_told.specs.Told.{scalarWords}
-use Rattle.eval_node.specs.Values.{Put, Wrote}
+use Rattle.eval_node.specs.Values.{Put, WroteValue}
 
 -- ---- stores
 -- a store before the others commutes with them
@@ -56,11 +56,11 @@ pub wrote-put :
     → writes ≡ true
     → n ≡ size
     → Put o (at + 1 + n) len word o′ r
-    → Wrote writes o (at + 1 + size) len word o′ r
+    → WroteValue writes o (at + 1 + size) len word o′ r
 unfolding if_then_else_
 wrote-put writes o at size len word o′ r n e k h = rw (e, ← k) (record { width = h .width; same = h .same })
 
-pub wrote-none : (writes : Bool) (o : List ℕ) (at len word : ℕ) → writes ≡ false → Wrote writes o at len word o 0
+pub wrote-none : (writes : Bool) (o : List ℕ) (at len word : ℕ) → writes ≡ false → WroteValue writes o at len word o 0
 unfolding if_then_else_
 wrote-none writes o at len word e = rw e (record { width = refl; same = refl })
 

@@ -10,6 +10,7 @@ use Rattle.utf8.specs.Utf8.{if_then_else_}
 use Rattle.state_marks.specs.declared.Numbers.{Numbers}
 use Rattle.eval_told.specs.Told.{scalarWords}
 use Rattle.eval_told.specs.declared.Ran.{Ran}
+use Rattle.eval_told.specs.Results.{valueRan, refusalRan}
 use Rattle.eval_node.specs.declared.Repeated.{Repeated}
 
 -- where the next turn of a repeat over a leaf searches from: behind what was used, if anything was
@@ -22,7 +23,7 @@ pub record Put (o : List ℕ) (at len word : ℕ) (o′ : List ℕ) (r : ℕ) : 
   pub same : o′ ≡ sets o at (scalarWords len word)
 
 -- if it is to be written
-pub record Wrote (writes : Bool) (o : List ℕ) (at len word : ℕ) (o′ : List ℕ) (r : ℕ) : Type 0 where
+pub record WroteValue (writes : Bool) (o : List ℕ) (at len word : ℕ) (o′ : List ℕ) (r : ℕ) : Type 0 where
   pub width : r ≡ (if writes then length (scalarWords len word) else 0)
   pub same : o′ ≡ (if writes then sets o at (scalarWords len word) else o)
 
@@ -39,7 +40,7 @@ noValue p = record {
 }
 
 -- sums that fit
-pub record Fits (all : Repeated) (ran : Ran) (w : ℕ) : Type 0 where
+pub record OneMoreFits (all : Repeated) (ran : Ran) (w : ℕ) : Type 0 where
   pub tries : all .tries + ran .tries ≤ 16512
   pub count : all .count ≤ 257
   pub size : all .size ≤ 514
@@ -81,42 +82,11 @@ passedOn all ran = record {
   numbers = ran .numbers;
 }
 
-abbrev pub refusedList : Repeated → Ran
-refusedList all = record {
-  number = all .number;
-  place = all .place;
-  tries = all .tries;
-  len = 0;
-  word = 0;
-  numbers = all .numbers;
-}
+abbrev pub deniedList : Repeated → Ran
+deniedList all = refusalRan (all .number) (all .place) (all .tries) (all .numbers)
 
 abbrev pub countedValues : Repeated → Ran
-countedValues all = record {
-  number = 0;
-  place = 0;
-  tries = all .tries;
-  len = 1;
-  word = all .count;
-  numbers = all .numbers;
-}
+countedValues all = valueRan (all .tries) 1 (all .count) (all .numbers)
 
 abbrev pub lastValue : Repeated → Ran
-lastValue all = record {
-  number = 0;
-  place = 0;
-  tries = all .tries;
-  len = all .len;
-  word = all .word;
-  numbers = all .numbers;
-}
-
-abbrev pub moreTries : Ran → ℕ → Ran
-moreTries ran tries = record {
-  number = ran .number;
-  place = ran .place;
-  tries = tries + ran .tries;
-  len = ran .len;
-  word = ran .word;
-  numbers = ran .numbers;
-}
+lastValue all = valueRan (all .tries) (all .len) (all .word) (all .numbers)

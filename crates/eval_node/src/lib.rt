@@ -11,9 +11,9 @@ ghost use Rattle.rules.specs.Sheet.{sheetArea};
 ghost use Rattle.rules.specs.Tree.{Tree, Optional, Count, Last, Choice, Guard};
 ghost use Rattle.eval_told.specs.Told.{Evaluates};
 ghost use Rattle.eval_told.specs.Nodes.{treeAt, Scalar};
-ghost use Rattle.eval_shortcut.specs.Children.{Wraps, Wrapped, Falls, Both, Turns, Searched};
+ghost use Rattle.eval_shortcut.specs.Children.{Wraps, Wrapped, Falls, BothSides, Turns, Searched};
 ghost use Rattle.eval_node.specs.Cycle.{Repeating, Repeats};
-ghost use Rattle.eval_node.specs.Values.{Put, Wrote, noValue, Fits, oneMore, endedWith, passedOn, refusedList, countedValues, lastValue, moreTries, nextFrom};
+ghost use Rattle.eval_node.specs.Values.{Put, WroteValue, noValue, OneMoreFits, oneMore, endedWith, passedOn, deniedList, countedValues, lastValue, nextFrom};
 use eval_structs::Counting;
 use eval_told::Ran;
 use form_layout::Node;
@@ -68,7 +68,7 @@ pub fn put(out: &mut [u32], at: usize, len: u32, word: u32) -> u32
 // A value goes behind the `size` words from `at + 1` on, if values are written.
 fn write_value(out: &mut [u32], writes: bool, at: usize, size: u32, len: u32, word: u32) -> u32
     requires { ⌜ (writes ≡ true → at + 1 + size + 2 ≤ length (now out)) ⌝ }
-    ensures { λ r. ⌜ Wrote writes (now (out .entry)) (at + 1 + size) len word (now (out .exit)) r ⌝ }
+    ensures { λ r. ⌜ WroteValue writes (now (out .entry)) (at + 1 + size) len word (now (out .exit)) r ⌝ }
 {
     if writes {
         return put(out, at + 1 + wide(size), len, word);
@@ -103,7 +103,7 @@ fn nothing(p: Numbers) -> Repeated
 
 // One value more, of which `width` words were written.
 fn one_more(all: Repeated, ran: Ran, width: u32) -> Repeated
-    requires { ⌜ Fits all ran width ⌝ }
+    requires { ⌜ OneMoreFits all ran width ⌝ }
     ensures { λ r. ⌜ r ≡ oneMore all ran width ⌝ }
 {
     let left = ran.numbers;
@@ -155,60 +155,24 @@ fn passed_on(all: Repeated, ran: Ran) -> Repeated
 }
 
 fn refused_list(all: Repeated) -> Ran
-    ensures { λ r. ⌜ r ≡ refusedList all ⌝ }
+    ensures { λ r. ⌜ r ≡ deniedList all ⌝ }
 {
     let left = all.numbers;
-    Ran {
-        number: all.number,
-        place: all.place,
-        tries: all.tries,
-        len: 0,
-        word: 0,
-        numbers: left,
-    }
+    eval_told::refusal(all.number, all.place, all.tries, left)
 }
 
 fn counted(all: Repeated) -> Ran
     ensures { λ r. ⌜ r ≡ countedValues all ⌝ }
 {
     let left = all.numbers;
-    Ran {
-        number: 0,
-        place: 0,
-        tries: all.tries,
-        len: 1,
-        word: all.count,
-        numbers: left,
-    }
+    eval_told::value(all.tries, 1, all.count, left)
 }
 
 fn last_value(all: Repeated) -> Ran
     ensures { λ r. ⌜ r ≡ lastValue all ⌝ }
 {
     let left = all.numbers;
-    Ran {
-        number: 0,
-        place: 0,
-        tries: all.tries,
-        len: all.len,
-        word: all.word,
-        numbers: left,
-    }
-}
-
-fn more_tries(ran: Ran, tries: u32) -> Ran
-    requires { ⌜ tries + ran .tries < 4294967296 ⌝ }
-    ensures { λ r. ⌜ r ≡ moreTries ran tries ⌝ }
-{
-    let left = ran.numbers;
-    Ran {
-        number: ran.number,
-        place: ran.place,
-        tries: tries + ran.tries,
-        len: ran.len,
-        word: ran.word,
-        numbers: left,
-    }
+    eval_told::value(all.tries, all.len, all.word, left)
 }
 
 // Where the next turn of a repeat over a leaf searches from: behind what this turn used.
@@ -364,7 +328,7 @@ fn choice(
     right: usize,
     mark: u16,
 ) -> Ran
-    requires { ⌜ Both (now form) (now known) (now sheet) (now items) (now marks) p mark left right ⌝ }
+    requires { ⌜ BothSides (now form) (now known) (now sheet) (now items) (now marks) p mark left right ⌝ }
     ensures { λ r. ⌜ ((t u : Tree) → treeAt (now (form .entry)) left ≡ some t → treeAt (now (form .entry)) right ≡ some u → Evaluates mark (sheetArea (now (sheet .entry))) (now (items .entry)) (Choice t u) (now (marks .entry)) p (now (marks .exit)) r) ⌝ }
 {
     if eval_shortcut::alone(form, known, left, right) {
@@ -394,7 +358,7 @@ fn choice_copied(
     right: usize,
     mark: u16,
 ) -> Ran
-    requires { ⌜ Both (now form) (now known) (now sheet) (now items) (now marks) p mark left right ⌝ }
+    requires { ⌜ BothSides (now form) (now known) (now sheet) (now items) (now marks) p mark left right ⌝ }
     ensures { λ r. ⌜ ((t u : Tree) → treeAt (now (form .entry)) left ≡ some t → treeAt (now (form .entry)) right ≡ some u → Evaluates mark (sheetArea (now (sheet .entry))) (now (items .entry)) (Choice t u) (now (marks .entry)) p (now (marks .exit)) r) ⌝ }
 {
     let before = *marks;
@@ -487,7 +451,7 @@ fn last(
     }
     let after = all.numbers;
     let again = run_node(form, known, sheet, items, marks, after, child, mark);
-    more_tries(again, all.tries)
+    eval_told::more_tries(again, all.tries)
 }
 
 // A leaf searches from `from` on: the turns before used all that it would find earlier. Any other node runs as it does elsewhere.

@@ -34,7 +34,7 @@ use Rattle.take.specs.declared.Positional.{Positional as TookPositional}
 use Rattle.take.specs.Takes.{Items, valueOf, ValueUnchanged, operandOf, TakesFlag, TakesArg, TakesPositional}
 use Rattle.eval_told.specs.declared.Ran.{Ran}
 use Rattle.eval_told.specs.Told.{told, scalarWords, Evaluates}
-use Rattle.eval_params.specs.Leaves.{valueRan, refusedRan, leafRun, Tells, refusalOf}
+use Rattle.eval_params.specs.Leaves.{leafValue, leafRefusal, leafRun, LeafTells, positionRefusal}
 
 -- ---- a text
 
@@ -51,22 +51,22 @@ module _ (place : ℕ) (bytes : List ℕ) (s : State) where
   no-number e = ap numeral e
 
 module _ (place : ℕ) (bytes : List ℕ) (p : Numbers) (numeric : Bool) where
-  pub text-tells : not numeric ≡ true → (r : Ran) → r ≡ valueRan place p
-      → Tells (parseText (if numeric then number else text) place bytes) p r
+  pub text-tells : not numeric ≡ true → (r : Ran) → r ≡ leafValue place p
+      → LeafTells (parseText (if numeric then number else text) place bytes) p r
   unfolding told leafRun parseText words word scalarWords if_then_else_
   text-tells e r er = rw (er, not-true numeric e) (record { same = λ m. refl; kept = refl })
 
   module _ (e : not numeric ≡ false) (found : Number) (read : optionOf found ≡ numberOf bytes) where
-    pub number-tells : (n : ℕ) → found ≡ Number·Value n → (r : Ran) → r ≡ valueRan n p
-        → Tells (parseText (if numeric then number else text) place bytes) p r
+    pub number-tells : (n : ℕ) → found ≡ Number·Value n → (r : Ran) → r ≡ leafValue n p
+        → LeafTells (parseText (if numeric then number else text) place bytes) p r
     unfolding told leafRun words word scalarWords if_then_else_
     number-tells n h r er = rw (er, not-false numeric e) (record {
       same = λ m. ap (λ (o : Outcome Value). told (leafRun o (stateOf m p))) (is-number place bytes (stateOf m p) n (sym read ∙ ap optionOf h));
       kept = refl;
     })
 
-    pub bad-tells : found ≡ Bad → (r : Ran) → r ≡ refusedRan 25 (p .current) p
-        → Tells (parseText (if numeric then number else text) place bytes) p r
+    pub bad-tells : found ≡ Bad → (r : Ran) → r ≡ leafRefusal 25 (p .current) p
+        → LeafTells (parseText (if numeric then number else text) place bytes) p r
     unfolding told leafRun scalarWords stateOf fromRaw if_then_else_
     bad-tells h r er = rw (er, not-false numeric e) (record {
       same = λ m.
@@ -77,27 +77,27 @@ module _ (place : ℕ) (bytes : List ℕ) (p : Numbers) (numeric : Bool) where
 
 -- ---- a position
 
-module _ (p : Numbers) (at : Position) (b : Base) (x : Operand) (wrong : ℕ) (e : wrongPosition at (x .strict) ≡ refusalOf wrong) where
+module _ (p : Numbers) (at : Position) (b : Base) (x : Operand) (wrong : ℕ) (e : wrongPosition at (x .strict) ≡ positionRefusal wrong) where
   abbrev placing : State → Option ℕ → Outcome Value
   placing s o = elim o [ none ↦ parseText b (x .place) (x .text) s | some n ↦ refused (refuse n (some (x .place))) ]
 
-  placed-at : (s : State) → placedValue at b x s ≡ placing s (refusalOf wrong)
+  placed-at : (s : State) → placedValue at b x s ≡ placing s (positionRefusal wrong)
   unfolding placedValue
   placed-at s = ap (placing s) e
 
-  pub wrong-tells : (wrong ≡ 0 → ⊥) → (r : Ran) → r ≡ refusedRan wrong (x .place + 1) p → Tells (placedValue at b x) p r
-  unfolding told leafRun refusalOf scalarWords if_then_else_
+  pub wrong-tells : (wrong ≡ 0 → ⊥) → (r : Ran) → r ≡ leafRefusal wrong (x .place + 1) p → LeafTells (placedValue at b x) p r
+  unfolding told leafRun positionRefusal scalarWords if_then_else_
   wrong-tells h r er =
-      let z : refusalOf wrong ≡ some wrong = rw (ne-eqb wrong 0 h) in
+      let z : positionRefusal wrong ≡ some wrong = rw (ne-eqb wrong 0 h) in
       rw (er, add-one) (record {
         same = λ m. ap (λ (o : Outcome Value). told (leafRun o (stateOf m p))) (placed-at (stateOf m p) ∙ ap (placing (stateOf m p)) z);
         kept = refl;
       })
 
-  pub right-tells : wrong ≡ 0 → (r : Ran) → Tells (parseText b (x .place) (x .text)) p r → Tells (placedValue at b x) p r
-  unfolding refusalOf if_then_else_
+  pub right-tells : wrong ≡ 0 → (r : Ran) → LeafTells (parseText b (x .place) (x .text)) p r → LeafTells (placedValue at b x) p r
+  unfolding positionRefusal if_then_else_
   right-tells h r d =
-      let z : refusalOf wrong ≡ none = rw h in
+      let z : positionRefusal wrong ≡ none = rw h in
       record {
         same = λ m.
             ap (λ (o : Outcome Value). told (leafRun o (stateOf m p))) (placed-at (stateOf m p) ∙ ap (placing (stateOf m p)) z) ∙ d .same m;
@@ -135,16 +135,16 @@ module _ (mark : ℕ) (area words m : List ℕ) (p : Numbers) (m′ : List ℕ) 
           leaf-told (Flag n names switch) (stateOf m p) (takeFlag mark is names (stateOf m p)) (flagValue n names switch) b (stateOf m′ (r .numbers))
           (d .same is t ∙ ap (λ (x : Bool). took x (stateOf m′ (r .numbers))) h)
 
-      pub flag-yes : r .found ≡ true → q ≡ valueRan 1 (r .numbers) → (n : ℕ) → Evaluates mark area words (Flag n names switch) m p m′ q
+      pub flag-yes : r .found ≡ true → q ≡ leafValue 1 (r .numbers) → (n : ℕ) → Evaluates mark area words (Flag n names switch) m p m′ q
       unfolding told leafRun flagValue words word scalarWords if_then_else_
       flag-yes h eq n = rw eq (record { same = λ is t. flag-told true h n is t; left = d .left })
 
-      pub flag-no : r .found ≡ false → switch ≡ true → q ≡ valueRan 0 (r .numbers)
+      pub flag-no : r .found ≡ false → switch ≡ true → q ≡ leafValue 0 (r .numbers)
           → (n : ℕ) → Evaluates mark area words (Flag n names switch) m p m′ q
       unfolding told leafRun flagValue words word scalarWords if_then_else_
       flag-no h w eq n = rw eq (record { same = λ is t. flag-told false h n is t ∙ rw w; left = d .left })
 
-      pub flag-refused : r .found ≡ false → switch ≡ false → q ≡ refusedRan 20 0 (r .numbers)
+      pub flag-refused : r .found ≡ false → switch ≡ false → q ≡ leafRefusal 20 0 (r .numbers)
           → (n : ℕ) → Evaluates mark area words (Flag n names switch) m p m′ q
       unfolding told leafRun flagValue refuseMissing scalarWords if_then_else_
       flag-refused h w eq n =
@@ -167,7 +167,7 @@ module _ (mark : ℕ) (area words m : List ℕ) (p : Numbers) (m′ : List ℕ) 
           leaf-told (Argument n names b adjacent) (stateOf m p) (takeArg mark is names adjacent (stateOf m p)) (argumentValue n names b) x (stateOf m′ (r .numbers))
           (d .same is t ∙ h)
 
-      pub argument-missing : r .value ≡ Missing → q ≡ refusedRan 20 0 (r .numbers)
+      pub argument-missing : r .value ≡ Missing → q ≡ leafRefusal 20 0 (r .numbers)
           → (n : ℕ) → Evaluates mark area words (Argument n names b adjacent) m p m′ q
       unfolding told leafRun argumentValue refuseMissing scalarWords if_then_else_
       argument-missing h eq n =
@@ -179,7 +179,7 @@ module _ (mark : ℕ) (area words m : List ℕ) (p : Numbers) (m′ : List ℕ) 
             left = d .left;
           })
 
-      pub argument-taken : (i : ℕ) (x : Part) → r .value ≡ Value·Taken i x → Tells (parseText b i (partBytes area x)) (r .numbers) q
+      pub argument-taken : (i : ℕ) (x : Part) → r .value ≡ Value·Taken i x → LeafTells (parseText b i (partBytes area x)) (r .numbers) q
           → (n : ℕ) → Evaluates mark area words (Argument n names b adjacent) m p m′ q
       unfolding argumentValue
       argument-taken i x h w n =
@@ -191,7 +191,7 @@ module _ (mark : ℕ) (area words m : List ℕ) (p : Numbers) (m′ : List ℕ) 
           }
 
       -- 22: the state is the one that was given
-      pub argument-refused : (i : ℕ) → r .value ≡ NoArgument i → q ≡ refusedRan 22 (i + 1) (r .numbers)
+      pub argument-refused : (i : ℕ) → r .value ≡ NoArgument i → q ≡ leafRefusal 22 (i + 1) (r .numbers)
           → (n : ℕ) → Evaluates mark area words (Argument n names b adjacent) m p m′ q
       unfolding told leafRun eval evalArgument scalarWords if_then_else_
       argument-refused i h eq n =
@@ -215,7 +215,7 @@ module _ (mark : ℕ) (area words m : List ℕ) (p : Numbers) (m′ : List ℕ) 
         leaf-told (Positional n at b) (stateOf m p) (takePositionalWord mark is (stateOf m p)) (positionalValue n at b) x (stateOf m′ (r .numbers))
         (d .same is t ∙ h)
 
-    pub positional-missing : r .operand ≡ Operand·Missing → q ≡ refusedRan 20 0 (r .numbers)
+    pub positional-missing : r .operand ≡ Operand·Missing → q ≡ leafRefusal 20 0 (r .numbers)
         → (n : ℕ) → Evaluates mark area words (Positional n at b) m p m′ q
     unfolding told leafRun positionalValue refuseMissing scalarWords if_then_else_
     positional-missing h eq n = rw eq (record {
@@ -224,7 +224,7 @@ module _ (mark : ℕ) (area words m : List ℕ) (p : Numbers) (m′ : List ℕ) 
     })
 
     pub positional-taken : (i : ℕ) (s : Bool) (x : Part) → r .operand ≡ Operand·Taken i s x
-        → Tells (placedValue at b (record { place = i; strict = s; text = partBytes area x })) (r .numbers) q
+        → LeafTells (placedValue at b (record { place = i; strict = s; text = partBytes area x })) (r .numbers) q
         → (n : ℕ) → Evaluates mark area words (Positional n at b) m p m′ q
     unfolding positionalValue
     positional-taken i s x h w n =

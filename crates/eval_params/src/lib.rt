@@ -17,7 +17,7 @@ ghost use Rattle.take_search.specs.Items.{partBytes};
 ghost use Rattle.take_table.specs.Bits.{bitAt};
 ghost use Rattle.take.specs.Takes.{CanTake, HasBits, Skips};
 ghost use Rattle.eval_told.specs.Told.{Evaluates};
-ghost use Rattle.eval_params.specs.Leaves.{Leaf, valueRan, refusedRan, Tells, refusalOf};
+ghost use Rattle.eval_params.specs.Leaves.{Leaf, leafValue, leafRefusal, LeafTells, positionRefusal};
 use eval_number::Number;
 use eval_told::Ran;
 use split_arg::Part;
@@ -25,29 +25,15 @@ use state_marks::Numbers;
 use wire::wide;
 
 fn value(word: u32, numbers: Numbers) -> Ran
-    ensures { λ r. ⌜ r ≡ valueRan word numbers ⌝ }
+    ensures { λ r. ⌜ r ≡ leafValue word numbers ⌝ }
 {
-    Ran {
-        number: 0,
-        place: 0,
-        tries: 1,
-        len: 1,
-        word,
-        numbers,
-    }
+    eval_told::value(1, 1, word, numbers)
 }
 
 fn refused(number: u32, place: u32, numbers: Numbers) -> Ran
-    ensures { λ r. ⌜ r ≡ refusedRan number place numbers ⌝ }
+    ensures { λ r. ⌜ r ≡ leafRefusal number place numbers ⌝ }
 {
-    Ran {
-        number,
-        place,
-        tries: 1,
-        len: 0,
-        word: 0,
-        numbers,
-    }
+    eval_told::refusal(number, place, 1, numbers)
 }
 
 fn least(a: usize, b: usize) -> usize
@@ -70,7 +56,7 @@ fn text_bytes(sheet: &[u8], x: Part) -> &[u8]
 // `parse_os_str`: a text is its place; refusal 25 is at the current place.
 fn parsed(sheet: &[u8], place: usize, t: Part, numeric: bool, numbers: Numbers) -> Ran
     requires { ⌜ (sheetFault (now sheet) ≡ 0) × (place < 256) ⌝ }
-    ensures { λ r. ⌜ Tells (parseText (if numeric then number else text) place (partBytes (sheetArea (now (sheet .entry))) t)) numbers r ⌝ }
+    ensures { λ r. ⌜ LeafTells (parseText (if numeric then number else text) place (partBytes (sheetArea (now (sheet .entry))) t)) numbers r ⌝ }
 {
     if !numeric {
         return value(place as u32, numbers);
@@ -83,7 +69,7 @@ fn parsed(sheet: &[u8], place: usize, t: Part, numeric: bool, numbers: Numbers) 
 
 // 23 for a strict positional whose word is no PosWord, 24 for a non-strict one whose word is, else 0.
 fn wrong_position(position: usize, strict: bool) -> u32
-    ensures { λ r. ⌜ wrongPosition (positionOf position) strict ≡ refusalOf r ⌝ }
+    ensures { λ r. ⌜ wrongPosition (positionOf position) strict ≡ positionRefusal r ⌝ }
 {
     if position == 0 {
         return 0;
@@ -105,7 +91,7 @@ fn placed(
     numbers: Numbers,
 ) -> Ran
     requires { ⌜ (sheetFault (now sheet) ≡ 0) × (place < 256) ⌝ }
-    ensures { λ r. ⌜ Tells (placedValue (positionOf position) (if numeric then number else text) (record { place = place; strict = strict; text = partBytes (sheetArea (now (sheet .entry))) t })) numbers r ⌝ }
+    ensures { λ r. ⌜ LeafTells (placedValue (positionOf position) (if numeric then number else text) (record { place = place; strict = strict; text = partBytes (sheetArea (now (sheet .entry))) t })) numbers r ⌝ }
 {
     let wrong = wrong_position(position, strict);
     if wrong != 0 {

@@ -39,12 +39,12 @@ use Rattle.take.specs.Takes.{Items}
 use Rattle.eval_told.specs.Told.{Told, told, answered}
 use Rattle.eval_told.specs.Nodes.{treeAt, Scalar}
 use Rattle.eval_told.proofs.Repeats.{told-state}
-use Rattle.eval_combine.specs.Made.{Given, Undone, OptionalOf}
+use Rattle.eval_combine.specs.Made.{ChildGiven, Undone, OptionalOf}
 use Rattle.eval_combine.specs.declared.Optioned.{Optioned}
 use Rattle.eval_shortcut.specs.Children.{Wraps, Wrapped}
 use Rattle.eval_shortcut.specs.Marks.{undoes, isNonStrict, keepsLeaf, keepsUnder, keepsMarks, HasTree}
 use Rattle.eval_shortcut.proofs.Trees.{kindNumber, node-inside, sound-at, argument-tree, positional-tree, guard-tree, tree-number}
-use Rattle.eval_shortcut.proofs.Given.{Says}
+use Rattle.eval_shortcut.specs.Children.{NodeSays}
 use Rattle.eval_shortcut.proofs.Steps.{child-runs, child-told, optional-given, optional-ends}
 use Rattle.eval_shortcut.proofs.Undone.{state-kept, undone-same}
 
@@ -227,7 +227,7 @@ module _
     (z : Scalar b known s words m p mark n)
     (m′ : List ℕ)
     (ran : Ran)
-    (said : Says b s words m p mark n m′ ran)
+    (said : NodeSays b s words m p mark n m′ ran)
   where
     abbrev tree : Tree
     tree = z .stands .tree
@@ -292,14 +292,14 @@ module _
     (e : r ≡ false)
     (m′ : List ℕ)
     (ran : Ran)
-    (said : Says b s words m p mark n m′ ran)
+    (said : NodeSays b s words m p mark n m′ ran)
   where
     pub optional-short : ran .len < 1000
     optional-short = optional-given catch b known s words m p mark n z m′ ran said .short
 
     pub optional-unchanged :
         (o : Optioned)
-        → ((before m₁ : List ℕ) → Given before p m₁ ran → Undone catch before p m₁ ran → OptionalOf catch before p ran m₁ m₁ o)
+        → ((before m₁ : List ℕ) → ChildGiven before p m₁ ran → Undone catch before p m₁ ran → OptionalOf catch before p ran m₁ m₁ o)
         → Wrapped (Optional catch) mark b s words n m p m′ (o .ran)
     optional-unchanged o h =
         optional-ends catch b known s words m p mark n z m′ ran said m′ o

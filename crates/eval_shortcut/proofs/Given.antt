@@ -34,7 +34,7 @@ use Rattle.eval_told.specs.declared.Ran.{Ran}
 use Rattle.eval_told.specs.Told.{Evaluates}
 use Rattle.eval_told.specs.Nodes.{treeAt, isScalar, Standing, Scalar}
 use Rattle.eval_params.specs.Leaves as params
-use Rattle.eval_shortcut.specs.Children.{Wraps, Wrapped, Falls, Both, Hint}
+use Rattle.eval_shortcut.specs.Children.{Wraps, Wrapped, Falls, BothSides, Hint, NodeSays}
 use Rattle.eval_shortcut.proofs.Trees.{Leaf, Single, Fallen, Double, form-good, node-inside, sound-at, flag-tree, argument-tree, positional-tree, optional-tree, count-tree}
 use Rattle.eval_shortcut.proofs.Trees.{last-tree, choice-tree, fallback-tree, other-tree}
 
@@ -104,10 +104,6 @@ over-guard l h = record {
   scalar = λ c z e. base-scalar (kindOf c) number (base-kind number (kindOf c) (z .kind) .1);
 }
 
--- what the run of a node answers
-abbrev pub Says : List ℕ → List ℕ → List ℕ → List ℕ → Numbers → ℕ → ℕ → List ℕ → Ran → Type 0
-Says b s words m p mark n m′ r = (t : Tree) → treeAt b n ≡ some t → Evaluates mark (sheetArea s) words t m p m′ r
-
 -- ---- a node, and what its numbers say
 module _ (b known s words m : List ℕ) (p : Numbers) (mark n : ℕ) (z : Scalar b known s words m p mark n) where
   pub form-long : lengthGood b ≡ true
@@ -131,7 +127,7 @@ module _ (b known s words m : List ℕ) (p : Numbers) (mark n : ℕ) (z : Scalar
       (m′ : List ℕ) (r : Ran) {u : Tree}
       → u ≡ z .stands .tree
       → Evaluates mark (sheetArea s) words u m p m′ r
-      → Says b s words m p mark n m′ r
+      → NodeSays b s words m p mark n m′ r
   says m′ r e h t q =
       let same = Option·some-injective (z .stands .tree) t (sym (z .stands .node) ∙ q) in
       subst (λ (v : Tree). Evaluates mark (sheetArea s) words v m p m′ r) (e ∙ same) h
@@ -155,7 +151,7 @@ module _ (b known s words m : List ℕ) (p : Numbers) (mark n : ℕ) (z : Scalar
     child-wraps : Wraps make b known s words m p mark i
     child-wraps = record { below = child-scalar; sound = made-sound }
 
-    child-says : (m′ : List ℕ) (r : Ran) → Wrapped make mark b s words i m p m′ r → Says b s words m p mark n m′ r
+    child-says : (m′ : List ℕ) (r : Ran) → Wrapped make mark b s words i m p m′ r → NodeSays b s words m p mark n m′ r
     child-says m′ r f = says m′ r (q .same) (f (q .child) (q .node))
 
   module _ (x : Node) (h : getElem? (readForm b .nodes) n ≡ some (nodeOf x)) where
@@ -235,14 +231,14 @@ module _ (b known s words m : List ℕ) (p : Numbers) (mark n : ℕ) (z : Scalar
     module _ (m′ : List ℕ) (r : Ran) where
       flag-says : x .kind ≡ 1
           → ((k : ℕ) → Evaluates mark (sheetArea s) words (Flag k (namedAt b (x .p) (x .q)) (eqb (x .r) 1)) m p m′ r)
-          → Says b s words m p mark n m′ r
+          → NodeSays b s words m p mark n m′ r
       flag-says k f =
           let q = flag-tree b n (z .stands .tree) (z .stands .node) (nodeOf x) h k in
           says m′ r (q .same) (f (q .place))
 
       argument-says : x .kind ≡ 2
           → ((k : ℕ) → Evaluates mark (sheetArea s) words (Argument k (namedAt b (x .p) (x .q)) (if leb 2 (x .r) then number else text) (eqb (x .r % 2) 1)) m p m′ r)
-          → Says b s words m p mark n m′ r
+          → NodeSays b s words m p mark n m′ r
       argument-says k f =
           let q = argument-tree b n (z .stands .tree) (z .stands .node) (nodeOf x) h k in
           says m′ r (q .same) (f (q .place))
@@ -250,13 +246,13 @@ module _ (b known s words m : List ℕ) (p : Numbers) (mark n : ℕ) (z : Scalar
       pub flag-node : x .kind ≡ 1
           → ((area items : List ℕ) (names : rules.Named) → params.Leaf known area items m p n mark names false
           → (k : ℕ) → Evaluates mark area items (Flag k names (eqb (x .r) 1)) m p m′ r)
-          → Says b s words m p mark n m′ r
+          → NodeSays b s words m p mark n m′ r
       flag-node k f = flag-says k (f (sheetArea s) words (namedAt b (x .p) (x .q)) (flag-leaf k))
 
       pub argument-node : x .kind ≡ 2
           → ((names : rules.Named) (adjacent : Bool) → params.Leaf known (sheetArea s) words m p n mark names adjacent
           → (k : ℕ) → Evaluates mark (sheetArea s) words (Argument k names (if leb 2 (x .r) then number else text) adjacent) m p m′ r)
-          → Says b s words m p mark n m′ r
+          → NodeSays b s words m p mark n m′ r
       argument-node k f = argument-says k (f (namedAt b (x .p) (x .q)) (eqb (x .r % 2) 1) (argument-leaf k))
 
       module _ (from : ℕ) (hint : Hint (z .stands .tree) (sheetArea s) words m p from) where
@@ -264,21 +260,21 @@ module _ (b known s words m : List ℕ) (p : Numbers) (mark n : ℕ) (z : Scalar
             → ((area items : List ℕ) (names : rules.Named) → params.Leaf known area items m p n mark names false
             → Skips area items (matchesArg names false) m p from
             → (k : ℕ) → Evaluates mark area items (Flag k names (eqb (x .r) 1)) m p m′ r)
-            → Says b s words m p mark n m′ r
+            → NodeSays b s words m p mark n m′ r
         flag-again k f = flag-says k (f (sheetArea s) words (namedAt b (x .p) (x .q)) (flag-leaf k) (flag-skips from hint k))
 
         pub argument-again : x .kind ≡ 2
             → ((names : rules.Named) (adjacent : Bool) → params.Leaf known (sheetArea s) words m p n mark names adjacent
             → Skips (sheetArea s) words (matchesArg names adjacent) m p from
             → (k : ℕ) → Evaluates mark (sheetArea s) words (Argument k names (if leb 2 (x .r) then number else text) adjacent) m p m′ r)
-            → Says b s words m p mark n m′ r
+            → NodeSays b s words m p mark n m′ r
         argument-again k f =
             argument-says k (f (namedAt b (x .p) (x .q)) (eqb (x .r % 2) 1) (argument-leaf k) (argument-skips from hint k))
 
       pub positional-says :
           x .kind ≡ 3
           → ((k : ℕ) → Evaluates mark (sheetArea s) words (Positional k (positionOf (x .p)) (if eqb (x .r) 2 then number else text)) m p m′ r)
-          → Says b s words m p mark n m′ r
+          → NodeSays b s words m p mark n m′ r
       positional-says k f =
           let q = positional-tree b n (z .stands .tree) (z .stands .node) (nodeOf x) h k in
           says m′ r (q .1) (f (q .0))
@@ -293,7 +289,7 @@ module _ (b known s words m : List ℕ) (p : Numbers) (mark n : ℕ) (z : Scalar
     pub optional-ready : x .kind ≡ 4 → Wraps (Optional (eqb (x .r) 1)) b known s words m p mark (x .p)
     optional-ready k = child-wraps _ (over-optional (eqb (x .r) 1)) (x .p) (optional-below k)
 
-    pub optional-says : (m′ : List ℕ) (r : Ran) → x .kind ≡ 4 → Wrapped (Optional (eqb (x .r) 1)) mark b s words (x .p) m p m′ r → Says b s words m p mark n m′ r
+    pub optional-says : (m′ : List ℕ) (r : Ran) → x .kind ≡ 4 → Wrapped (Optional (eqb (x .r) 1)) mark b s words (x .p) m p m′ r → NodeSays b s words m p mark n m′ r
     optional-says m′ r k = child-says _ (over-optional (eqb (x .r) 1)) (x .p) (optional-below k) m′ r
 
     count-below : x .kind ≡ 7 → Single Count b n (x .p) (z .stands .tree)
@@ -305,7 +301,7 @@ module _ (b known s words m : List ℕ) (p : Numbers) (mark n : ℕ) (z : Scalar
     pub count-ready : x .kind ≡ 7 → Wraps Count b known s words m p mark (x .p)
     count-ready k = child-wraps _ over-count (x .p) (count-below k)
 
-    pub count-says : (m′ : List ℕ) (r : Ran) → x .kind ≡ 7 → Wrapped Count mark b s words (x .p) m p m′ r → Says b s words m p mark n m′ r
+    pub count-says : (m′ : List ℕ) (r : Ran) → x .kind ≡ 7 → Wrapped Count mark b s words (x .p) m p m′ r → NodeSays b s words m p mark n m′ r
     count-says m′ r k = child-says _ over-count (x .p) (count-below k) m′ r
 
     last-below : x .kind ≡ 8 → Single Last b n (x .p) (z .stands .tree)
@@ -317,7 +313,7 @@ module _ (b known s words m : List ℕ) (p : Numbers) (mark n : ℕ) (z : Scalar
     pub last-ready : x .kind ≡ 8 → Wraps Last b known s words m p mark (x .p)
     last-ready k = child-wraps _ over-last (x .p) (last-below k)
 
-    pub last-says : (m′ : List ℕ) (r : Ran) → x .kind ≡ 8 → Wrapped Last mark b s words (x .p) m p m′ r → Says b s words m p mark n m′ r
+    pub last-says : (m′ : List ℕ) (r : Ran) → x .kind ≡ 8 → Wrapped Last mark b s words (x .p) m p m′ r → NodeSays b s words m p mark n m′ r
     last-says m′ r k = child-says _ over-last (x .p) (last-below k) m′ r
 
     -- the rest of the kinds is the guard's
@@ -340,7 +336,7 @@ module _ (b known s words m : List ℕ) (p : Numbers) (mark n : ℕ) (z : Scalar
         pub guard-ready : Wraps (Guard (x .lo) (x .hi)) b known s words m p mark (x .p)
         guard-ready = child-wraps _ (over-guard (x .lo) (x .hi)) (x .p) guard-below
 
-        pub guard-says : (m′ : List ℕ) (r : Ran) → Wrapped (Guard (x .lo) (x .hi)) mark b s words (x .p) m p m′ r → Says b s words m p mark n m′ r
+        pub guard-says : (m′ : List ℕ) (r : Ran) → Wrapped (Guard (x .lo) (x .hi)) mark b s words (x .p) m p m′ r → NodeSays b s words m p mark n m′ r
         guard-says m′ r = child-says _ (over-guard (x .lo) (x .hi)) (x .p) guard-below m′ r
 
     -- ---- a fallback, and a choice
@@ -368,7 +364,7 @@ module _ (b known s words m : List ℕ) (p : Numbers) (mark n : ℕ) (z : Scalar
     pub choice-less₂ : x .kind ≡ 9 → x .q < n
     choice-less₂ k = choice-below k .less₂
 
-    pub choice-ready : x .kind ≡ 9 → Both b known s words m p mark (x .p) (x .q)
+    pub choice-ready : x .kind ≡ 9 → BothSides b known s words m p mark (x .p) (x .q)
     unfolding leaves kindOf
     choice-ready k =
         let q = choice-below k in
@@ -391,7 +387,7 @@ module _ (b known s words m : List ℕ) (p : Numbers) (mark n : ℕ) (z : Scalar
         (m′ : List ℕ) (r : Ran)
         → x .kind ≡ 9
         → ((t u : Tree) → treeAt b (x .p) ≡ some t → treeAt b (x .q) ≡ some u → Evaluates mark (sheetArea s) words (Choice t u) m p m′ r)
-        → Says b s words m p mark n m′ r
+        → NodeSays b s words m p mark n m′ r
     choice-says m′ r k f =
         let q = choice-below k in
         says m′ r (q .same) (f (q .first) (q .second) (q .node) (q .node₂))

@@ -22,13 +22,14 @@ use Rattle.eval_told.specs.Told.{Evaluates, answered}
 use Rattle.eval_told.proofs.Repeats.{told-state}
 use Rattle.eval_told.specs.Nodes.{treeAt, Scalar}
 use Rattle.eval_params.specs.Leaves.{Missing}
-use Rattle.eval_combine.specs.Made.{missingOf, Unchanged, Returned, FallbackOf, Sides, ChoiceOf}
+use Rattle.eval_combine.specs.Made.{missingOf, MarksUnchanged, Returned, FallbackOf, Sides, ChoiceOf}
 use Rattle.eval_combine.specs.declared.Chosen.{Chosen}
-use Rattle.eval_shortcut.specs.Children.{Falls, Both}
+use Rattle.eval_shortcut.specs.Children.{Falls, BothSides}
 use Rattle.eval_shortcut.specs.Marks.{undoes}
 use Rattle.eval_shortcut.specs.OneSide.{Searchable, missesBy, staysBy, aloneBy, Misses, Stays, Alone}
 use Rattle.eval_shortcut.proofs.Trees.{kindNumber, form-good, node-inside, flag-tree, argument-tree, tree-number}
-use Rattle.eval_shortcut.proofs.Given.{Says, flag-node, argument-node}
+use Rattle.eval_shortcut.specs.Children.{NodeSays}
+use Rattle.eval_shortcut.proofs.Given.{flag-node, argument-node}
 use Rattle.eval_shortcut.proofs.Steps.{child-tries, child-told, fallback-given, fallback-ends, choice-sides, choice-ends}
 use Rattle.eval_shortcut.proofs.Undone.{state-kept, undone-by}
 
@@ -131,13 +132,13 @@ missing-stays b known n w = record {
 
 -- ---- a fallback over such a node
 module _ (b known s words m : List ℕ) (p : Numbers) (mark k n : ℕ) (z : Falls b known s words m p mark k n) (a : Stays b known n)
-    (m′ : List ℕ) (ran : Ran) (said : Says b s words m p mark n m′ ran) where
+    (m′ : List ℕ) (ran : Ran) (said : NodeSays b s words m p mark n m′ ran) where
   pub fallback-stays :
       (w : ℕ)
       → ((v : BaseValue) (c : Tree) → treeAt b k ≡ some (Fallback v c) → w ≡ word v)
       → (r : Ran)
-      → ((before m₁ : List ℕ) → Returned before p m₁ ran → Unchanged before m₁ ran → FallbackOf w before p ran m₁ m₁ r)
-      → Says b s words m p mark k m′ r
+      → ((before m₁ : List ℕ) → Returned before p m₁ ran → MarksUnchanged before m₁ ran → FallbackOf w before p ran m₁ m₁ r)
+      → NodeSays b s words m p mark k m′ r
   fallback-stays w q r h =
       fallback-ends b known s words m p mark k n z m′ ran said w q m′ r
       (h m m′ (fallback-given b known s words m p mark k n z m′ ran said) (a .kept s words m p mark (z .below) m′ ran said))
@@ -149,14 +150,14 @@ searchable b known s words m p mark n z = record {
   long = z .stands .knows .long;
 }
 
-module _ (b known s words m : List ℕ) (p : Numbers) (mark i j : ℕ) (z : Both b known s words m p mark i j) where
-  module _ (a : Alone b known i j) (m′ : List ℕ) (x : Ran) (said : Says b s words m p mark i m′ x) where
+module _ (b known s words m : List ℕ) (p : Numbers) (mark i j : ℕ) (z : BothSides b known s words m p mark i j) where
+  module _ (a : Alone b known i j) (m′ : List ℕ) (x : Ran) (said : NodeSays b s words m p mark i m′ x) where
     pub first-few : x .tries + 1 < 2 ^ 32
     first-few = let l = child-tries b known s words m p mark i (z .first) m′ x said in omega arith
 
     pub first-ends :
         (o : Chosen)
-        → ((before m₁ : List ℕ) → Sides before p m₁ x before (missingOf p) → Unchanged before m₁ x → ChoiceOf before p m₁ x before (missingOf p) m₁ o)
+        → ((before m₁ : List ℕ) → Sides before p m₁ x before (missingOf p) → MarksUnchanged before m₁ x → ChoiceOf before p m₁ x before (missingOf p) m₁ o)
         → (t u : Tree)
         → treeAt b i ≡ some t
         → treeAt b j ≡ some u
@@ -167,13 +168,13 @@ module _ (b known s words m : List ℕ) (p : Numbers) (mark i j : ℕ) (z : Both
         (h m m′ (choice-sides b known s words m p mark i j z m′ x said m (missingOf p) gone)
         (a .stays .kept s words m p mark (z .first) m′ x said))
 
-  module _ (a : Alone b known j i) (m′ : List ℕ) (y : Ran) (said : Says b s words m p mark j m′ y) where
+  module _ (a : Alone b known j i) (m′ : List ℕ) (y : Ran) (said : NodeSays b s words m p mark j m′ y) where
     pub second-few : y .tries + 1 < 2 ^ 32
     second-few = let l = child-tries b known s words m p mark j (z .second) m′ y said in omega arith
 
     pub second-ends :
         (o : Chosen)
-        → ((before m₁ : List ℕ) → Sides before p before (missingOf p) m₁ y → Unchanged before m₁ y → ChoiceOf before p before (missingOf p) m₁ y m₁ o)
+        → ((before m₁ : List ℕ) → Sides before p before (missingOf p) m₁ y → MarksUnchanged before m₁ y → ChoiceOf before p before (missingOf p) m₁ y m₁ o)
         → (t u : Tree)
         → treeAt b i ≡ some t
         → treeAt b j ≡ some u

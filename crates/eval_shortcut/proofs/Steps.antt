@@ -32,13 +32,13 @@ use Rattle.eval_told.specs.Told.{Told, told, Numbered, scalarWords, toldWith, a
 use Rattle.eval_told.specs.Nodes.{treeAt, isScalar, Scalar}
 use Rattle.eval_told.proofs.Visits.{visit-told, runs-numbered}
 use Rattle.eval_told.proofs.Repeats.{told-tries}
-use Rattle.eval_combine.specs.Made.{Given, Returned, FallbackAt, optionalWords, OptionalOf, FallbackOf, GuardOf, choiceWords, Sides, ChoiceOf}
+use Rattle.eval_combine.specs.Made.{ChildGiven, Returned, FallbackAt, optionalWords, OptionalOf, FallbackOf, GuardOf, choiceWords, Sides, ChoiceOf}
 use Rattle.eval_combine.specs.declared.Optioned.{Optioned}
 use Rattle.eval_combine.specs.declared.Chosen.{Chosen}
-use Rattle.eval_shortcut.specs.Children.{Wraps, Wrapped, Falls, Both}
+use Rattle.eval_shortcut.specs.Children.{Wraps, Wrapped, Falls, BothSides}
 use Rattle.eval_shortcut.proofs.Trees.{sound-at}
 use Rattle.eval_shortcut.proofs.Words.{scalar-short}
-use Rattle.eval_shortcut.proofs.Given.{Says}
+use Rattle.eval_shortcut.specs.Children.{NodeSays}
 
 -- a run that ended so
 abbrev ran : Run Value → Outcome Value → Run Value
@@ -131,7 +131,7 @@ module _
     (z : Scalar b known s words m p mark n)
     (m₁ : List ℕ)
     (ran : Ran)
-    (said : Says b s words m p mark n m₁ ran)
+    (said : NodeSays b s words m p mark n m₁ ran)
   where
     abbrev pub tree : Tree
     tree = z .stands .tree
@@ -248,7 +248,7 @@ module _
     (z : Wraps (Optional catch) b known s words m p mark n)
     (m₁ : List ℕ)
     (ran : Ran)
-    (said : Says b s words m p mark n m₁ ran)
+    (said : NodeSays b s words m p mark n m₁ ran)
   where
     len : ran .len ≡ length (scalarWords (ran .len) (ran .word))
     unfolding kindOf
@@ -256,7 +256,7 @@ module _
         let k = under-optional (kindOf (z .below .stands .tree)) (z .below .scalar) (z .sound .kind) in
         base-len b known s words m p mark n (z .below) m₁ ran said (k .0) (k .1)
 
-    pub optional-given : Given m p m₁ ran
+    pub optional-given : ChildGiven m p m₁ ran
     optional-given =
         let h = scalar-short (ran .len) (ran .word) in
         record {
@@ -328,7 +328,7 @@ module _
     (z : Wraps (Guard lo hi) b known s words m p mark n)
     (m₁ : List ℕ)
     (ran : Ran)
-    (said : Says b s words m p mark n m₁ ran)
+    (said : NodeSays b s words m p mark n m₁ ran)
     (r : Ran)
     (h : GuardOf lo hi ran r)
   where
@@ -372,13 +372,13 @@ module _
     (b known s words m : List ℕ)
     (p : Numbers)
     (mark i j : ℕ)
-    (z : Both b known s words m p mark i j)
+    (z : BothSides b known s words m p mark i j)
     (m₁ : List ℕ)
     (x : Ran)
-    (says₁ : Says b s words m p mark i m₁ x)
+    (says₁ : NodeSays b s words m p mark i m₁ x)
     (m₂ : List ℕ)
     (y : Ran)
-    (says₂ : Says b s words m p mark j m₂ y)
+    (says₂ : NodeSays b s words m p mark j m₂ y)
   where
     pub choice-sides : Sides m p m₁ x m₂ y
     choice-sides =
@@ -461,7 +461,7 @@ module _
     (z : Falls b known s words m p mark k n)
     (m₁ : List ℕ)
     (ran : Ran)
-    (said : Says b s words m p mark n m₁ ran)
+    (said : NodeSays b s words m p mark n m₁ ran)
   where
     pub fallback-there : FallbackAt b k
     fallback-there = record { value = z .own; child = z .below .stands .tree; node = z .stands }
@@ -475,7 +475,7 @@ module _
     fallen : (m′ : List ℕ) (r : Ran)
         → ((is : List Item) → Items (sheetArea s) words p is → told (evalFallback (z .own) (stateOf m p) (eval mark is (z .below .stands .tree) (stateOf m p))) ≡ some (answered r m′))
         → LeftState m p m′ (r .numbers)
-        → Says b s words m p mark k m′ r
+        → NodeSays b s words m p mark k m′ r
     unfolding eval
     fallen m′ r f l =
         let T = Fallback (z .own) (z .below .stands .tree) in
@@ -488,7 +488,7 @@ module _
           left = l;
         })
 
-    pub fallback-value : ran .number ≡ 0 → Says b s words m p mark k m₁ ran
+    pub fallback-value : ran .number ≡ 0 → NodeSays b s words m p mark k m₁ ran
     fallback-value e =
         fallen m₁ ran
         (λ is i. fallback-child (z .own) (stateOf m p) (eval mark is (z .below .stands .tree) (stateOf m p)) (answered ran m₁)
@@ -501,7 +501,7 @@ module _
         → ((v : BaseValue) (c : Tree) → treeAt b k ≡ some (Fallback v c) → w ≡ word v)
         → (m′ : List ℕ) (r : Ran)
         → FallbackOf w m p ran m₁ m′ r
-        → Says b s words m p mark k m′ r
+        → NodeSays b s words m p mark k m′ r
     fallback-ends w q m′ r h =
         fallen m′ r
         (λ is i. h .same (z .own) (sym (q (z .own) (z .below .stands .tree) (z .stands)))

@@ -32,7 +32,7 @@ use Rattle.eval_told.specs.Nodes.{treeAt, Scalar}
 use Rattle.eval_told.proofs.Repeats.{told-state}
 use Rattle.eval_shortcut.specs.Marks.{takesText, undoes}
 use Rattle.eval_shortcut.proofs.Trees.{kindNumber, flag-tree, argument-tree, choice-tree, fallback-tree, tree-number}
-use Rattle.eval_shortcut.proofs.Given.{Says}
+use Rattle.eval_shortcut.specs.Children.{NodeSays}
 use Rattle.eval_shortcut.proofs.Steps.{child-told, child-left}
 
 -- ---- a refusal leaves the first state; of any other end nothing is said
@@ -193,7 +193,7 @@ module _
     (z : Scalar b known s words m p mark n)
     (m′ : List ℕ)
     (ran : Ran)
-    (said : Says b s words m p mark n m′ ran)
+    (said : NodeSays b s words m p mark n m′ ran)
   where
     abbrev run : Run Value
     run = eval mark (z .stands .state .items) (z .stands .tree) (stateOf m p)

@@ -19,9 +19,9 @@ use Rattle.form_layout.specs.declared.Node.{Node as LaidOut}
 use Rattle.state_marks.specs.declared.Numbers.{Numbers}
 use Rattle.eval_told.specs.declared.Ran.{Ran}
 use Rattle.eval_told.specs.Nodes.{treeAt, Scalar}
-use Rattle.eval_combine.specs.Made.{Given, Undone, OptionalOf, GuardOf}
+use Rattle.eval_combine.specs.Made.{ChildGiven, Undone, OptionalOf, GuardOf}
 use Rattle.eval_combine.specs.declared.Optioned.{Optioned}
-use Rattle.eval_shortcut.specs.Children.{Wraps, Hint, Turns, Spares, Beneath, startsBelow, leafBelow, Searched, LeafRan, Says, HandsOn}
+use Rattle.eval_shortcut.specs.Children.{Wraps, Hint, Turns, Spares, Beneath, startsBelow, leafBelow, Searched, LeafRan, NodeSays, HandsOn}
 use Rattle.eval_shortcut.specs.Marks.{keepsMarks, isLeaf, HasTree}
 use Rattle.eval_shortcut.proofs.Trees.{Single, kindNumber, optional-tree, guard-tree, tree-number}
 use Rattle.eval_shortcut.proofs.Words.{scalar-short}
@@ -151,8 +151,8 @@ module _ (b known s words m : List ℕ) (p : Numbers) (mark n : ℕ) (z : Scalar
       guard-ready b known s words m p mark n z x h (λ e. omega arith) (λ e. omega arith) (λ e. omega arith) (λ e. omega arith)
       (λ e. omega arith) (λ e. omega arith) (λ e. omega arith) (λ e. omega arith)
 
-  module _ (m′ : List ℕ) (ran : Ran) (said : Says b s words m p mark (x .p) m′ ran) where
-    guard-answers : x .kind ≡ 11 → (r : Ran) → GuardOf (x .lo) (x .hi) ran r → Says b s words m p mark n m′ r
+  module _ (m′ : List ℕ) (ran : Ran) (said : NodeSays b s words m p mark (x .p) m′ ran) where
+    guard-answers : x .kind ≡ 11 → (r : Ran) → GuardOf (x .lo) (x .hi) ran r → NodeSays b s words m p mark n m′ r
     guard-answers k r g =
         guard-says b known s words m p mark n z x h (λ e. omega arith) (λ e. omega arith) (λ e. omega arith) (λ e. omega arith)
         (λ e. omega arith) (λ e. omega arith) (λ e. omega arith) (λ e. omega arith) m′ r
@@ -177,8 +177,8 @@ module _ (b known s words m : List ℕ) (p : Numbers) (mark n : ℕ) (z : Scalar
     optional-short k = optional-given (eqb (x .r) 1) b known s words m p mark (x .p) (optional-ready b known s words m p mark n z x h k) m′ ran said .short
 
     optional-answers : x .kind ≡ 4 → Spares (eqb (x .r) 1) b (x .p) → (o : Optioned)
-        → ((before m : List ℕ) → Given before p m ran → Undone (eqb (x .r) 1) before p m ran → OptionalOf (eqb (x .r) 1) before p ran m m o)
-        → Says b s words m p mark n m′ (o .ran)
+        → ((before m : List ℕ) → ChildGiven before p m ran → Undone (eqb (x .r) 1) before p m ran → OptionalOf (eqb (x .r) 1) before p ran m m o)
+        → NodeSays b s words m p mark n m′ (o .ran)
     optional-answers k f o g =
         let c : Bool = eqb (x .r) 1 in
         let y = optional-ready b known s words m p mark n z x h k in
@@ -188,8 +188,8 @@ module _ (b known s words m : List ℕ) (p : Numbers) (mark n : ℕ) (z : Scalar
 
 -- ---- what the child makes of the leaf's result
 said-at : (b : List ℕ) (p : Numbers) (ran : Ran) (s words m : List ℕ) (mark : ℕ) (m′ : List ℕ) {i j : ℕ} → i ≡ j
-    → Says b s words m p mark i m′ ran → Says b s words m p mark j m′ ran
-said-at b p ran s words m mark m′ e = subst (λ (k : ℕ). Says b s words m p mark k m′ ran) e
+    → NodeSays b s words m p mark i m′ ran → NodeSays b s words m p mark j m′ ran
+said-at b p ran s words m mark m′ e = subst (λ (k : ℕ). NodeSays b s words m p mark k m′ ran) e
 
 module _ (b : List ℕ) (n leaf : ℕ) (p : Numbers) (ran : Ran) where
   pub child-itself : leaf ≡ n → HandsOn b n leaf p ran ran
@@ -201,7 +201,7 @@ module _ (b : List ℕ) (n leaf : ℕ) (p : Numbers) (ran : Ran) where
         guard-answers b known s words m p mark n z x h m′ ran (said-at b p ran s words m mark m′ (searched-place b n leaf x h (a .searched) l) said) k r g
 
     pub optional-hands : (x .kind ≡ 11 → ⊥) → (o : Optioned)
-        → ((before m : List ℕ) → Given before p m ran → Undone (eqb (x .r) 1) before p m ran → OptionalOf (eqb (x .r) 1) before p ran m m o)
+        → ((before m : List ℕ) → ChildGiven before p m ran → Undone (eqb (x .r) 1) before p m ran → OptionalOf (eqb (x .r) 1) before p ran m m o)
         → HandsOn b n leaf p ran (o .ran)
     optional-hands k o g known s words m m′ mark z said =
         let e = searched-place b n leaf x h (a .searched) l in
@@ -250,7 +250,7 @@ module _ (b known s words m : List ℕ) (p : Numbers) (mark n from : ℕ) (z : T
   pub leaf-within : leaf ≤ n
   leaf-within = ⊎-elim (λ e. omega arith) (λ g. let l = beneath-less g in omega arith) w
 
-  beneath-short : (m′ : List ℕ) (ran : Ran) → Says b s words m p mark leaf m′ ran → Beneath b n leaf → ran .len < 1000
+  beneath-short : (m′ : List ℕ) (ran : Ran) → NodeSays b s words m p mark leaf m′ ran → Beneath b n leaf → ran .len < 1000
   beneath-short m′ ran said g =
       let x = g .own in
       let says = said-at b p ran s words m mark m′ (g .place) said in
@@ -259,7 +259,7 @@ module _ (b known s words m : List ℕ) (p : Numbers) (mark n from : ℕ) (z : T
       (λ k. optional-short b known s words m p mark n (z .below) x (g .read) m′ ran says (k .0))
       (g .kind)
 
-  pub leaf-ran : (m′ : List ℕ) (ran : Ran) → Says b s words m p mark leaf m′ ran → LeafRan b n leaf ran
+  pub leaf-ran : (m′ : List ℕ) (ran : Ran) → NodeSays b s words m p mark leaf m′ ran → LeafRan b n leaf ran
   leaf-ran m′ ran said = record {
     tree = z .below .stands .tree;
     node = z .below .stands .node;

@@ -40,7 +40,7 @@ pub record Falls (b known s words m : List ℕ) (p : Numbers) (mark node child :
   pub stands : treeAt b node ≡ some (Fallback own (below .stands .tree))
 
 -- ---- a choice
-pub record Both (b known s words m : List ℕ) (p : Numbers) (mark left right : ℕ) : Type 0 where
+pub record BothSides (b known s words m : List ℕ) (p : Numbers) (mark left right : ℕ) : Type 0 where
   pub first : Scalar b known s words m p mark left
   pub second : Scalar b known s words m p mark right
   pub sound : Sound (Choice (first .stands .tree) (second .stands .tree))
@@ -105,11 +105,11 @@ pub record LeafRan (b : List ℕ) (child leaf : ℕ) (ran : Ran) : Type 0 where
   pub short : (leaf ≡ child → ⊥) → ran .len < 1000
 
 -- what the run of a node answers
-abbrev pub Says : List ℕ → List ℕ → List ℕ → List ℕ → Numbers → ℕ → ℕ → List ℕ → Ran → Type 0
-Says b s words m p mark n m′ r = (t : Tree) → treeAt b n ≡ some t → Evaluates mark (sheetArea s) words t m p m′ r
+abbrev pub NodeSays : List ℕ → List ℕ → List ℕ → List ℕ → Numbers → ℕ → ℕ → List ℕ → Ran → Type 0
+NodeSays b s words m p mark n m′ r = (t : Tree) → treeAt b n ≡ some t → Evaluates mark (sheetArea s) words t m p m′ r
 
 -- what the child answers, from what that node answered
 abbrev pub HandsOn : List ℕ → ℕ → ℕ → Numbers → Ran → Ran → Type 0
 HandsOn b child leaf p ran r =
     (known s words m m′ : List ℕ) (mark : ℕ) → Scalar b known s words m p mark child
-    → Says b s words m p mark leaf m′ ran → Says b s words m p mark child m′ r
+    → NodeSays b s words m p mark leaf m′ ran → NodeSays b s words m p mark child m′ r

@@ -14,7 +14,7 @@ use Rattle.eval_told.specs.Told.{Evaluates}
 use Rattle.eval_told.specs.Nodes.{treeAt, Scalar}
 use Rattle.eval_combine.specs.Made.{missingOf}
 use Rattle.eval_shortcut.specs.Marks.{undoes, HasTree}
-use Rattle.eval_shortcut.specs.Children.{Says}
+use Rattle.eval_shortcut.specs.Children.{NodeSays}
 
 -- a node of the form, which the table can be asked for
 pub record Searchable (b known : List ℕ) (node : ℕ) : Type 0 where
@@ -53,7 +53,7 @@ pub record Misses (b known : List ℕ) (node : ℕ) : Type 0 where
 -- in any state over these items a refusal of the node leaves the marks as they were
 pub record Stays (b known : List ℕ) (node : ℕ) : Type 0 where
   pub kept : (s words m : List ℕ) (p : Numbers) (mark : ℕ) → Scalar b known s words m p mark node
-      → (m′ : List ℕ) (ran : Ran) → Says b s words m p mark node m′ ran → (ran .number ≡ 0 → ⊥) → m′ ≡ m
+      → (m′ : List ℕ) (ran : Ran) → NodeSays b s words m p mark node m′ ran → (ran .number ≡ 0 → ⊥) → m′ ≡ m
 
 -- a refusal of the node leaves the marks, and the other side of its choice is missing
 pub record Alone (b known : List ℕ) (node other : ℕ) : Type 0 where

@@ -1,3 +1,4 @@
 pub mod Told
 pub mod Nodes
 pub mod Lists
+pub mod Results

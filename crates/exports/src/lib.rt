@@ -17,7 +17,7 @@ use call_check::SplitAnswer;
 use call_check::Told;
 use call_text::TextPart;
 use rules::Refused;
-use run::RunAnswer;
+use run_fields::RunAnswer;
 use utf8::Decoded;
 
 // The character at a place. Where there is none, found is false and the numbers are 0.

@@ -18,9 +18,9 @@ use call_answers::Answer;
 use call_answers::StateAnswer;
 use call_find::ItemRecord;
 use call_item::Got;
-use call_node::NodeAnswer;
 use rules::Refused;
 use rules::State;
+use run_fields::RunAnswer;
 
 #[no_mangle]
 pub extern "C" fn silverpoise_remove(s: State, place: usize) -> StateAnswer
@@ -178,7 +178,7 @@ pub extern "C" fn silverpoise_eval(
     answers: &mut [u32],
     s: State,
     node: usize,
-) -> NodeAnswer
+) -> RunAnswer
     ensures { λ r. ⌜ evaluatedAnswer (callEval (now (form .entry)) (now (sheet .entry)) (now (items .entry)) (now (answers .entry)) s node) ≡ some (record { answer = r; answers = now (answers .exit) }) ⌝ }
 {
     call_node::eval(form, sheet, items, answers, s, node)

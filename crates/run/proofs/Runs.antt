@@ -38,9 +38,9 @@ use Rattle.split_args.proofs.States.{padded-words, all-zero, fill-long}
 use Rattle.split_args.specs.declared.Ended.{Ended as Split}
 use Rattle.split_args.specs.Construct.{startingState as begun, Unmarked, SplitEnds, refusalNumber, refusalPlace}
 use Rattle.rules.proofs.GivenLaws.{check-accepted}
-use Rattle.run_fields.specs.Line.{Starts, toldAll, Reaches, refusedWith}
+use Rattle.run_fields.specs.Line.{Starts, toldAll, RunsAll, refusedWith}
 use Rattle.run_fields.specs.declared.Reached.{Reached}
-use Rattle.run.specs.Runner.{Ended, runAnswer, ended, answerOf, shortSlices, Checked, Begins}
+use Rattle.run.specs.Runner.{Ended, runAnswer, ended, answerOf, shortSlices, CheckedInput, ItemsBegin}
 use Rattle.run.proofs.States.{from-to, zero-at, raw-fine}
 use Rattle.run.proofs.Back.{line-table}
 
@@ -143,7 +143,7 @@ module _ (b s : List ℕ) (ni na : ℕ) (r : Refused) (e : r ≡ checkCode (chec
               let (a, g) = check-accepted b r e z in
               run-cramped b s ni a g (sym t ∙ y) (ltb-false ni 1792 l) na (ltb-true na 8240 (rw l at (sym w ∙ q)))
 
-      pub all-checked : short ≡ false → (items answers : List ℕ) → length items ≡ ni → length answers ≡ na → Checked b s items answers
+      pub all-checked : short ≡ false → (items answers : List ℕ) → length items ≡ ni → length answers ≡ na → CheckedInput b s items answers
       all-checked q items answers i o =
           let (a, g) = check-accepted b r e z in
           let (j, p) = enough-long ni na (sym w ∙ q) in
@@ -188,7 +188,7 @@ reported-told ni na l r x h = go (r .outcome) h
     go (fault v) e = absurd (Option·none-ne-some x e)
 
 -- ---- a checked input, its answer slice cleared, its sheet split
-module _ (form sheet i a : List ℕ) (c : Checked form sheet i a) (a′ : List ℕ) (z : a′ ≡ sets a 0 (replicate (length a) 0)) (i′ : List ℕ) (x : Split)
+module _ (form sheet i a : List ℕ) (c : CheckedInput form sheet i a) (a′ : List ℕ) (z : a′ ≡ sets a 0 (replicate (length a) 0)) (i′ : List ℕ) (x : Split)
     (w : SplitEnds (lettersOf (readForm form)) sheet (length i) i′ x) (m : List ℕ) (p : Numbers) (q : rawOf m p ≡ begun (x .count) (x .marker)) where
   cleared : a′ ≡ replicate (length a) 0
   cleared = z ∙ all-zero a (length a) refl
@@ -247,7 +247,7 @@ module _ (form sheet i a : List ℕ) (c : Checked form sheet i a) (a′ : List �
     unfolding stateOf
     same-state = rw state (from-to (w .line .state))
 
-    pub fields-start : (codes : List ℕ) → CodedNames form codes → Begins form codes sheet i′ m p 0 a′
+    pub fields-start : (codes : List ℕ) → CodedNames form codes → ItemsBegin form codes sheet i′ m p 0 a′
     unfolding parsed parsedMark
     fields-start codes k = record {
       result = c .ready .result;
@@ -262,7 +262,7 @@ module _ (form sheet i a : List ℕ) (c : Checked form sheet i a) (a′ : List �
 
     pub fields-end :
         (m′ a″ : List ℕ) (r : Reached)
-        → ((k : Accepted) → checkForm form ≡ accepted k → Reaches (sheetArea sheet) i′ (k .fields) m p m′ a′ a″ r)
+        → ((k : Accepted) → checkForm form ≡ accepted k → RunsAll (sheetArea sheet) i′ (k .fields) m p m′ a′ a″ r)
         → runAnswer (run form sheet (length i) (length a)) ≡ ended (answerOf r m′) i′ a″
     unfolding runLine
     fields-end m′ a″ r reaches =
@@ -279,7 +279,7 @@ module _ (form sheet i a : List ℕ) (c : Checked form sheet i a) (a′ : List �
 
     pub fields-long :
         (m′ a″ : List ℕ) (r : Reached)
-        → ((k : Accepted) → checkForm form ≡ accepted k → Reaches (sheetArea sheet) i′ (k .fields) m p m′ a′ a″ r)
+        → ((k : Accepted) → checkForm form ≡ accepted k → RunsAll (sheetArea sheet) i′ (k .fields) m p m′ a′ a″ r)
         → length a″ ≡ length a
     fields-long m′ a″ r reaches =
         let u = reaches (c .ready .result) (c .ready .accepts) in
@@ -289,7 +289,7 @@ module _ (form sheet i a : List ℕ) (c : Checked form sheet i a) (a′ : List �
 pub table-long : (l : List ℕ) → l ≡ replicate 257 0 → length l ≡ 257
 table-long l e = ap length e ∙ length-replicate {A = ℕ} 257 0
 
-module _ (b codes s words m : List ℕ) (p : Numbers) (first : ℕ) (o : List ℕ) (g : Begins b codes s words m p first o) (n : ℕ) (e : n ≡ p .count) where
+module _ (b codes s words m : List ℕ) (p : Numbers) (first : ℕ) (o : List ℕ) (g : ItemsBegin b codes s words m p first o) (n : ℕ) (e : n ≡ p .count) where
   pub items-few : n ≤ 256
   items-few = omega (arith, g .state .fine .small)
 

@@ -18,7 +18,7 @@ use Rattle.form_codes.specs.Codes.{CodedNames}
 use Rattle.take.specs.Takes as takes
 use Rattle.run_fields.specs.declared.Reached.{Reached}
 use Rattle.split_line.specs.Input.{Splittable}
-use Rattle.run.specs.declared.RunAnswer.{RunAnswer}
+use Rattle.run_fields.specs.declared.RunAnswer.{RunAnswer}
 
 -- the answer, and what both slices hold
 pub record Ended : Type 0 where
@@ -60,13 +60,13 @@ unfoldable pub shortSlices : ℕ → ℕ → Bool
 shortSlices ni na = ltb ni 1792 || ltb na 8240
 
 -- ---- what is known once every test is passed
-pub record Checked (form sheet items answers : List ℕ) : Type 0 where
+pub record CheckedInput (form sheet items answers : List ℕ) : Type 0 where
   pub ready : Splittable form sheet items
   pub space : 8240 ≤ length answers
 
 -- the items of an accepted form's line, the codes of its names, a state over the items, the number of the first field, and an
 -- answer slice of zeros
-pub record Begins (b codes s words m : List ℕ) (p : Numbers) (first : ℕ) (o : List ℕ) : Type 0 where
+pub record ItemsBegin (b codes s words m : List ℕ) (p : Numbers) (first : ℕ) (o : List ℕ) : Type 0 where
   pub result : Accepted
   pub accepts : checkForm b ≡ accepted result
   pub coded : CodedNames b codes

@@ -8,49 +8,13 @@ ghost use Rattle.rules.specs.Accept.{Accepted, accepted, checkForm};
 ghost use Rattle.rules.specs.Run.{refusedInput};
 ghost use Rattle.rules.specs.Run as Run;
 ghost use Rattle.rules.specs.Codes.{placeOf};
-ghost use Rattle.state_marks.specs.Lent.{rawOf};
 ghost use Rattle.split_args.specs.Construct.{Unmarked};
-ghost use Rattle.run_fields.specs.Line.{Reaches};
-ghost use Rattle.run.specs.Runner.{runAnswer, ended, answerOf, Checked, Begins, shortSlices};
-use rules::State;
+ghost use Rattle.run_fields.specs.Line.{RunsAll};
+ghost use Rattle.run.specs.Runner.{runAnswer, ended, answerOf, CheckedInput, ItemsBegin, shortSlices};
 use run_fields::Reached;
+use run_fields::RunAnswer;
 use state_marks::Numbers;
 use wire::wide;
-
-// How the run ended. A place is itself plus 1, or 0 for none; `words` is how many answer words there are.
-#[repr(C)]
-pub struct RunAnswer {
-    pub number: u32,
-    pub place: u32,
-    pub tries: u32,
-    pub words: u32,
-    pub state: State,
-}
-
-fn joined(marks: [u16; 256], p: Numbers) -> State
-    ensures { λ r. ⌜ r ≡ rawOf marks p ⌝ }
-{
-    State {
-        marks,
-        count: p.count,
-        remaining: p.remaining,
-        current: p.current,
-        start: p.start,
-        end: p.end,
-    }
-}
-
-fn no_codes() -> [u32; 128]
-    ensures { λ r. ⌜ r ≡ replicate 128 0 ⌝ }
-{
-    [0u32; 128]
-}
-
-fn nothing_known() -> [u64; 257]
-    ensures { λ r. ⌜ r ≡ replicate 257 0 ⌝ }
-{
-    [0u64; 257]
-}
 
 // Refused because of the input: both slices all 0, an empty state.
 fn refused_input(number: u32, place: u32, items: &mut [u32], answers: &mut [u32]) -> Reached
@@ -80,10 +44,10 @@ pub fn run_items(
     first: usize,
     answers: &mut [u32],
 ) -> Reached
-    requires { ⌜ Begins (now form) (now codes) (now sheet) (now items) (now marks) p first (now answers) ⌝ }
-    ensures { λ r. ⌜ ((a : Accepted) → checkForm (now (form .entry)) ≡ accepted a → Reaches (sheetArea (now (sheet .entry))) (now (items .entry)) (a .fields) (now (marks .entry)) p (now (marks .exit)) (now (answers .entry)) (now (answers .exit)) r) ⌝ }
+    requires { ⌜ ItemsBegin (now form) (now codes) (now sheet) (now items) (now marks) p first (now answers) ⌝ }
+    ensures { λ r. ⌜ ((a : Accepted) → checkForm (now (form .entry)) ≡ accepted a → RunsAll (sheetArea (now (sheet .entry))) (now (items .entry)) (a .fields) (now (marks .entry)) p (now (marks .exit)) (now (answers .entry)) (now (answers .exit)) r) ⌝ }
 {
-    let mut known = nothing_known();
+    let mut known = run_fields::nothing_known();
     take_table::known(form, codes, sheet, items, wide(p.count), &mut known);
     run_fields::run_fields(form, &known, sheet, items, marks, p, first, answers)
 }
@@ -96,11 +60,11 @@ fn run_checked(
     answers: &mut [u32],
     marks: &mut [u16; 256],
 ) -> Reached
-    requires { ⌜ Checked (now form) (now sheet) (now items) (now answers) × Unmarked (now marks) ⌝ }
+    requires { ⌜ CheckedInput (now form) (now sheet) (now items) (now answers) × Unmarked (now marks) ⌝ }
     ensures { λ r. ⌜ runAnswer (Run.run (now (form .entry)) (now (sheet .entry)) (length (now (items .entry))) (length (now (answers .entry)))) ≡ ended (answerOf r (now (marks .exit))) (now (items .exit)) (now (answers .exit)) ⌝ }
 {
     wire::fill(answers, 0, answers.len(), 0);
-    let mut codes = no_codes();
+    let mut codes = form_codes::no_codes();
     form_codes::codes(form, &mut codes);
     let split = split_line::split(form, &codes, sheet, items);
     let p = split_args::begin(split.count, split.marker, marks);
@@ -157,6 +121,6 @@ pub fn run(form: &[u8], sheet: &[u8], items: &mut [u32], answers: &mut [u32]) ->
         place: all.place,
         tries: all.tries,
         words: all.words,
-        state: joined(marks, left),
+        state: state_marks::joined(marks, left),
     }
 }

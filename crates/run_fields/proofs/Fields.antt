@@ -20,6 +20,7 @@ use Rattle.form_layout.specs.declared.Node as declared
 use Rattle.form_layout.proofs.Sizes.{sized, nodes-length, fields-length}
 use Rattle.state_marks.specs.declared.Numbers.{Numbers}
 use Rattle.eval_told.specs.declared.Ran.{Ran}
+use Rattle.eval_told.specs.Results.{written}
 use Rattle.eval_told.specs.Told.{Evaluates, scalarWords}
 use Rattle.eval_told.specs.Nodes.{treeAt, isScalar, Scalar}
 use Rattle.eval_told.proofs.NodeLaw.{at-tree}
@@ -28,7 +29,7 @@ use Rattle.eval_shortcut.proofs.Words.{scalar-short}
 use Rattle.eval_shortcut.proofs.Trees.{form-good, node-inside}
 use Rattle.eval_list.specs.declared.Field.{Field}
 use Rattle.eval_list.specs.Lists.{Listed, Writes}
-use Rattle.run_fields.specs.Line.{Placed, written, PutValue}
+use Rattle.run_fields.specs.Line.{FieldReady, PutValue}
 use Rattle.run_fields.proofs.Shapes.{single-here}
 
 -- ---- one field
@@ -37,7 +38,7 @@ module _
     (p : Numbers)
     (field : Field)
     (o : List ℕ)
-    (f : Placed b known s words m p field o)
+    (f : FieldReady b known s words m p field o)
     (r : Bool)
     (says : (t : Tree) → treeAt b (field .node) ≡ some t → not r ≡ isScalar (kindOf t))
   where
@@ -54,7 +55,7 @@ module _
     (p : Numbers)
     (field : Field)
     (o : List ℕ)
-    (f : Placed b known s words m p field o)
+    (f : FieldReady b known s words m p field o)
   where
     abbrev n : ℕ
     n = field .node

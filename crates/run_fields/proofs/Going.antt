@@ -39,7 +39,7 @@ use Rattle.eval_told.proofs.Repeats.{append-three, told-state, told-tries, told
 use Rattle.eval_node.proofs.Words.{sets-append, sets-back}
 use Rattle.run_fields.specs.declared.Reached.{Reached}
 use Rattle.eval_list.specs.Lists.{Writes, WritesField}
-use Rattle.run_fields.specs.Line.{Starts, Placed, toldAll, RunsFields, refusedWith, valuesOf}
+use Rattle.run_fields.specs.Line.{Starts, FieldReady, toldAll, RunsFields, refusedWith, valuesOf}
 use Rattle.run_fields.proofs.Fields.{FieldAt, field, form-long, few-fields, field-count}
 
 -- ---- what is told behind so many tries and these words
@@ -212,7 +212,7 @@ module _ (b known s words m₀ : List ℕ) (p₀ : Numbers) (first : ℕ) (o₀ 
         abbrev mine : FieldAt b (a .fields) k node
         mine = field b a e k node h
 
-        pub going-field : Placed b known s words m p (record { node = node; at = at; mark = u }) o
+        pub going-field : FieldReady b known s words m p (record { node = node; at = at; mark = u }) o
         going-field = rw eu (record {
           stands = record {
             tree = mine .tree;

@@ -29,7 +29,7 @@ use Rattle.take.specs.Takes.{Items}
 use Rattle.eval_told.specs.Told.{Told, Numbered}
 use Rattle.eval_node.proofs.Words.{sets-back}
 use Rattle.run_fields.specs.declared.Reached.{Reached}
-use Rattle.run_fields.specs.Line.{Starts, toldAll, RunsFields, Reaches, refusedWith}
+use Rattle.run_fields.specs.Line.{Starts, toldAll, RunsFields, RunsAll, refusedWith}
 use Rattle.run_fields.proofs.Going.{told-same, with-outcome}
 
 -- ---- the test behind a run
@@ -117,7 +117,7 @@ module _ (m : List ℕ) (p : Numbers) (f : Fine m p) (is : List Item) (n : lengt
 -- ---- all fields, and then the test
 module _ (b known s words m₀ : List ℕ) (p₀ : Numbers) (first : ℕ) (o₀ : List ℕ) (start : Starts b known s words m₀ p₀ first o₀) where
   module _ (m o : List ℕ) (r : Reached) (a : Accepted) (e : checkForm b ≡ accepted a) (t : RunsFields (sheetArea s) words (a .fields) m₀ p₀ m o₀ o r) where
-    pub all-refused : (r .number ≡ 0 → ⊥) → Reaches (sheetArea s) words (a .fields) m₀ p₀ m o₀ o r
+    pub all-refused : (r .number ≡ 0 → ⊥) → RunsAll (sheetArea s) words (a .fields) m₀ p₀ m o₀ o r
     unfolding runAll
     all-refused z = record {
       values = t .values;
@@ -151,7 +151,7 @@ module _ (b known s words m₀ : List ℕ) (p₀ : Numbers) (first : ℕ) (o₀ 
       items : (is : List Item) → Items (sheetArea s) words p₀ is → length is ≡ r .numbers .count
       items is i = i .1 ∙ sym (t .left .count)
 
-      pub all-empty : y ≤ place → Reaches (sheetArea s) words (a .fields) m₀ p₀ m o₀ o r
+      pub all-empty : y ≤ place → RunsAll (sheetArea s) words (a .fields) m₀ p₀ m o₀ o r
       unfolding runAll
       all-empty h = record {
         values = t .values;
@@ -177,7 +177,7 @@ module _ (b known s words m₀ : List ℕ) (p₀ : Numbers) (first : ℕ) (o₀ 
 
       pub all-left : r .number ≡ 0 → place < y → (n : ℕ) → n ≡ r .words → (o′ : List ℕ) → o′ ≡ sets o 0 (replicate n 0) → (v : Reached)
           → v ≡ refusedWith 27 (place + 1) (r .tries) (r .numbers)
-          → Reaches (sheetArea s) words (a .fields) m₀ p₀ m o₀ o′ v
+          → RunsAll (sheetArea s) words (a .fields) m₀ p₀ m o₀ o′ v
       unfolding runAll
       all-left z h n w o′ q v u =
           let cleared : o′ ≡ o₀ =

@@ -119,7 +119,9 @@ module _ (b : List ℕ) (k : ℕ) (t : Tree) (h : treeAt b k ≡ some t) where
       where
         go : (a : Accepted) → checkForm b ≡ accepted a → Shape (a .trees) k (nodeOf x) t → Beneath
         go a e (through c y i q) = record { tree = c; node = at-tree b a e (x .p) ∙ i .1; lower = i .0; same = q }
-        go a e (listed y q) = absurd (⊎-elim (λ (u : x .kind ≡ 4). ⊎-elim (λ v. omega arith) (λ v. omega arith) y) (λ (u : x .kind ≡ 9). ⊎-elim (λ v. omega arith) (λ v. omega arith) y) z)
+        go a e (listed y q) =
+            absurd
+            (⊎-elim (λ (u : x .kind ≡ 4). ⊎-elim (λ v. omega arith) (λ v. omega arith) y) (λ (u : x .kind ≡ 9). ⊎-elim (λ v. omega arith) (λ v. omega arith) y) z)
         go a e (single n y o u q) = absurd (⊎-elim (λ (v : x .kind ≡ 4). ⊎-elim (λ w. omega arith) (λ w. omega arith) o) (λ (v : x .kind ≡ 9). u (sym y ∙ v)) z)
 
     pub list-here : (n : ℕ) → n ≡ x .kind → 4 ≤ n → n < 7 → ((n ≡ 4) ⊎ (n ≡ 9) → ⊥) → false ≡ isScalar (kindOf t)

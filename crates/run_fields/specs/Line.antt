@@ -20,6 +20,7 @@ use Rattle.take_table.specs.Known.{Known}
 use Rattle.take.specs.Takes.{LeftState, Items}
 use Rattle.take.specs.Takes as takes
 use Rattle.eval_told.specs.declared.Ran.{Ran}
+use Rattle.eval_told.specs.Results.{written}
 use Rattle.eval_told.specs.Told.{Told}
 use Rattle.eval_told.specs.Nodes.{Standing}
 use Rattle.eval_node.specs.Cycle.{Room}
@@ -40,20 +41,9 @@ pub record Starts (b known s words m : List ℕ) (p : Numbers) (first : ℕ) (o 
   pub zeros : (k : ℕ) → getD o k 0 ≡ 0
 
 -- a node, and room for its words
-pub record Placed (b known s words m : List ℕ) (p : Numbers) (f : Field) (o : List ℕ) : Type 0 where
+pub record FieldReady (b known s words m : List ℕ) (p : Numbers) (f : Field) (o : List ℕ) : Type 0 where
   pub stands : Standing b known s words m p (f .mark) (f .node)
   pub space : Room o (f .at)
-
--- a result whose words are written, so many of them
-abbrev pub written : Ran → ℕ → Ran
-written r len = record {
-  number = r .number;
-  place = r .place;
-  tries = r .tries;
-  len = len;
-  word = 0;
-  numbers = r .numbers;
-}
 
 -- a value that is no list, whose words are put from `at` on
 pub record PutValue (o : List ℕ) (at : ℕ) (x : Ran) (o′ : List ℕ) (r : Ran) : Type 0 where
@@ -79,7 +69,7 @@ reachedWith r m w = record {
 }
 
 -- what a run over the items reaches, whose words are written from the first word on
-pub record Tells (run : List Item → Run (List Value)) (area words m : List ℕ) (p : Numbers) (m′ o o′ : List ℕ) (r : Reached) : Type 0 where
+pub record RunTold (run : List Item → Run (List Value)) (area words m : List ℕ) (p : Numbers) (m′ o o′ : List ℕ) (r : Reached) : Type 0 where
   pub values : List ℕ
   pub same : (is : List Item) → Items area words p is → toldAll (run is) ≡ some (reachedWith r m′ values)
   pub count : r .words ≡ length values
@@ -90,12 +80,12 @@ pub record Tells (run : List Item → Run (List Value)) (area words m : List ℕ
 -- the fields in order
 abbrev pub RunsFields : List ℕ → List ℕ → List Tree → List ℕ → Numbers → List ℕ → List ℕ → List ℕ → Reached → Type 0
 RunsFields area words fields m p m′ o o′ r =
-    Tells (λ is. runFields parsedMark is fields (stateOf m p)) area words m p m′ o o′ r
+    RunTold (λ is. runFields parsedMark is fields (stateOf m p)) area words m p m′ o o′ r
 
 -- then 27
-abbrev pub Reaches : List ℕ → List ℕ → List Tree → List ℕ → Numbers → List ℕ → List ℕ → List ℕ → Reached → Type 0
-Reaches area words fields m p m′ o o′ r =
-    Tells (λ is. runAll parsedMark is fields (stateOf m p)) area words m p m′ o o′ r
+abbrev pub RunsAll : List ℕ → List ℕ → List Tree → List ℕ → Numbers → List ℕ → List ℕ → List ℕ → Reached → Type 0
+RunsAll area words fields m p m′ o o′ r =
+    RunTold (λ is. runAll parsedMark is fields (stateOf m p)) area words m p m′ o o′ r
 
 -- ---- results
 abbrev pub refusedWith : ℕ → ℕ → ℕ → Numbers → Reached

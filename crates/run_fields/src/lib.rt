@@ -3,18 +3,30 @@ ghost use mathlib.Core.Path.{_≡_};
 ghost use mathlib.Core.Bool.{not};
 ghost use mathlib.Core.Option.{some};
 ghost use Prim.Native.Nat.{_+_, _≤_};
-ghost use lib.ListN.{length};
+ghost use lib.ListN.{length, replicate};
 ghost use Rattle.rules.specs.Accept.{Accepted, accepted, checkForm};
 ghost use Rattle.rules.specs.Sheet.{sheetArea};
 ghost use Rattle.rules.specs.Run.{parsedMark};
 ghost use Rattle.rules.specs.Tree.{Tree, kindOf};
 ghost use Rattle.eval_told.specs.Nodes.{treeAt, isScalar};
-ghost use Rattle.run_fields.specs.Line.{Starts, Placed, written, PutValue, RunsFields, Reaches, refusedWith, valuesOf};
+ghost use Rattle.run_fields.specs.Line.{Starts, FieldReady, PutValue, RunsFields, RunsAll, refusedWith, valuesOf};
 ghost use Rattle.eval_list.specs.Lists.{WritesField};
 use eval_list::Field;
 use eval_told::Ran;
+use rules::State;
 use state_marks::Numbers;
 use wire::wide;
+
+// How a run, or the evaluation of one node, ended, and the state that it left. A place is itself plus 1, or 0 for none; `words` is
+// how many answer words there are.
+#[repr(C)]
+pub struct RunAnswer {
+    pub number: u32,
+    pub place: u32,
+    pub tries: u32,
+    pub words: u32,
+    pub state: State,
+}
 
 // How the run of all fields ended. `words` is how many answer words there are.
 pub struct Reached {
@@ -42,28 +54,13 @@ pub fn is_list(form: &[u8], node: usize) -> bool
     }
 }
 
-// The words of a value are written.
-fn wrote(ran: Ran, len: u32) -> Ran
-    ensures { λ r. ⌜ r ≡ written ran len ⌝ }
-{
-    let left = ran.numbers;
-    Ran {
-        number: ran.number,
-        place: ran.place,
-        tries: ran.tries,
-        len,
-        word: 0,
-        numbers: left,
-    }
-}
-
 // A value that is no list: its words go to `out` from `at` on.
 fn put_value(out: &mut [u32], at: usize, ran: Ran) -> Ran
     requires { ⌜ at + 2 ≤ length (now out) ⌝ }
     ensures { λ r. ⌜ PutValue (now (out .entry)) at ran (now (out .exit)) r ⌝ }
 {
     let len = eval_node::put(out, at, ran.len, ran.word);
-    wrote(ran, len)
+    eval_told::wrote(ran, len)
 }
 
 // A node, whatever it is: the words of its value go to `out`, where all is 0.
@@ -77,7 +74,7 @@ pub fn run_value(
     field: Field,
     out: &mut [u32],
 ) -> Ran
-    requires { ⌜ Placed (now form) (now known) (now sheet) (now items) (now marks) p field (now out) ⌝ }
+    requires { ⌜ FieldReady (now form) (now known) (now sheet) (now items) (now marks) p field (now out) ⌝ }
     ensures { λ r. ⌜ WritesField (now (form .entry)) (now (sheet .entry)) (now (items .entry)) field (now (marks .entry)) p (now (marks .exit)) (now (out .entry)) (now (out .exit)) r ⌝ }
 {
     if is_list(form, field.node) {
@@ -98,7 +95,7 @@ fn run_field(
     field: Field,
     out: &mut [u32],
 ) -> Ran
-    requires { ⌜ Placed (now form) (now known) (now sheet) (now items) (now marks) p field (now out) ⌝ }
+    requires { ⌜ FieldReady (now form) (now known) (now sheet) (now items) (now marks) p field (now out) ⌝ }
     ensures { λ r. ⌜ WritesField (now (form .entry)) (now (sheet .entry)) (now (items .entry)) field (now (marks .entry)) p (now (marks .exit)) (now (out .entry)) (now (out .exit)) r ⌝ }
 {
     let x = form_layout::node_at(form, field.node);
@@ -139,12 +136,19 @@ fn answered(tries: u32, words: usize, numbers: Numbers) -> Reached
     }
 }
 
+// A table of which nodes each item matches, as yet empty.
+pub fn nothing_known() -> [u64; 257]
+    ensures { λ r. ⌜ r ≡ replicate 257 0 ⌝ }
+{
+    [0u64; 257]
+}
+
 // The mark of what field `number` uses. Every field has the same: this is the one place where the number tells.
 fn field_mark(number: usize) -> u16
     ensures { λ r. ⌜ r ≡ parsedMark ⌝ }
 {
     let _ = number;
-    1
+    state_marks::FIELD
 }
 
 // The fields in order, up to the first that is refused. Each is run on the state that the last one left.
@@ -197,7 +201,7 @@ pub fn run_fields(
     out: &mut [u32],
 ) -> Reached
     requires { ⌜ Starts (now form) (now known) (now sheet) (now items) (now marks) p first (now out) ⌝ }
-    ensures { λ r. ⌜ ((a : Accepted) → checkForm (now (form .entry)) ≡ accepted a → Reaches (sheetArea (now (sheet .entry))) (now (items .entry)) (a .fields) (now (marks .entry)) p (now (marks .exit)) (now (out .entry)) (now (out .exit)) r) ⌝ }
+    ensures { λ r. ⌜ ((a : Accepted) → checkForm (now (form .entry)) ≡ accepted a → RunsAll (sheetArea (now (sheet .entry))) (now (items .entry)) (a .fields) (now (marks .entry)) p (now (marks .exit)) (now (out .entry)) (now (out .exit)) r) ⌝ }
 {
     let all = each_field(form, known, sheet, items, marks, p, first, out);
     if all.number != 0 {

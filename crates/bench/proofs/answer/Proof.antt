@@ -58,16 +58,20 @@ same-length : tie.Need-same-length
 same-length c = search needs
 
 returns : tie.Need-returns
-returns
-    c
-    =
-    bench-appends
+returns c =
+    bench-appends _ _ _ _ _
+    (c .before .before .before .before .before .before .before .before .before .before .before .before .before .before .before .before .form-part .ensures)
+    (c .before .before .before .before .before .before .before .before .before .before .before .before .before .before .before .sheet-part .ensures)
+    (search needs)
+    (search needs)
+    _ _ _
+    (c .before .before .before .before .before .before .before .before .before .before .before .before .run .ensures)
+    _ _ _
+    (c .before .before .before .before .before .before .before .before .first-line .ensures .0)
     _
-    _
-    _
-    _
-    _
-    (c .before .before .before .before .before .before .before .before .before .before .before .before .before .before .before .before .form-part .ensures) (c .before .before .before .before .before .before .before .before .before .before .before .before .before .before .before .sheet-part .ensures) (search needs) (search needs) _ _ _ (c .before .before .before .before .before .before .before .before .before .before .before .before .run .ensures) _ _ _ (c .before .before .before .before .before .before .before .before .first-line .ensures .0) _ (c .before .before .before .before .before .size .ensures) _ _ (c .before .before .append-words .ensures)
+    (c .before .before .before .before .before .size .ensures)
+    _ _
+    (c .before .before .append-words .ensures)
 
 pub answer-spec : {M : Type 1} → statement M
 answer-spec =

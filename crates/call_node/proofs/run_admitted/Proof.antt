@@ -16,8 +16,8 @@ known-of-requires c κs = (search cleared-checked, search (cleared-made, needs),
 slice-aggregate-run-value : tie.Need-slice-aggregate-run-value
 slice-aggregate-run-value c = search needs
 
-numbers-requires : tie.Need-numbers-requires
-numbers-requires c κs = search needs
+numbers-of-requires : tie.Need-numbers-of-requires
+numbers-of-requires c κs = search needs
 
 run-value-requires : tie.Need-run-value-requires
 run-value-requires c κs = search node-stands
@@ -36,7 +36,7 @@ returns c =
     let by-run-value = c .before .before .before in
     let run-value = by-run-value .run-value in
     let by-numbers = by-run-value .before .before .before .before in
-    let numbers = by-numbers .numbers in
+    let numbers = by-numbers .numbers-of in
     let start = by-numbers .before .before .before .before .before .before .before .before in
     node-runs _ _ _ _ _ _ (start .pre) _ (numbers .ensures) _ _ _ _ (marks-long _ start) (run-value .ensures) (c .answered .ensures)
 
@@ -46,7 +46,7 @@ run-admitted-spec =
     (tie.spec
     wide-requires
     known-of-requires
-    numbers-requires
+    numbers-of-requires
     slice-aggregate-run-value
     run-value-requires
     answered-requires

@@ -10,8 +10,8 @@ run-repeat-requires c κs =
     let pre = c .before .before .before .before .before .before .before .pre in
     asks (sound-many _) pre
 
-refused-requires : tie.Need-refused-requires
-refused-requires c κs = search needs
+refusal-requires : tie.Need-refusal-requires
+refusal-requires c κs = search needs
 
 same-length : tie.Need-same-length
 same-length c = search needs
@@ -23,7 +23,7 @@ returns c =
     let by-run-repeat = by-if1 .before .before .before .before in
     let run-repeat = by-run-repeat .run-repeat in
     let pre = by-run-repeat .before .before .before .before .before .before .before .before .pre in
-    many-refuses pre (run-repeat .ensures) (if1 .taken) (c .refused .ensures)
+    many-refuses pre (run-repeat .ensures) (if1 .taken) (c .refusal .ensures)
 
 counted-requires : tie.Need-counted-requires
 counted-requires c κs =
@@ -51,7 +51,7 @@ run-many-spec =
     tie.close
     (tie.spec
     run-repeat-requires
-    refused-requires
+    refusal-requires
     same-length
     returns
     counted-requires

@@ -10,8 +10,8 @@ run-repeat-requires c κs =
     let pre = c .before .before .before .before .before .before .before .pre in
     asks (sound-some _) pre
 
-refused-requires : tie.Need-refused-requires
-refused-requires c κs = search needs
+refusal-requires : tie.Need-refusal-requires
+refusal-requires c κs = search needs
 
 same-length : tie.Need-same-length
 same-length c = search needs
@@ -23,13 +23,13 @@ returns c =
     let by-run-repeat = by-if1 .before .before .before .before .before in
     let run-repeat = by-run-repeat .run-repeat in
     let pre = by-run-repeat .before .before .before .before .before .before .before .before .pre in
-    some-refuses pre (run-repeat .ensures) (if1 .taken) (c .refused .ensures)
+    some-refuses pre (run-repeat .ensures) (if1 .taken) (c .refusal .ensures)
 
 parse-some-requires : tie.Need-parse-some-requires
 parse-some-requires c κs = search needs
 
-refused-requires-2 : tie.Need-refused-requires-2
-refused-requires-2 c κs = search needs
+refusal-requires-2 : tie.Need-refusal-requires-2
+refusal-requires-2 c κs = search needs
 
 same-length-2 : tie.Need-same-length-2
 same-length-2 c = search needs
@@ -45,7 +45,7 @@ returns-2 c =
     let by-run-repeat = by-if1 .before .before .before .before .before in
     let run-repeat = by-run-repeat .run-repeat in
     let pre = by-run-repeat .before .before .before .before .before .before .before .before .pre in
-    some-nothing pre (run-repeat .ensures) (if1 .left) (parse-some .ensures) (if2 .taken) (c .refused2 .ensures)
+    some-nothing pre (run-repeat .ensures) (if1 .left) (parse-some .ensures) (if2 .taken) (c .refusal2 .ensures)
 
 counted-requires : tie.Need-counted-requires
 counted-requires c κs =
@@ -77,11 +77,11 @@ run-some-spec =
     tie.close
     (tie.spec
     run-repeat-requires
-    refused-requires
+    refusal-requires
     same-length
     returns
     parse-some-requires
-    refused-requires-2
+    refusal-requires-2
     same-length-2
     returns-2
     counted-requires

@@ -3,7 +3,8 @@ use Prim.Native.Nat.{_-_}
 use borrow.Author.Needs.{needs}
 use Rattle.rules.specs.Accept.{Accepted, accepted, checkForm}
 use Rattle.rules.specs.Sheet.{sheetArea}
-use Rattle.run_fields.proofs.Going.{Going, starts-long, field-there, going-step, going-number, going-first, going-field, going-tries, going-at, going-most, going-long, long-refused, going-refused, going-next}
+use Rattle.run_fields.proofs.Going.{Going, starts-long, field-there, going-step, going-number, going-first, going-field, going-tries}
+use Rattle.run_fields.proofs.Going.{going-at, going-most, going-long, long-refused, going-refused, going-next}
 use Rattle.run_fields.proofs.Going.{going-end}
 use Rattle.run_fields.proofs.each_field.Statement.{statement}
 use Rattle.run_fields.proofs.each_field.Tie as tie

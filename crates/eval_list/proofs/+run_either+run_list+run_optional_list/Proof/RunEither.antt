@@ -96,8 +96,10 @@ run-either-returns t c =
 
 pub run-either-same-length : (t : ℕ) → run-either-lts.Need-same-length (run-either-calls t) (run-either-at t) run-either.Post
 run-either-same-length t c =
-    let
-    pre
-    =
-    c .before .before .before .before .before .before .before .before .before .before .before .before .before .before .before .before .before .before .before .before .before .before .before .before .before .before .before .before .before .before .before .before .before .pre in
+    let by-settle = c .before .before in
+    let by-choose = by-settle .before .before .before .before .before in
+    let by-run-list2 = by-choose .before .before .before .before .before .before in
+    let by-wide = by-run-list2 .before .before .before .before .before .before .before in
+    let by-run-list = by-wide .before .before .before .before in
+    let pre = by-run-list .before .before .before .before .before .before .before .before .before .pre in
     writes-long (run-either-returns t c _ _ (pre .1 .first .stands .node) (pre .1 .second .stands .node))

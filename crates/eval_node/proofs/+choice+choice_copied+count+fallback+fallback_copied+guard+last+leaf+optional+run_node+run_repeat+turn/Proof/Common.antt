@@ -45,7 +45,7 @@ use Rattle.eval_node.proofs.ended.Reads as ended-reads
 use Rattle.eval_shortcut.proofs.keeps_marks.Reads as keeps-marks-reads
 use Rattle.eval_node.proofs.last_value.Reads as last-value-reads
 use Rattle.eval_shortcut.proofs.leaf_below.Reads as leaf-below-reads
-use Rattle.eval_node.proofs.more_tries.Reads as more-tries-reads
+use Rattle.eval_told.proofs.more_tries.Reads as more-tries-reads
 use Rattle.eval_node.proofs.next_from.Reads as next-from-reads
 use Rattle.eval_node.proofs.nothing.Reads as nothing-reads
 use Rattle.eval_node.proofs.one_more.Reads as one-more-reads
