@@ -1,5 +1,5 @@
 -- What was compared is what the contracts say.
-use mathlib.Core.Path.{_≡_, refl, sym, _∙_, subst}
+use mathlib.Core.Path.{_≡_, refl, subst}
 use mathlib.Core.Bool.{Bool, cond}
 use mathlib.Core.Logic.{inl}
 use mathlib.Core.List.{List, [], _∷_}
@@ -16,15 +16,15 @@ use Rattle.rules.specs.Codes.{checkCode}
 use Rattle.rules.specs.Calls.{callSplit}
 use Rattle.rules.specs.Run as Run
 use Rattle.rules.specs.declared.Refused.{Refused}
-use Rattle.rules.specs.declared.State.{State}
 use Rattle.run.specs.Runner.{runAnswer, ended}
 use Rattle.run.specs.declared.RunAnswer.{RunAnswer}
 use Rattle.call_check.specs.Reader.{sheetCode, splittingOf}
 use Rattle.call_check.specs.declared.SplitAnswer.{SplitAnswer}
 use Rattle.call_text.specs.Text.{TextOf}
-use Rattle.replay.specs.Words.{wordAt, Stands, StateAt, AnswerAt}
+use Rattle.replay.specs.Words.{Stands, AnswerAt}
 use Rattle.replay.specs.Calls.{TextTold}
-use Rattle.replay.specs.Cases.{characterWords, utf8Words, bothWords, checkWords, SplitTold, RunTold, Said, StatesTold, OnItems, text, ItemTold}
+use Rattle.replay.specs.Cases.{characterWords, utf8Words, bothWords, checkWords, SplitTold, RunTold, OnItems, ItemTold}
+use Rattle.replay.specs.declared.words.Head.{Head}
 use Rattle.replay.specs.List.{HasCase, CaseTold}
 
 pub utf8-told :
@@ -66,46 +66,21 @@ module _ (form sheet : List ℕ) (ni : ℕ) (ei : 1792 ≡ ni) where
       → (answer : RunAnswer) (items answers : List ℕ)
       → runAnswer (Run.run form sheet ni na) ≡ ended answer items answers
       → (b words : List ℕ)
-      → AnswerAt b (answer .number) (answer .place) (answer .tries) (answer .words) 0 0 0 (answer .state)
+      → AnswerAt b (answer .number ∷ answer .place ∷ answer .tries ∷ answer .words ∷ 0 ∷ 0 ∷ 0 ∷ []) (answer .state)
       → Stands words 0 answers
       → RunTold form sheet b words
   run-told na ea answer items answers says b words same written =
       record { answer = answer; items = items; answers = answers; says = rw (ei, ea) says; same = same; written = written }
 
   module _ (split : SplitAnswer) (items : List ℕ) (splits : callSplit form sheet ni ≡ ok (splittingOf split items)) (b words : List ℕ) where
-    pub split-told : AnswerAt b (split .number) (split .place) 0 0 0 0 0 (split .state) → Stands words 0 items → SplitTold form sheet b words
+    pub split-told : AnswerAt b (split .number ∷ split .place ∷ 0 ∷ 0 ∷ 0 ∷ 0 ∷ 0 ∷ []) (split .state) → Stands words 0 items → SplitTold form sheet b words
     split-told same written = record { answer = split; items = items; says = rw ei splits; same = same; written = written }
 
-    pub item-told : (head given second : List ℕ) → OnItems head form sheet items given second b words → ItemTold head form sheet given second b words
-    item-told head given second told = record { split = split; items = items; splits = rw ei splits; told = told }
-
-module _ (form sheet items b words head given second : List ℕ) where
-  pub text-said :
-      (k : ℕ)
-      → k ≡ wordAt head 0
-      → k ≡ 4
-      → (word : ℕ)
-      → word ≡ wordAt head 1
-      → TextTold form sheet items word b words
-      → OnItems head form sheet items given second b words
-  text-said k ek four word ew told = text (sym ek ∙ four) (rw (← ew) told)
-
-  pub states-told :
-      (s t : State)
-      → StateAt given 0 s
-      → StateAt second 0 t
-      → (x m : ℕ)
-      → x ≡ wordAt head 1
-      → m ≡ x
-      → (y n : ℕ)
-      → y ≡ wordAt head 2
-      → n ≡ y
-      → (k : ℕ)
-      → k ≡ wordAt head 0
-      → Said form sheet items s t m n b words k
-      → StatesTold head form sheet items given second b words
-  states-told s t first other x m ex em y n ey en k ek told =
-      record { s = s; t = t; first = first; other = other; said = rw (← ek, ← ex, ← ey, ← em, ← en) told }
+    pub item-told :
+        (h : Head) (given second : List ℕ)
+        → OnItems h form sheet items given second b words
+        → ItemTold h form sheet given second b words
+    item-told h given second told = record { split = split; items = items; splits = rw ei splits; told = told }
 
 module _ (list : List ℕ) (n at : ℕ) where
   pub has-entry : HasCase list n at → (k : ℕ) → at ≤ k → k < at + 7 → HasEntry 2 n list k

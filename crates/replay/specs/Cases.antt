@@ -18,8 +18,9 @@ use Rattle.run.specs.Runner.{runAnswer, ended}
 use Rattle.run.specs.declared.RunAnswer.{RunAnswer}
 use Rattle.call_check.specs.Reader.{sheetCode, splittingOf}
 use Rattle.call_check.specs.declared.SplitAnswer.{SplitAnswer}
-use Rattle.replay.specs.Words.{wordAt, Stands, StateAt, AnswerAt}
-use Rattle.replay.specs.Calls.{CallTold, GetTold, EvalTold, TextTold}
+use Rattle.replay.specs.Words.{Stands, StateAt, AnswerAt}
+use Rattle.replay.specs.Calls.{CallTold, TextTold}
+use Rattle.replay.specs.declared.words.Head.{Head}
 
 -- whether the bytes are well-formed; whether there is a first character, its value and its size
 abbrev pub characterWords : ℕ → Decoded → List ℕ
@@ -41,7 +42,7 @@ pub record SplitTold (form sheet b words : List ℕ) : Type 0 where
   pub answer : SplitAnswer
   pub items : List ℕ
   pub says : callSplit form sheet 1792 ≡ ok (splittingOf answer items)
-  pub same : AnswerAt b (answer .number) (answer .place) 0 0 0 0 0 (answer .state)
+  pub same : AnswerAt b (answer .number ∷ answer .place ∷ 0 ∷ 0 ∷ 0 ∷ 0 ∷ 0 ∷ []) (answer .state)
   pub written : Stands words 0 items
 
 -- the words are those of the answer slice
@@ -50,35 +51,31 @@ pub record RunTold (form sheet b words : List ℕ) : Type 0 where
   pub items : List ℕ
   pub answers : List ℕ
   pub says : runAnswer (Run.run form sheet 1792 8240) ≡ ended answer items answers
-  pub same : AnswerAt b (answer .number) (answer .place) (answer .tries) (answer .words) 0 0 0 (answer .state)
+  pub same : AnswerAt b (answer .number ∷ answer .place ∷ answer .tries ∷ answer .words ∷ 0 ∷ 0 ∷ 0 ∷ []) (answer .state)
   pub written : Stands words 0 answers
 
--- a call on the items of the sheet and on the states that are given, by its number
-pub data Said (form sheet items : List ℕ) (s t : State) (m n : ℕ) (b words : List ℕ) (k : ℕ) : Type 0 where
-  eval : k ≡ 5 → EvalTold form sheet items s m b words → Said form sheet items s t m n b words k
-  get : k ≡ 6 → GetTold sheet items s m b words → Said form sheet items s t m n b words k
-  call : CallTold form sheet items s t m n b k → Said form sheet items s t m n b words k
-
-pub record StatesTold (head form sheet items given second b words : List ℕ) : Type 0 where
+-- a call on the states that are given
+pub record StatesTold (h : Head) (form sheet items given second b words : List ℕ) : Type 0 where
   pub s : State
   pub t : State
   pub first : StateAt given 0 s
   pub other : StateAt second 0 t
-  pub said : Said form sheet items s t (wordAt head 1) (wordAt head 2) b words (wordAt head 0)
+  pub told : CallTold h form sheet items s t b words
 
-pub data OnItems (head form sheet items given second b words : List ℕ) : Type 0 where
-  text : wordAt head 0 ≡ 4 → TextTold form sheet items (wordAt head 1) b words → OnItems head form sheet items given second b words
-  states : StatesTold head form sheet items given second b words → OnItems head form sheet items given second b words
+pub data OnItems (h : Head) (form sheet items given second b words : List ℕ) : Type 0 where
+  text : h .call ≡ 4 → TextTold form sheet items (h .word) b words → OnItems h form sheet items given second b words
+  states : StatesTold h form sheet items given second b words → OnItems h form sheet items given second b words
 
-pub record ItemTold (head form sheet given second b words : List ℕ) : Type 0 where
+-- a call on the items of the sheet
+pub record ItemTold (h : Head) (form sheet given second b words : List ℕ) : Type 0 where
   pub split : SplitAnswer
   pub items : List ℕ
   pub splits : callSplit form sheet 1792 ≡ ok (splittingOf split items)
-  pub told : OnItems head form sheet items given second b words
+  pub told : OnItems h form sheet items given second b words
 
-pub data Told (head form sheet given second b words : List ℕ) : Type 0 where
-  utf8 : wordAt head 0 ≡ 0 → Stands b 0 (utf8Words form) → Told head form sheet given second b words
-  check : wordAt head 0 ≡ 1 → Stands b 0 (checkWords form sheet) → Told head form sheet given second b words
-  split : wordAt head 0 ≡ 2 → SplitTold form sheet b words → Told head form sheet given second b words
-  run : wordAt head 0 ≡ 3 → RunTold form sheet b words → Told head form sheet given second b words
-  items : ItemTold head form sheet given second b words → Told head form sheet given second b words
+pub data Told (h : Head) (form sheet given second b words : List ℕ) : Type 0 where
+  utf8 : h .call ≡ 0 → Stands b 0 (utf8Words form) → Told h form sheet given second b words
+  check : h .call ≡ 1 → Stands b 0 (checkWords form sheet) → Told h form sheet given second b words
+  split : h .call ≡ 2 → SplitTold form sheet b words → Told h form sheet given second b words
+  run : h .call ≡ 3 → RunTold form sheet b words → Told h form sheet given second b words
+  items : ItemTold h form sheet given second b words → Told h form sheet given second b words

@@ -4,6 +4,7 @@ use mathlib.Core.Bool.{true}
 use mathlib.Core.List.{List}
 use Prim.Native.Nat.{ℕ, _+_, _*_, _≤_}
 use Rattle.wire.specs.Wire.{numberAt, tableGood, entryOf}
+use Rattle.replay.specs.Words.{headOf}
 use Rattle.replay.specs.Cases.{Told}
 
 -- a table of n entries, of which seven are there from `at` on
@@ -15,7 +16,7 @@ pub record HasCase (list : List ℕ) (n at : ℕ) : Type 0 where
 abbrev pub CaseTold : List ℕ → ℕ → ℕ → Type 0
 CaseTold list n at =
     Told
-    (entryOf 2 n list at)
+    (headOf (entryOf 2 n list at))
     (entryOf 2 n list (at + 1))
     (entryOf 2 n list (at + 2))
     (entryOf 2 n list (at + 3))

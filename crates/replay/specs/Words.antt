@@ -7,10 +7,15 @@ use lib.ListN.{length, getD}
 use Rattle.utf8.specs.Utf8.{if_then_else_}
 use Rattle.wire.specs.Wire.{numberAt}
 use Rattle.rules.specs.declared.State.{State}
+use Rattle.replay.specs.declared.words.Head.{Head}
 
 -- word k of the part, and 0 behind the last
 unfoldable pub wordAt : List ℕ → ℕ → ℕ
 wordAt b k = if ltb k (length b / 4) then numberAt 4 b (4 * k) else 0
+
+-- the first words of the first part: the call, and what it is told
+unfoldable pub headOf : List ℕ → Head
+headOf b = record { call = wordAt b 0; word = wordAt b 1; m = wordAt b 1; n = wordAt b 2 }
 
 -- the numbers stand there from word `at` on
 abbrev pub Stands : List ℕ → ℕ → List ℕ → Type 0
@@ -20,6 +25,7 @@ pub record StateAt (b : List ℕ) (at : ℕ) (s : State) : Type 0 where
   pub numbers : Stands b at (s .count ∷ s .remaining ∷ s .current ∷ s .start ∷ s .end ∷ [])
   pub marks : Stands b (at + 5) (s .marks)
 
-pub record AnswerAt (b : List ℕ) (number place tries words found first second : ℕ) (s : State) : Type 0 where
-  pub numbers : Stands b 0 (number ∷ place ∷ tries ∷ words ∷ found ∷ first ∷ second ∷ [])
+-- the numbers of an answer, and the state that is left
+pub record AnswerAt (b told : List ℕ) (s : State) : Type 0 where
+  pub numbers : Stands b 0 told
   pub state : StateAt b 7 s

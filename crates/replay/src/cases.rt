@@ -2,10 +2,11 @@
 ghost use mathlib.Core.Path.{_≡_};
 ghost use mathlib.Core.Bool.{true, cond};
 ghost use lib.ListN.{length};
-ghost use Rattle.replay.specs.Words.{wordAt, Stands};
+ghost use Rattle.replay.specs.Words.{Stands};
 ghost use Rattle.replay.specs.Cases.{utf8Words, checkWords, SplitTold, RunTold, StatesTold, ItemTold, Told};
 use crate::calls;
 use crate::words;
+use crate::words::Head;
 use utf8::Decoded;
 
 // The slices that are lent to the calls. They are not 0, so that a word that is not written is seen.
@@ -62,7 +63,8 @@ fn split(form: &[u8], sheet: &[u8], numbers: &[u8], words: &[u8]) -> bool
     let mut items = item_slice();
     let split = call_check::split(form, sheet, &mut items);
     let s = split.state;
-    if !words::answer_same(numbers, split.number, split.place, 0, 0, 0, 0, 0, s) {
+    let told = [split.number, split.place, 0, 0, 0, 0, 0];
+    if !words::answer_same(numbers, told, s) {
         return false;
     }
     words::words_same(words, 0, &items)
@@ -76,31 +78,16 @@ fn run(form: &[u8], sheet: &[u8], numbers: &[u8], words: &[u8]) -> bool
     let mut answers = answer_slice();
     let ran = run::run(form, sheet, &mut items, &mut answers);
     let s = ran.state;
-    if !words::answer_same(
-        numbers,
-        ran.number,
-        ran.place,
-        ran.tries,
-        ran.words,
-        0,
-        0,
-        0,
-        s,
-    ) {
+    let told = [ran.number, ran.place, ran.tries, ran.words, 0, 0, 0];
+    if !words::answer_same(numbers, told, s) {
         return false;
     }
     words::words_same(words, 0, &answers)
 }
 
-fn size(x: u32) -> usize
-    ensures { λ r. ⌜ r ≡ x ⌝ }
-{
-    x as usize
-}
-
-// A call on a state or two.
+// A call on the states that are given.
 fn on_states(
-    head: &[u8],
+    h: Head,
     form: &[u8],
     sheet: &[u8],
     items: &[u32],
@@ -109,7 +96,7 @@ fn on_states(
     numbers: &[u8],
     words: &[u8],
 ) -> bool
-    ensures { λ r. ⌜ (r ≡ true → StatesTold (now (head .entry)) (now (form .entry)) (now (sheet .entry)) (now (items .entry)) (now (given .entry)) (now (second .entry)) (now (numbers .entry)) (now (words .entry))) ⌝ }
+    ensures { λ r. ⌜ (r ≡ true → StatesTold h (now (form .entry)) (now (sheet .entry)) (now (items .entry)) (now (given .entry)) (now (second .entry)) (now (numbers .entry)) (now (words .entry))) ⌝ }
 {
     let s = words::read_state(given);
     if !words::state_same(given, 0, s) {
@@ -119,19 +106,12 @@ fn on_states(
     if !words::state_same(second, 0, t) {
         return false;
     }
-    let m = size(words::word_at(head, 1));
-    let n = size(words::word_at(head, 2));
-    let k = words::word_at(head, 0);
-    match k {
-        5 => calls::eval(form, sheet, items, s, m, numbers, words),
-        6 => calls::get(sheet, items, s, m, numbers, words),
-        _ => calls::call(k, form, sheet, items, s, t, m, n, numbers),
-    }
+    calls::call(h, form, sheet, items, s, t, numbers, words)
 }
 
 // A call on the items of the sheet.
 fn on_items<'a>(
-    head: &[u8],
+    h: Head,
     form: &'a [u8],
     sheet: &'a [u8],
     given: &[u8],
@@ -139,21 +119,19 @@ fn on_items<'a>(
     numbers: &[u8],
     words: &[u8],
 ) -> bool
-    ensures { λ r. ⌜ (r ≡ true → ItemTold (now (head .entry)) (now (form .entry)) (now (sheet .entry)) (now (given .entry)) (now (second .entry)) (now (numbers .entry)) (now (words .entry))) ⌝ }
+    ensures { λ r. ⌜ (r ≡ true → ItemTold h (now (form .entry)) (now (sheet .entry)) (now (given .entry)) (now (second .entry)) (now (numbers .entry)) (now (words .entry))) ⌝ }
 {
     let mut items = item_slice();
     call_check::split(form, sheet, &mut items);
-    let k = words::word_at(head, 0);
-    if k == 4 {
-        let word = words::word_at(head, 1);
-        return calls::text(form, sheet, &items, word, numbers, words);
+    if h.call == 4 {
+        return calls::text(form, sheet, &items, h.word, numbers, words);
     }
-    on_states(head, form, sheet, &items, given, second, numbers, words)
+    on_states(h, form, sheet, &items, given, second, numbers, words)
 }
 
 // Whether the proved code answers as the case says.
 pub fn same<'a>(
-    head: &[u8],
+    h: Head,
     form: &'a [u8],
     sheet: &'a [u8],
     given: &[u8],
@@ -161,14 +139,14 @@ pub fn same<'a>(
     numbers: &[u8],
     words: &[u8],
 ) -> bool
-    ensures { λ r. ⌜ (r ≡ true → Told (now (head .entry)) (now (form .entry)) (now (sheet .entry)) (now (given .entry)) (now (second .entry)) (now (numbers .entry)) (now (words .entry))) ⌝ }
+    ensures { λ r. ⌜ (r ≡ true → Told h (now (form .entry)) (now (sheet .entry)) (now (given .entry)) (now (second .entry)) (now (numbers .entry)) (now (words .entry))) ⌝ }
 {
-    let k = words::word_at(head, 0);
+    let k = h.call;
     match k {
         0 => utf8(form, numbers),
         1 => check(form, sheet, numbers),
         2 => split(form, sheet, numbers, words),
         3 => run(form, sheet, numbers, words),
-        _ => on_items(head, form, sheet, given, second, numbers, words),
+        _ => on_items(h, form, sheet, given, second, numbers, words),
     }
 }

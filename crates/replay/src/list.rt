@@ -5,6 +5,7 @@ ghost use mathlib.Core.Bool.{true};
 ghost use Prim.Native.Nat.{ℕ, _<_};
 ghost use Rattle.replay.specs.List.{HasCase, CaseTold, caseAt};
 use crate::cases;
+use crate::words;
 
 // What came of a list: one that is no table has no cases.
 pub struct Tally {
@@ -23,13 +24,15 @@ fn case_same(list: &[u8], count: usize, at: usize) -> bool
     let second = wire::entry(list, 2, count, at + 4);
     let numbers = wire::entry(list, 2, count, at + 5);
     let words = wire::entry(list, 2, count, at + 6);
-    cases::same(head, form, sheet, given, second, numbers, words)
-}
-
-fn size(x: u32) -> usize
-    ensures { λ r. ⌜ r ≡ x ⌝ }
-{
-    x as usize
+    cases::same(
+        words::read_head(head),
+        form,
+        sheet,
+        given,
+        second,
+        numbers,
+        words,
+    )
 }
 
 fn no_cases() -> Tally
@@ -47,7 +50,7 @@ pub fn replay(list: &[u8]) -> Tally
     if list.len() < 2 {
         return no_cases();
     }
-    let count = size(wire::u16_at(list, 0));
+    let count = words::size(wire::u16_at(list, 0));
     if !wire::table_good(list, 2, count) {
         return no_cases();
     }

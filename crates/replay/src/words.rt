@@ -4,8 +4,14 @@ ghost use mathlib.Core.Path.{_≡_};
 ghost use mathlib.Core.Bool.{true};
 ghost use Prim.Native.Nat.{_≤_};
 ghost use lib.ListN.{length};
-ghost use Rattle.replay.specs.Words.{wordAt, Stands, StateAt, AnswerAt};
+ghost use Rattle.replay.specs.Words.{wordAt, headOf, Stands, StateAt, AnswerAt};
 use rules::State;
+
+pub fn size(x: u32) -> usize
+    ensures { λ r. ⌜ r ≡ x ⌝ }
+{
+    x as usize
+}
 
 pub fn word_at(part: &[u8], k: usize) -> u32
     ensures { λ r. ⌜ r ≡ wordAt (now (part .entry)) k ⌝ }
@@ -14,6 +20,26 @@ pub fn word_at(part: &[u8], k: usize) -> u32
         return 0;
     }
     wire::u32_at(part, 4 * k)
+}
+
+// A call by its number, and what it is told: two numbers, the first also as a word.
+pub struct Head {
+    pub call: u32,
+    pub word: u32,
+    pub m: usize,
+    pub n: usize,
+}
+
+pub fn read_head(part: &[u8]) -> Head
+    ensures { λ r. ⌜ r ≡ headOf (now (part .entry)) ⌝ }
+{
+    let word = word_at(part, 1);
+    Head {
+        call: word_at(part, 0),
+        word,
+        m: size(word),
+        n: size(word_at(part, 2)),
+    }
 }
 
 // Each function below compares: true only if what is given stands in the part from word `at` on.
@@ -63,20 +89,9 @@ pub fn state_same(part: &[u8], at: usize, s: State) -> bool
 }
 
 // The seven numbers of an answer, 0 where a call has none, and the state that is left.
-pub fn answer_same(
-    part: &[u8],
-    number: u32,
-    place: u32,
-    tries: u32,
-    words: u32,
-    found: u32,
-    first: u32,
-    second: u32,
-    s: State,
-) -> bool
-    ensures { λ r. ⌜ (r ≡ true → AnswerAt (now (part .entry)) number place tries words found first second s) ⌝ }
+pub fn answer_same(part: &[u8], numbers: [u32; 7], s: State) -> bool
+    ensures { λ r. ⌜ (r ≡ true → AnswerAt (now (part .entry)) numbers s) ⌝ }
 {
-    let numbers = [number, place, tries, words, found, first, second];
     if !words_same(part, 0, &numbers) {
         return false;
     }

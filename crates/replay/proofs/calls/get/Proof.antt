@@ -5,21 +5,20 @@ use borrow.Author.Needs.{needs}
 use Rattle.replay.proofs.calls.get.Statement.{statement}
 use Rattle.replay.proofs.calls.get.Tie as tie
 
-get-requires : tie.Need-get-requires
-get-requires c κs = search needs
-
-answer-same-requires : tie.Need-answer-same-requires
-answer-same-requires c κs = search needs
-
-returns : tie.Need-returns
-returns c e = absurd (false≢true e)
-
-words-same-requires : tie.Need-words-same-requires
-words-same-requires c κs = search needs
-
 returns-2 : tie.Need-returns-2
-returns-2 c e = record { got = _; says = c .before .before .before .before .before .before .get .ensures; same = c .before .before .before .before .before .answer-same .ensures (not-false _ (c .before .before .before .before .if1 .left)); item = c .words-same .ensures e }
+returns-2 c e = record {
+  got = _;
+  says = c .before .before .before .before .before .before .get .ensures;
+  same = c .before .before .before .before .before .answer-same .ensures (not-false _ (c .before .before .before .before .if1 .left));
+  item = c .words-same .ensures e;
+}
 
 pub get-spec : {M : Type 1} → statement M
 get-spec =
-    tie.close (tie.spec get-requires answer-same-requires returns words-same-requires returns-2)
+    tie.close
+    (tie.spec
+    (λ c κs. search needs)
+    (λ c κs. search needs)
+    (λ c e. absurd (false≢true e))
+    (λ c κs. search needs)
+    returns-2)

@@ -18,50 +18,30 @@ Inv-loop list count cases₀ differ₀ at₀ cases differ at =
 abbrev μ-loop : tie.MeasureT-loop
 μ-loop list count cases₀ differ₀ at₀ cases differ at = count + 7 - at
 
-no-cases-requires : tie.Need-no-cases-requires Inv-loop μ-loop
-no-cases-requires c κs = search needs
-
-returns : tie.Need-returns Inv-loop μ-loop
-returns c z k l = absurd (omega (arith, c .no-cases .ensures))
-
-u16-at-requires : tie.Need-u16-at-requires Inv-loop μ-loop
-u16-at-requires c κs = search needs
-
-size-requires : tie.Need-size-requires Inv-loop μ-loop
-size-requires c κs = search needs
-
 table-good-requires : tie.Need-table-good-requires Inv-loop μ-loop
-table-good-requires c κs = (inl refl, omega (arith, number-bound 2 (c .before .before .before .before .args .list .now) 0 (λ i. omega (arith, c .before .before .before .shared-slice-known .given i)), c .before .u16-at .ensures))
-
-no-cases-requires-2 : tie.Need-no-cases-requires-2 Inv-loop μ-loop
-no-cases-requires-2 c κs = search needs
-
-returns-2 : tie.Need-returns-2 Inv-loop μ-loop
-returns-2 c z k l = absurd (omega (arith, c .no-cases2 .ensures))
+table-good-requires c κs =
+    let known = c .before .before .before in
+    let small = number-bound 2 (known .before .args .list .now) 0 (λ i. omega (arith, known .shared-slice-known .given i)) in
+    (inl refl, omega (arith, small, c .before .u16-at .ensures))
 
 loop-holds : tie.Need-loop-holds Inv-loop μ-loop
-loop-holds c = (omega arith, omega arith, omega arith, omega (arith, number-bound 2 (c .before .before .before .before .before .before .args .list .now) 0 (λ i. omega (arith, c .before .before .before .before .before .shared-slice-known .given i)), c .before .before .before .u16-at .ensures), λ z k l. absurd (omega arith))
-
-add-loop : tie.Need-add-loop Inv-loop μ-loop
-add-loop c = omega arith
+loop-holds c =
+    let known = c .before .before .before .before .before in
+    let small = number-bound 2 (known .before .args .list .now) 0 (λ i. omega (arith, known .shared-slice-known .given i)) in
+    (omega arith, omega arith, omega arith, omega (arith, small, c .before .before .before .u16-at .ensures), λ z k l. absurd (omega arith))
 
 case-same-requires : tie.Need-case-same-requires Inv-loop μ-loop
 case-same-requires c κs = record { good = sym (c .before .before .before .table-good .ensures) ∙ not-false _ (c .before .before .if2 .left); below = omega arith }
 
-add-differ : tie.Need-add-differ Inv-loop μ-loop
-add-differ c = omega arith
-
-add-cases : tie.Need-add-cases Inv-loop μ-loop
-add-cases c = omega arith
-
-add-at : tie.Need-add-at Inv-loop μ-loop
-add-at c = omega arith
-
-loop-less : tie.Need-loop-less Inv-loop μ-loop
-loop-less c = omega arith
-
 loop-again : tie.Need-loop-again Inv-loop μ-loop
-loop-again c = ⊎-elim (λ w. (omega arith, omega arith, omega arith, omega arith, λ z. absurd (omega arith))) (λ w. (omega arith, omega arith, omega arith, omega arith, λ z. case-more _ _ _ _ (c .before .before .before .loop .inv .0) (c .before .before .before .loop .inv .4 (sym (w .1) ∙ z)) (c .before .case-same .ensures (not-false _ (w .0 .left))))) (c .if3 .came)
+loop-again c =
+    let inv = c .before .before .before .loop .inv in
+    ⊎-elim
+    (λ w. (omega arith, omega arith, omega arith, omega arith, λ z. absurd (omega arith)))
+    (λ w.
+    let told = c .before .case-same .ensures (not-false _ (w .0 .left)) in
+    (omega arith, omega arith, omega arith, omega arith, λ z. case-more _ _ _ _ (inv .0) (inv .4 (sym (w .1) ∙ z)) told))
+    (c .if3 .came)
 
 returns-3 : tie.Need-returns-3 Inv-loop μ-loop
 returns-3 c z k l = rw (← c .before .before .before .before .before .u16-at .ensures, ← c .before .before .before .before .size .ensures) (c .before .loop .inv .4 z k l)
@@ -72,19 +52,19 @@ replay-spec =
     (tie.spec
     Inv-loop
     μ-loop
-    no-cases-requires
-    returns
-    u16-at-requires
-    size-requires
+    (λ c κs. search needs)
+    (λ c z k l. absurd (omega (arith, c .no-cases .ensures)))
+    (λ c κs. search needs)
+    (λ c κs. search needs)
     table-good-requires
-    no-cases-requires-2
-    returns-2
+    (λ c κs. search needs)
+    (λ c z k l. absurd (omega (arith, c .no-cases2 .ensures)))
     loop-holds
-    add-loop
+    (λ c. omega arith)
     case-same-requires
-    add-differ
-    add-cases
-    add-at
-    loop-less
+    (λ c. omega arith)
+    (λ c. omega arith)
+    (λ c. omega arith)
+    (λ c. omega arith)
     loop-again
     returns-3)

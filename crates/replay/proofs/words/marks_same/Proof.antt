@@ -16,38 +16,10 @@ Inv-loop part at marks i₀ i = (i ≤ length marks) × ((k : ℕ) → k < i →
 abbrev μ-loop : tie.MeasureT-loop
 μ-loop part at marks i₀ i = length marks - i
 
-loop-holds : tie.Need-loop-holds Inv-loop μ-loop
-loop-holds c = (search needs, λ k l. absurd (omega arith))
-
-mul-wide : tie.Need-mul-wide Inv-loop μ-loop
-mul-wide c = search needs
-
-shared-slice-read-wide : tie.Need-shared-slice-read-wide Inv-loop μ-loop
-shared-slice-read-wide c = search needs
-
-wide-requires : tie.Need-wide-requires Inv-loop μ-loop
-wide-requires c κs = search needs
-
-add-word-at : tie.Need-add-word-at Inv-loop μ-loop
-add-word-at c = search needs
-
-word-at-requires : tie.Need-word-at-requires Inv-loop μ-loop
-word-at-requires c κs = search needs
-
-returns : tie.Need-returns Inv-loop μ-loop
-returns c e = absurd (false≢true e)
-
-add-i : tie.Need-add-i Inv-loop μ-loop
-add-i c = search needs
-
-loop-less : tie.Need-loop-less Inv-loop μ-loop
-loop-less c = search needs
-
 loop-again : tie.Need-loop-again Inv-loop μ-loop
-loop-again c = (search needs, below-more _ _ (c .before .before .before .before .before .loop .inv .1) (sym (c .before .before .wide .ensures) ∙ c .if1 .left ∙ c .before .word-at .ensures))
-
-returns-2 : tie.Need-returns-2 Inv-loop μ-loop
-returns-2 c e k l = c .before .loop .inv .1 k (omega arith)
+loop-again c =
+    let same = sym (c .before .before .wide .ensures) ∙ c .if1 .left ∙ c .before .word-at .ensures in
+    (search needs, below-more _ _ (c .before .before .before .before .before .loop .inv .1) same)
 
 pub marks-same-spec : {M : Type 1} → statement M
 marks-same-spec =
@@ -55,14 +27,14 @@ marks-same-spec =
     (tie.spec
     Inv-loop
     μ-loop
-    loop-holds
-    mul-wide
-    shared-slice-read-wide
-    wide-requires
-    add-word-at
-    word-at-requires
-    returns
-    add-i
-    loop-less
+    (λ c. (search needs, λ k l. absurd (omega arith)))
+    (λ c. search needs)
+    (λ c. search needs)
+    (λ c κs. search needs)
+    (λ c. search needs)
+    (λ c κs. search needs)
+    (λ c e. absurd (false≢true e))
+    (λ c. search needs)
+    (λ c. search needs)
     loop-again
-    returns-2)
+    (λ c e k l. c .before .loop .inv .1 k (omega arith)))

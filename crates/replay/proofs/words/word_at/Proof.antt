@@ -10,15 +10,15 @@ returns : tie.Need-returns
 unfolding wordAt if_then_else_
 returns c = rw (le-ltb _ _ (c .if1 .taken))
 
-mul-u32-at : tie.Need-mul-u32-at
-mul-u32-at c = search needs
-
-u32-at-requires : tie.Need-u32-at-requires
-u32-at-requires c κs = search needs
-
 returns-2 : tie.Need-returns-2
 unfolding wordAt if_then_else_
 returns-2 c = rw (lt-ltb _ _ (c .before .if1 .left)) (c .u32-at .ensures)
 
 pub word-at-spec : {M : Type 1} → statement M
-word-at-spec = tie.close (tie.spec returns mul-u32-at u32-at-requires returns-2)
+word-at-spec =
+    tie.close
+    (tie.spec
+    returns
+    (λ c. search needs)
+    (λ c κs. search needs)
+    returns-2)

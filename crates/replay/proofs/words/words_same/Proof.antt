@@ -16,35 +16,8 @@ Inv-loop part at words i₀ i = (i ≤ length words) × ((k : ℕ) → k < i →
 abbrev μ-loop : tie.MeasureT-loop
 μ-loop part at words i₀ i = length words - i
 
-loop-holds : tie.Need-loop-holds Inv-loop μ-loop
-loop-holds c = (search needs, λ k l. absurd (omega arith))
-
-mul-if1 : tie.Need-mul-if1 Inv-loop μ-loop
-mul-if1 c = search needs
-
-shared-slice-read-if1 : tie.Need-shared-slice-read-if1 Inv-loop μ-loop
-shared-slice-read-if1 c = search needs
-
-add-word-at : tie.Need-add-word-at Inv-loop μ-loop
-add-word-at c = search needs
-
-word-at-requires : tie.Need-word-at-requires Inv-loop μ-loop
-word-at-requires c κs = search needs
-
-returns : tie.Need-returns Inv-loop μ-loop
-returns c e = absurd (false≢true e)
-
-add-i : tie.Need-add-i Inv-loop μ-loop
-add-i c = search needs
-
-loop-less : tie.Need-loop-less Inv-loop μ-loop
-loop-less c = search needs
-
 loop-again : tie.Need-loop-again Inv-loop μ-loop
 loop-again c = (search needs, below-more _ _ (c .before .before .before .before .loop .inv .1) (c .if1 .left ∙ c .before .word-at .ensures))
-
-returns-2 : tie.Need-returns-2 Inv-loop μ-loop
-returns-2 c e k l = c .before .loop .inv .1 k (omega arith)
 
 pub words-same-spec : {M : Type 1} → statement M
 words-same-spec =
@@ -52,13 +25,13 @@ words-same-spec =
     (tie.spec
     Inv-loop
     μ-loop
-    loop-holds
-    mul-if1
-    shared-slice-read-if1
-    add-word-at
-    word-at-requires
-    returns
-    add-i
-    loop-less
+    (λ c. (search needs, λ k l. absurd (omega arith)))
+    (λ c. search needs)
+    (λ c. search needs)
+    (λ c. search needs)
+    (λ c κs. search needs)
+    (λ c e. absurd (false≢true e))
+    (λ c. search needs)
+    (λ c. search needs)
     loop-again
-    returns-2)
+    (λ c e k l. c .before .loop .inv .1 k (omega arith)))
