@@ -27,6 +27,7 @@ use Rattle.form_layout.proofs.Sizes.{sized}
 use Rattle.state_marks.specs.declared.Numbers.{Numbers}
 use Rattle.state_marks.specs.Lent.{rawOf, numbersOf, stateOf}
 use Rattle.state_marks.proofs.Laws.{raw-back, in-kept, kept-fine}
+use Rattle.state_marks.proofs.Mark.{field-parsed}
 use Rattle.form_layout.specs.Layout.{GoodNames}
 use Rattle.form_codes.specs.Codes.{CodedNames}
 use Rattle.take_table.specs.Known.{Matchable, Known}
@@ -123,7 +124,6 @@ told-handed n r x e = go (r .outcome) refl
 
 module _ (b s words o : List ℕ) (x : Raw) (k : ℕ) (c : ClearedAnswers b s words o x k) (p : Numbers) (ep : p ≡ numbersOf x) where
   pub node-stands : (n : ℕ) → n ≡ x .count → (known : List ℕ) → Known b (sheetArea s) words n known → FieldReady b known s words (x .marks) p (record { node = k; at = 0; mark = 1 }) o
-  unfolding parsed
   node-stands n same known w =
       let i = c .input in
       let stands : getElem? (i .result .trees) k ≡ some (i .tree) = sym (at-tree b (i .result) (i .accepts) k) ∙ i .node in
@@ -139,7 +139,7 @@ module _ (b s words o : List ℕ) (x : Raw) (k : ℕ) (c : ClearedAnswers b s wo
             table = i .holds .table;
             same = i .holds .count;
             fine = kept-fine (x .count) x (in-kept (x .count) x (i .good));
-            told = refl;
+            told = field-parsed;
           };
           knows = subst (λ (l : ℕ). Known b (sheetArea s) words l known) (same ∙ sym (i .holds .count)) w;
         };

@@ -30,6 +30,7 @@ use Rattle.state_marks.specs.Lent.{rawOf, numbersOf, stateOf, Fine}
 use Rattle.rules.proofs.CodeLaws.{place-code, code-place}
 use Rattle.rules.proofs.GivenLaws.{run-form, run-sheet, run-short, run-cramped, run-goes}
 use Rattle.state_marks.proofs.Laws.{raw-back}
+use Rattle.state_marks.proofs.Mark.{field-parsed, field-told}
 use Rattle.form_codes.specs.Codes.{CodedNames}
 use Rattle.take_search.specs.Items.{Table}
 use Rattle.take_table.specs.Known.{Matchable, Known}
@@ -248,13 +249,12 @@ module _ (form sheet i a : List ℕ) (c : CheckedInput form sheet i a) (a′ : L
     same-state = rw state (from-to (w .line .state))
 
     pub fields-start : (codes : List ℕ) → CodedNames form codes → ItemsBegin form codes sheet i′ m p 0 a′
-    unfolding parsed parsedMark
     fields-start codes k = record {
       result = c .ready .result;
       accepts = c .ready .accepts;
       coded = k;
       made = c .ready .checked;
-      state = record { items = w .line .items; table = table; same = count; fine = fine; told = refl };
+      state = record { items = w .line .items; table = table; same = count; fine = fine; told = subst (λ (z : ℕ). parsed z ≡ true) field-told field-parsed };
       small = omega arith;
       room = omega (arith, c .space, ap length cleared ∙ length-replicate {A = ℕ} (length a) 0);
       zeros = λ j. ap (λ (l : List ℕ). getD l j 0) cleared ∙ zero-at (length a) j;
