@@ -21,7 +21,7 @@ use Rattle.rules.specs.State.{State}
 use Rattle.rules.specs.Eval.{Ran as Run, ended, after, _then_, eval}
 use Rattle.rules.specs.Run.{parsedMark, runFields}
 use Rattle.rules.specs.Sound.{Good, leaves}
-use Rattle.rules.proofs.Acceptance.{accepted-length}
+use Rattle.rules.proofs.Acceptance.{accepted-same, accepted-length}
 use Rattle.rules.proofs.EvalSound.{eval-sound}
 use Rattle.rules.proofs.StepLaws.{remaining-within}
 use Rattle.rules.proofs.Fields.{most-leaves}
@@ -118,13 +118,17 @@ sets-after [] o at k h = refl
 sets-after (x ∷ w) o at k h = sets-after w (set o at x) (suc at) k (omega arith) ∙ getD-set-other o at k x 0 (λ e. omega arith)
 
 -- ---- the loop
-pub record Going (area words : List ℕ) (fs : List Tree) (m₀ : List ℕ) (p₀ : Numbers) (o₀ m : List ℕ) (p : Numbers) (tries at k : ℕ) (o : List ℕ) : Type 0 where
+pub record Going (b known s words m₀ : List ℕ) (p₀ : Numbers) (first : ℕ) (o₀ : List ℕ) (n : ℕ) (m : List ℕ) (p : Numbers) (tries at k : ℕ) (o : List ℕ)
+    : Type 0 where
+  pub start : Starts b known s words m₀ p₀ first o₀
+  pub count : n ≡ fieldCount b
   pub values : List ℕ
-  pub same : (is : List Item) → Items area words p₀ is
-      → toldAll (runFields parsedMark is fs (stateOf m₀ p₀)) ≡ behind tries values (runFields parsedMark is (drop k fs) (stateOf m p))
+  pub same : (is : List Item) → Items (sheetArea s) words p₀ is
+      → toldAll (runFields parsedMark is (start .result .fields) (stateOf m₀ p₀))
+      ≡ behind tries values (runFields parsedMark is (drop k (start .result .fields)) (stateOf m p))
   pub size : at ≡ length values
   pub put : o ≡ sets o₀ 0 values
-  pub within : k ≤ length fs
+  pub within : k ≤ length (start .result .fields)
   pub near : at ≤ 515 * k
   pub cost : tries ≤ 16512 * k
   pub left : LeftState m₀ p₀ m p
@@ -132,31 +136,20 @@ pub record Going (area words : List ℕ) (fs : List Tree) (m₀ : List ℕ) (p�
 product-most : (a b : ℕ) → a ≤ 258 → b ≤ 64 → a * b ≤ 16512
 product-most a b h k = mul-le-mul h k
 
-module _ (b known s words m₀ : List ℕ) (p₀ : Numbers) (first : ℕ) (o₀ : List ℕ) (start : Starts b known s words m₀ p₀ first o₀) where
+module _ (b known s words m₀ : List ℕ) (p₀ : Numbers) (first : ℕ) (o₀ : List ℕ) where
   abbrev mark : ℕ
   mark = parsedMark
 
-  pub starts-long : 8 ≤ length b
-  starts-long = form-long b (start .result) (start .accepts)
+  module _ (start : Starts b known s words m₀ p₀ first o₀) where
+    pub starts-long : 8 ≤ length b
+    starts-long = form-long b (start .result) (start .accepts)
 
-  pub field-there : (n k : ℕ) → n ≡ fieldCount b → k < n → (lengthGood b ≡ true) × (k < fieldCount b)
-  field-there n k c l = (accepted-length b (start .result) (start .accepts), omega arith)
-
-  pub going-step : (n k : ℕ) → n ≡ fieldCount b → k < n → k + 1 < 18446744073709551616
-  going-step n k c l = omega (arith, few-fields b (start .result) (start .accepts))
-
-  -- the number of field k
-  pub going-number : (n k : ℕ) → n ≡ fieldCount b → k < n → first + k < 18446744073709551616
-  going-number n k c l = omega (arith, start .small, few-fields b (start .result) (start .accepts))
-
-  module _ (a : Accepted) (e : checkForm b ≡ accepted a) where
-    abbrev Went : List ℕ → Numbers → ℕ → ℕ → ℕ → List ℕ → Type 0
-    Went m p tries at k o = Going (sheetArea s) words (a .fields) m₀ p₀ o₀ m p tries at k o
-
-    pub going-first : Went m₀ p₀ 0 0 0 o₀
-    going-first = record {
+    pub going-first : (n : ℕ) → n ≡ fieldCount b → Going b known s words m₀ p₀ first o₀ n m₀ p₀ 0 0 0 o₀
+    going-first n c = record {
+      start = start;
+      count = c;
       values = [];
-      same = λ is h. behind-nothing (runFields mark is (a .fields) (stateOf m₀ p₀));
+      same = λ is h. behind-nothing (runFields mark is (start .result .fields) (stateOf m₀ p₀));
       size = refl;
       put = refl;
       within = omega arith;
@@ -165,158 +158,189 @@ module _ (b known s words m₀ : List ℕ) (p₀ : Numbers) (first : ℕ) (o₀ 
       left = left-same m₀ p₀ (start .state .fine);
     }
 
-    module _ (m : List ℕ) (p : Numbers) (tries at k : ℕ) (o : List ℕ) (g : Went m p tries at k o) where
-      pub going-long : length o ≡ length o₀
-      going-long = ap length (g .put) ∙ length-sets o₀ 0 (g .values)
+  module _ (n : ℕ) (m : List ℕ) (p : Numbers) (tries at k : ℕ) (o : List ℕ) (g : Going b known s words m₀ p₀ first o₀ n m p tries at k o) where
+    abbrev start : Starts b known s words m₀ p₀ first o₀
+    start = g .start
 
-      pub going-most : at ≤ 8240
-      going-most = let f = field-count b a e in omega (arith, g .near, g .within, few-fields b a e)
+    abbrev a : Accepted
+    a = start .result
 
-      zeros : (j : ℕ) → at ≤ j → getD o j 0 ≡ 0
-      zeros j h =
-          let z = g .size in
-          ap (λ (l : List ℕ). getD l j 0) (g .put) ∙ sets-after (g .values) o₀ 0 j (omega arith) ∙ start .zeros j
+    abbrev e : checkForm b ≡ accepted a
+    e = start .accepts
 
-      abbrev ready : takes.CanTake (sheetArea s) words m p mark
-      ready = record {
-        items = start .state .items;
-        table = start .state .table;
-        same = start .state .same ∙ sym (g .left .count);
-        fine = g .left .fine;
-        told = start .state .told;
-      }
+    -- of the form's fields, however it is said that they are accepted
+    told-fields : (m′ o′ : List ℕ) (r : Reached) → RunsFields (sheetArea s) words (a .fields) m₀ p₀ m′ o₀ o′ r
+        → (x : Accepted) → checkForm b ≡ accepted x → RunsFields (sheetArea s) words (x .fields) m₀ p₀ m′ o₀ o′ r
+    told-fields m′ o′ r h x q = subst (λ (y : Accepted). RunsFields (sheetArea s) words (y .fields) m₀ p₀ m′ o₀ o′ r) (accepted-same a x (sym e ∙ q)) h
 
-      items : (is : List Item) → Items (sheetArea s) words p₀ is → Items (sheetArea s) words p is
-      items is h = (h .0, h .1 ∙ sym (g .left .count))
+    pub field-good : k < n → lengthGood b ≡ true
+    field-good l = accepted-length b a e
 
-      pub going-end : (n : ℕ) → n ≡ fieldCount b → n ≤ k → (r : Reached) → r ≡ valuesOf tries at p
-          → RunsFields (sheetArea s) words (a .fields) m₀ p₀ m o₀ o r
-      unfolding runFields ended behind answerWords
-      going-end n c l r q =
-          let few = field-count b a e in
-          let none-left : drop k (a .fields) ≡ [] = drop-of-length-le (a .fields) {i = k} (omega arith) in
-          rw q
-          (record {
-            values = g .values;
-            same = λ is i.
-                g .same is i
-                ∙ ap (λ (l : List Tree). behind tries (g .values) (runFields mark is l (stateOf m p))) none-left
-                ∙ told-same refl refl (omega arith) (append-nil (g .values)) refl;
-            count = g .size;
-            put = g .put;
-            few = omega (arith, g .size, g .near, g .within, few-fields b a e);
-            left = g .left;
-          })
+    pub field-inside : k < n → k < fieldCount b
+    field-inside l = omega (arith, g .count)
 
-      module _ (n : ℕ) (c : n ≡ fieldCount b) (l : k < n) (node : ℕ) (h : getElem? (readForm b .fields) k ≡ some node) (u : ℕ) (eu : u ≡ parsedMark) where
-        abbrev mine : FieldAt b (a .fields) k node
-        mine = field b a e k node h
+    pub going-step : k < n → k + 1 < 18446744073709551616
+    going-step l = omega (arith, few-fields b a e)
 
-        pub going-field : FieldReady b known s words m p (record { node = node; at = at; mark = u }) o
-        going-field = rw eu (record {
-          stands = record {
-            tree = mine .tree;
-            node = mine .node;
-            light = mine .light;
-            made = start .made;
-            state = ready;
-            knows = start .knows;
-          };
-          space = record { room = omega (arith, g .near, few-fields b a e, going-long, start .room); zeros = zeros };
-        })
+    -- the number of field k
+    pub going-number : k < n → first + k < 18446744073709551616
+    going-number l = omega (arith, start .small, few-fields b a e)
 
-        module _ (m′ o′ : List ℕ) (r : Ran)
-            (ran : WritesField b s words (record { node = node; at = at; mark = u }) m p m′ o o′ r) where
-          wrote : Writes mark (sheetArea s) words (mine .tree) m p m′ o at o′ r
-          wrote = subst (λ (j : ℕ). Writes j (sheetArea s) words (mine .tree) m p m′ o at o′ r) eu (ran (mine .tree) (mine .node))
+    pub going-long : length o ≡ length o₀
+    going-long = ap length (g .put) ∙ length-sets o₀ 0 (g .values)
 
-          -- the field's evaluation, over the items
-          module _ (is : List Item) (i : Items (sheetArea s) words p₀ is) where
-            abbrev one : Run Value
-            one = eval mark is (mine .tree) (stateOf m p)
+    pub going-most : at ≤ 8240
+    going-most = let f = field-count b a e in omega (arith, g .near, g .within, few-fields b a e, g .count)
 
-            says : told one ≡ some (toldWith r m′ (wrote .value))
-            says = wrote .same is (items is i)
+    zeros : (j : ℕ) → at ≤ j → getD o j 0 ≡ 0
+    zeros j h =
+        let z = g .size in
+        ap (λ (l : List ℕ). getD l j 0) (g .put) ∙ sets-after (g .values) o₀ 0 j (omega arith) ∙ start .zeros j
 
-            runs : Runs (length is) (mine .tree) (stateOf m p) one
-            runs = eval-sound mark (start .state .told) is (mine .tree) (mine .sound) (stateOf m p)
-                (subst (λ (j : ℕ). Good j (stateOf m p)) (sym (items is i .1)) (g .left .fine .good))
+    abbrev ready : takes.CanTake (sheetArea s) words m p mark
+    ready = record {
+      items = start .state .items;
+      table = start .state .table;
+      same = start .state .same ∙ sym (g .left .count);
+      fine = g .left .fine;
+      told = start .state .told;
+    }
 
-            numbered : Numbered (one .outcome)
-            numbered = runs-numbered (length is) (mine .tree) (stateOf m p) one runs
+    items : (is : List Item) → Items (sheetArea s) words p₀ is → Items (sheetArea s) words p is
+    items is h = (h .0, h .1 ∙ sym (g .left .count))
 
-            whole : toldAll (runFields mark is (a .fields) (stateOf m₀ p₀))
-                ≡ behind tries (g .values) (next tries (g .values) one (λ u. runFields mark is (drop (suc k) (a .fields)) u))
-            unfolding runFields
-            whole = g .same is i ∙ ap (λ (l : List Tree). behind tries (g .values) (runFields mark is l (stateOf m p))) (drop-below (a .fields) k (mine .tree) (mine .here))
+    pub going-end : n ≤ k → (r : Reached) → r ≡ valuesOf tries at p
+        → (x : Accepted) → checkForm b ≡ accepted x → RunsFields (sheetArea s) words (x .fields) m₀ p₀ m o₀ o r
+    unfolding runFields ended behind answerWords
+    going-end l r q =
+        let few = field-count b a e in
+        let none-left : drop k (a .fields) ≡ [] = drop-of-length-le (a .fields) {i = k} (omega (arith, g .count)) in
+        told-fields m o r
+        (rw q
+        (record {
+          values = g .values;
+          same = λ is i.
+              g .same is i
+              ∙ ap (λ (l : List Tree). behind tries (g .values) (runFields mark is l (stateOf m p))) none-left
+              ∙ told-same refl refl (omega arith) (append-nil (g .values)) refl;
+          count = g .size;
+          put = g .put;
+          few = omega (arith, g .size, g .near, g .within, few-fields b a e, g .count);
+          left = g .left;
+        }))
 
-          cost : r .tries ≤ 16512
-          unfolding stateOf
-          cost =
-              let is = start .state .items in
-              let i : Items (sheetArea s) words p₀ is = (start .state .table, start .state .same) in
-              let w = runs is i in
-              let left = remaining-within (p .count) (stateOf m p) (g .left .fine .good) in
-              let most = product-most (stateOf m p .remaining + 2) (leaves (mine .tree)) (omega (arith, g .left .fine .small)) (mine .light) in
-              omega (arith, told-tries (one is i) _ (says is i), w .cost, most-leaves (mine .tree) (stateOf m p .remaining))
+    module _ (l : k < n) (node : ℕ) (h : getElem? (readForm b .fields) k ≡ some node) (u : ℕ) (eu : u ≡ parsedMark) where
+      abbrev mine : FieldAt b (a .fields) k node
+      mine = field b a e k node h
 
-          pub going-tries : (x : ℕ) → x ≡ tries + r .tries → x < 4294967296
-          going-tries x q = omega (arith, cost, g .cost, few-fields b a e)
+      pub going-field : FieldReady b known s words m p (record { node = node; at = at; mark = u }) o
+      going-field = rw eu (record {
+        stands = record {
+          tree = mine .tree;
+          node = mine .node;
+          light = mine .light;
+          made = start .made;
+          state = ready;
+          knows = start .knows;
+        };
+        space = record { room = omega (arith, g .near, few-fields b a e, g .count, going-long, start .room); zeros = zeros };
+      })
 
-          pub going-at : (x : ℕ) → x ≡ r .len → at + x < 18446744073709551616
-          going-at x q = omega (arith, g .near, few-fields b a e, wrote .len, wrote .fits)
+      module _ (m′ o′ : List ℕ) (r : Ran)
+          (ran : WritesField b s words (record { node = node; at = at; mark = u }) m p m′ o o′ r) where
+        wrote : Writes mark (sheetArea s) words (mine .tree) m p m′ o at o′ r
+        wrote = subst (λ (j : ℕ). Writes j (sheetArea s) words (mine .tree) m p m′ o at o′ r) eu (ran (mine .tree) (mine .node))
 
-          long-after : length o′ ≡ length o₀
-          long-after = ap length (wrote .put) ∙ length-sets o at (wrote .value) ∙ going-long
+        -- the field's evaluation, over the items
+        module _ (is : List Item) (i : Items (sheetArea s) words p₀ is) where
+          abbrev one : Run Value
+          one = eval mark is (mine .tree) (stateOf m p)
 
-          pub long-refused : (o″ : List ℕ) → o″ ≡ sets o′ 0 (replicate at 0) → length o″ ≡ length o₀
-          long-refused o″ c = ap length c ∙ length-sets o′ 0 (replicate at 0) ∙ long-after
+          says : told one ≡ some (toldWith r m′ (wrote .value))
+          says = wrote .same is (items is i)
 
-          pub going-refused : (r .number ≡ 0 → ⊥) → (o″ : List ℕ) → o″ ≡ sets o′ 0 (replicate at 0) → (x : Reached)
-              → x ≡ refusedWith (r .number) (r .place) (tries + r .tries) (r .numbers)
-              → RunsFields (sheetArea s) words (a .fields) m₀ p₀ m′ o₀ o″ x
-          going-refused z o″ c x q =
-              let is = start .state .items in
-              let i : Items (sheetArea s) words p₀ is = (start .state .table, start .state .same) in
-              let d = told-denied (one is i) _ (says is i) z in
-              let none-written : wrote .value ≡ [] = denied-words (one is i) _ (d .refusal) (says is i) (d .outcome) in
-              let kept : o′ ≡ o = wrote .put ∙ ap (λ (v : List ℕ). sets o at v) none-written in
-              let cleared : o″ ≡ o₀ =
-              c ∙ ap (λ (l : List ℕ). sets l 0 (replicate at 0)) (kept ∙ g .put)
-              ∙ ap (λ (j : ℕ). sets (sets o₀ 0 (g .values)) 0 (replicate j 0)) (g .size)
-              ∙ sets-back (g .values) o₀ 0 (λ j _. start .zeros j) in
-              rw q
-              (record {
-                values = [];
-                same = λ is i.
-                    let d = told-denied (one is i) _ (says is i) z in
-                    whole is i
-                    ∙ behind-refused tries (g .values) (one is i) (λ u. runFields mark is (drop (suc k) (a .fields)) u) (d .refusal) (d .outcome)
-                    ∙ told-same (d .number) (d .place) (ap (λ (j : ℕ). tries + j) (told-tries (one is i) _ (says is i))) refl (told-state (one is i) _ (says is i));
-                count = refl;
-                put = cleared;
-                few = omega arith;
-                left = left-more m₀ p₀ m p m′ (r .numbers) (g .left) (wrote .left);
-              })
+          runs : Runs (length is) (mine .tree) (stateOf m p) one
+          runs = eval-sound mark (start .state .told) is (mine .tree) (mine .sound) (stateOf m p)
+              (subst (λ (j : ℕ). Good j (stateOf m p)) (sym (items is i .1)) (g .left .fine .good))
 
-          pub going-next : r .number ≡ 0 → (x : ℕ) → x ≡ r .len → Went m′ (r .numbers) (tries + r .tries) (at + x) (k + 1) o′
-          going-next z x q = record {
-            values = g .values ++ wrote .value;
-            same = λ is i.
-                let d = told-value (one is i) _ (says is i) (numbered is i) z in
-                whole is i
-                ∙ behind-value tries (g .values) (one is i) (λ u. runFields mark is (drop (suc k) (a .fields)) u) (d .value) (d .outcome)
-                ∙
-                (λ j. behind (tries + told-tries (one is i) _ (says is i) j) (g .values ++ d .words j)
-                (runFields mark is (drop (sym (add-one k) j) (a .fields)) (told-state (one is i) _ (says is i) j)));
-            size = let l = length-append (g .values) (wrote .value) in omega (arith, g .size, wrote .len);
-            put =
-                wrote .put
-                ∙ ap (λ (l : List ℕ). sets l at (wrote .value)) (g .put)
-                ∙ ap (λ (j : ℕ). sets (sets o₀ 0 (g .values)) j (wrote .value)) (g .size ∙ sym (zero-add (length (g .values))))
-                ∙ sym (sets-append (g .values) (wrote .value) o₀ 0);
-            within = let f = field-count b a e in omega arith;
-            near = omega (arith, g .near, wrote .len, wrote .fits);
-            cost = omega (arith, g .cost, cost);
-            left = left-more m₀ p₀ m p m′ (r .numbers) (g .left) (wrote .left);
-          }
+          numbered : Numbered (one .outcome)
+          numbered = runs-numbered (length is) (mine .tree) (stateOf m p) one runs
+
+          whole : toldAll (runFields mark is (a .fields) (stateOf m₀ p₀))
+              ≡ behind tries (g .values) (next tries (g .values) one (λ u. runFields mark is (drop (suc k) (a .fields)) u))
+          unfolding runFields
+          whole = g .same is i ∙ ap (λ (l : List Tree). behind tries (g .values) (runFields mark is l (stateOf m p))) (drop-below (a .fields) k (mine .tree) (mine .here))
+
+        cost : r .tries ≤ 16512
+        unfolding stateOf
+        cost =
+            let is = start .state .items in
+            let i : Items (sheetArea s) words p₀ is = (start .state .table, start .state .same) in
+            let w = runs is i in
+            let left = remaining-within (p .count) (stateOf m p) (g .left .fine .good) in
+            let most = product-most (stateOf m p .remaining + 2) (leaves (mine .tree)) (omega (arith, g .left .fine .small)) (mine .light) in
+            omega (arith, told-tries (one is i) _ (says is i), w .cost, most-leaves (mine .tree) (stateOf m p .remaining))
+
+        pub going-tries : (x : ℕ) → x ≡ tries + r .tries → x < 4294967296
+        going-tries x q = omega (arith, cost, g .cost, few-fields b a e, g .count)
+
+        pub going-at : (x : ℕ) → x ≡ r .len → at + x < 18446744073709551616
+        going-at x q = omega (arith, g .near, few-fields b a e, g .count, wrote .len, wrote .fits)
+
+        long-after : length o′ ≡ length o₀
+        long-after = ap length (wrote .put) ∙ length-sets o at (wrote .value) ∙ going-long
+
+        pub long-refused : (o″ : List ℕ) → o″ ≡ sets o′ 0 (replicate at 0) → length o″ ≡ length o₀
+        long-refused o″ c = ap length c ∙ length-sets o′ 0 (replicate at 0) ∙ long-after
+
+        pub going-refused : (r .number ≡ 0 → ⊥) → (o″ : List ℕ) → o″ ≡ sets o′ 0 (replicate at 0) → (x : Reached)
+            → x ≡ refusedWith (r .number) (r .place) (tries + r .tries) (r .numbers)
+            → (y : Accepted) → checkForm b ≡ accepted y → RunsFields (sheetArea s) words (y .fields) m₀ p₀ m′ o₀ o″ x
+        going-refused z o″ c x q =
+            let is = start .state .items in
+            let i : Items (sheetArea s) words p₀ is = (start .state .table, start .state .same) in
+            let d = told-denied (one is i) _ (says is i) z in
+            let none-written : wrote .value ≡ [] = denied-words (one is i) _ (d .refusal) (says is i) (d .outcome) in
+            let kept : o′ ≡ o = wrote .put ∙ ap (λ (v : List ℕ). sets o at v) none-written in
+            let cleared : o″ ≡ o₀ =
+            c ∙ ap (λ (l : List ℕ). sets l 0 (replicate at 0)) (kept ∙ g .put)
+            ∙ ap (λ (j : ℕ). sets (sets o₀ 0 (g .values)) 0 (replicate j 0)) (g .size)
+            ∙ sets-back (g .values) o₀ 0 (λ j _. start .zeros j) in
+            told-fields m′ o″ x
+            (rw q
+            (record {
+              values = [];
+              same = λ is i.
+                  let d = told-denied (one is i) _ (says is i) z in
+                  whole is i
+                  ∙ behind-refused tries (g .values) (one is i) (λ u. runFields mark is (drop (suc k) (a .fields)) u) (d .refusal) (d .outcome)
+                  ∙ told-same (d .number) (d .place) (ap (λ (j : ℕ). tries + j) (told-tries (one is i) _ (says is i))) refl (told-state (one is i) _ (says is i));
+              count = refl;
+              put = cleared;
+              few = omega arith;
+              left = left-more m₀ p₀ m p m′ (r .numbers) (g .left) (wrote .left);
+            }))
+
+        pub going-next : r .number ≡ 0 → (x : ℕ) → x ≡ r .len → Going b known s words m₀ p₀ first o₀ n m′ (r .numbers) (tries + r .tries) (at + x) (k + 1) o′
+        going-next z x q = record {
+          start = start;
+          count = g .count;
+          values = g .values ++ wrote .value;
+          same = λ is i.
+              let d = told-value (one is i) _ (says is i) (numbered is i) z in
+              whole is i
+              ∙ behind-value tries (g .values) (one is i) (λ u. runFields mark is (drop (suc k) (a .fields)) u) (d .value) (d .outcome)
+              ∙
+              (λ j. behind (tries + told-tries (one is i) _ (says is i) j) (g .values ++ d .words j)
+              (runFields mark is (drop (sym (add-one k) j) (a .fields)) (told-state (one is i) _ (says is i) j)));
+          size = let l = length-append (g .values) (wrote .value) in omega (arith, g .size, wrote .len);
+          put =
+              wrote .put
+              ∙ ap (λ (l : List ℕ). sets l at (wrote .value)) (g .put)
+              ∙ ap (λ (j : ℕ). sets (sets o₀ 0 (g .values)) j (wrote .value)) (g .size ∙ sym (zero-add (length (g .values))))
+              ∙ sym (sets-append (g .values) (wrote .value) o₀ 0);
+          within = let f = field-count b a e in omega (arith, g .count);
+          near = omega (arith, g .near, wrote .len, wrote .fits);
+          cost = omega (arith, g .cost, cost);
+          left = left-more m₀ p₀ m p m′ (r .numbers) (g .left) (wrote .left);
+        }
