@@ -17,7 +17,7 @@ use Rattle.rules.specs.Calls.{callSplit}
 use Rattle.rules.specs.Run as Run
 use Rattle.rules.specs.declared.Refused.{Refused}
 use Rattle.run.specs.Runner.{runAnswer, ended}
-use Rattle.run.specs.declared.RunAnswer.{RunAnswer}
+use Rattle.run_fields.specs.declared.RunAnswer.{RunAnswer}
 use Rattle.call_check.specs.Reader.{sheetCode, splittingOf}
 use Rattle.call_check.specs.declared.SplitAnswer.{SplitAnswer}
 use Rattle.call_text.specs.Text.{TextOf}

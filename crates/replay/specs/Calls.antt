@@ -14,7 +14,7 @@ use Rattle.call_answers.specs.declared.StateAnswer.{StateAnswer}
 use Rattle.call_item.specs.Calls.{Gets}
 use Rattle.call_item.specs.declared.Got.{Got}
 use Rattle.call_node.specs.Node.{evaluatedAnswer}
-use Rattle.call_node.specs.declared.NodeAnswer.{NodeAnswer}
+use Rattle.run_fields.specs.declared.RunAnswer.{RunAnswer}
 use Rattle.call_text.specs.Text.{TextOf}
 use Rattle.replay.specs.Words.{Stands, AnswerAt}
 use Rattle.replay.specs.declared.words.Head.{Head}
@@ -40,7 +40,7 @@ pub record GetTold (sheet items : List ℕ) (s : State) (m : ℕ) (b words : Lis
 pub record EvalTold (form sheet items : List ℕ) (s : State) (m : ℕ) (b words : List ℕ) : Type 0 where
   pub before : List ℕ
   pub long : 8240 ≡ length before
-  pub answer : NodeAnswer
+  pub answer : RunAnswer
   pub answers : List ℕ
   pub says : evaluatedAnswer (callEval form sheet items before s m) ≡ some (record { answer = answer; answers = answers })
   pub same : AnswerAt b (answer .number ∷ answer .place ∷ answer .tries ∷ answer .words ∷ 0 ∷ 0 ∷ 0 ∷ []) (answer .state)

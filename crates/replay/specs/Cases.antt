@@ -15,7 +15,7 @@ use Rattle.rules.specs.Run as Run
 use Rattle.rules.specs.declared.Refused.{Refused}
 use Rattle.rules.specs.declared.State.{State}
 use Rattle.run.specs.Runner.{runAnswer, ended}
-use Rattle.run.specs.declared.RunAnswer.{RunAnswer}
+use Rattle.run_fields.specs.declared.RunAnswer.{RunAnswer}
 use Rattle.call_check.specs.Reader.{sheetCode, splittingOf}
 use Rattle.call_check.specs.declared.SplitAnswer.{SplitAnswer}
 use Rattle.replay.specs.Words.{Stands, StateAt, AnswerAt}
