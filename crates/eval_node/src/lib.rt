@@ -552,9 +552,7 @@ pub fn run_repeat(
                 from = next_from(from, given, after);
                 last = after.remaining;
             }
-            Counting::Uncounted => {
-                return ended(all, ran.tries, after);
-            }
+            Counting::Uncounted => return ended(all, ran.tries, after),
             Counting::Absent => {
                 copy_if(keeps, &before, marks);
                 return ended(all, ran.tries, s);
