@@ -113,12 +113,19 @@ fn run_admitted(
     let known = known_of(form, sheet, items, wide(s.count));
     let mut marks = s.marks;
     let p = state_marks::numbers_of(s);
-    let field = Field {
-        node,
-        at: 0,
-        mark: 1,
-    };
-    let ran = run_fields::run_value(form, &known, sheet, items, &mut marks, p, field, answers);
+    let field = Field { node, at: 0 };
+    let mark = state_marks::FIELD;
+    let ran = run_fields::run_value(
+        form,
+        &known,
+        sheet,
+        items,
+        &mut marks,
+        p,
+        field,
+        answers,
+        mark,
+    );
     answered(ran, marks)
 }
 

@@ -19,7 +19,7 @@ use Rattle.form_layout.specs.Layout.{nodeOf}
 use Rattle.state_marks.specs.declared.Numbers.{Numbers}
 use Rattle.eval_told.specs.declared.Ran.{Ran}
 use Rattle.eval_told.specs.Nodes.{treeAt, isScalar, Standing}
-use Rattle.eval_list.specs.declared.Field.{Field}
+use Rattle.eval_list.specs.Lists.{MarkedField}
 use Rattle.eval_list.specs.Lists.{Listed, Writes, WritesField, OverScalar, OverList, WritesOver, inPlace, EitherList}
 use Rattle.eval_shortcut.proofs.Trees.{Single, Double, form-good, node-inside, sound-at, optional-tree}
 use Rattle.eval_list.proofs.Trees.{list-scalar, optional-long, many-tree, some-tree, other-tree}
@@ -27,7 +27,7 @@ use Rattle.eval_list.proofs.Trees.{list-scalar, optional-long, many-tre
 module _
     {b known s items m : List ℕ}
     {p : Numbers}
-    {field : Field}
+    {field : MarkedField}
     {o : List ℕ}
     (r : Listed b known s items m p field o)
   where

@@ -28,7 +28,7 @@ use Rattle.eval_told.proofs.Visits.{visit-told, runs-numbered}
 use Rattle.eval_told.proofs.Repeats.{told-value}
 use Rattle.eval_combine.specs.declared.Optioned.{Optioned}
 use Rattle.eval_combine.specs.Made.{ChildGiven, optionalWords, OptionalOf}
-use Rattle.eval_list.specs.declared.Field.{Field}
+use Rattle.eval_list.specs.Lists.{MarkedField}
 use Rattle.eval_list.specs.Lists.{Writes, WritesField, OverList}
 use Rattle.eval_list.proofs.Words.{set-zero, sets-over, sets-read}
 use Rattle.eval_list.proofs.Runs.{told-none, node-runs, node-short}
@@ -85,7 +85,7 @@ module _
     {catch : Bool}
     {b known s items m : List ℕ}
     {p : Numbers}
-    {child : Field}
+    {child : MarkedField}
     {o : List ℕ}
     (r : OverList (Optional catch) b known s items m p child o)
     {m′ o′ : List ℕ}

@@ -38,7 +38,7 @@ use Rattle.eval_told.proofs.ListLaws.{length-words, then-values, many-value, ma
 use Rattle.eval_node.specs.declared.Repeat.{Repeat}
 use Rattle.eval_node.specs.declared.Repeated.{Repeated}
 use Rattle.eval_node.specs.Cycle.{listed, Room, Repeating, Repeats}
-use Rattle.eval_list.specs.declared.Field.{Field}
+use Rattle.eval_list.specs.Lists.{MarkedField}
 use Rattle.eval_list.specs.Lists.{Writes, OverScalar, WritesOver, CountedList}
 use Rattle.eval_list.proofs.Words.{sets-head}
 use Rattle.eval_list.proofs.Runs.{node-good}
@@ -106,13 +106,13 @@ SomeBy all r =
     → evalSome catch run s ≡ (repeated catch false run s then someBy r)
 
 -- the repeat of a list
-abbrev written : Bool → Field → Repeat
+abbrev written : Bool → MarkedField → Repeat
 written catch child = record { child = child .node; catch = catch; stops = false; writes = true; at = child .at }
 
 -- ---- what a list of the child's values says
 module _
     (catch : Bool)
-    (child : Field)
+    (child : MarkedField)
     (area items : List ℕ)
     (t : Tree)
     (m : List ℕ)
@@ -300,7 +300,7 @@ tree-same : (b : List ℕ) (n : ℕ) (t u : Tree) → treeAt b n ≡ some t → 
 tree-same b n t u e f = Option·some-injective t u (sym e ∙ f)
 
 -- what `run_repeat` answers
-abbrev RepeatsOver : List ℕ → List ℕ → List ℕ → Field → Bool → List ℕ → Numbers → List ℕ → List ℕ → List ℕ → Repeated → Type 0
+abbrev RepeatsOver : List ℕ → List ℕ → List ℕ → MarkedField → Bool → List ℕ → Numbers → List ℕ → List ℕ → List ℕ → Repeated → Type 0
 RepeatsOver b s items child catch m p m′ o o′ all =
     (t : Tree) → treeAt b (child .node) ≡ some t → Repeats (child .mark) (sheetArea s) items t (written catch child) m p m′ o o′ all
 
@@ -309,7 +309,7 @@ module _
     (flat : (t : Tree) → Sound (make t) → Flat t)
     {b known s items m : List ℕ}
     {p : Numbers}
-    {child : Field}
+    {child : MarkedField}
     {o : List ℕ}
     (r : OverScalar make b known s items m p child o)
   where
@@ -328,7 +328,7 @@ module _
     {catch : Bool}
     {b known s items m : List ℕ}
     {p : Numbers}
-    {child : Field}
+    {child : MarkedField}
     {o : List ℕ}
     {m′ o′ : List ℕ}
     {all : Repeated}

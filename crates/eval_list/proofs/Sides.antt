@@ -25,7 +25,7 @@ use Rattle.eval_told.proofs.Visits.{visit-told, runs-numbered}
 use Rattle.eval_combine.specs.declared.Chosen.{Chosen}
 use Rattle.eval_combine.specs.Made.{Sides, choiceWords, ChoiceOf}
 use Rattle.eval_node.specs.Cycle.{Room}
-use Rattle.eval_list.specs.declared.Field.{Field}
+use Rattle.eval_list.specs.Lists.{MarkedField}
 use Rattle.eval_list.specs.Lists.{Listed, Writes, WritesField, inPlace, EitherList, Aside, settled}
 use Rattle.eval_node.proofs.Words.{sets-back}
 use Rattle.eval_list.proofs.Words.{sets-read, settled-refused, settled-first, settled-second}
@@ -49,7 +49,7 @@ module _ (number : ℕ) (first : Bool) (a b : List ℕ) where
 module _
     {b known s items m : List ℕ}
     {p : Numbers}
-    {left : Field}
+    {left : MarkedField}
     {right : ℕ}
     {o : List ℕ}
     (r : EitherList b known s items m p left right o)

@@ -24,8 +24,17 @@ use Rattle.eval_node.specs.Cycle.{Room}
 use Rattle.eval_node.specs.declared.Repeated.{Repeated}
 use Rattle.eval_list.specs.declared.Field.{Field}
 
+-- ---- a field, and the mark of what it uses
+pub record MarkedField : Type 0 where
+  pub node : ℕ
+  pub at : ℕ
+  pub mark : ℕ
+
+abbrev pub marked : Field → ℕ → MarkedField
+marked f m = record { node = f .node; at = f .at; mark = m }
+
 -- ---- a node whose value is a list or an optional list, and room for its words
-pub record Listed (b known s words m : List ℕ) (p : Numbers) (f : Field) (o : List ℕ) : Type 0 where
+pub record Listed (b known s words m : List ℕ) (p : Numbers) (f : MarkedField) (o : List ℕ) : Type 0 where
   pub stands : Standing b known s words m p (f .mark) (f .node)
   pub long : isScalar (kindOf (stands .tree)) ≡ false
   pub space : Room o (f .at)
@@ -40,31 +49,31 @@ pub record Writes (mark : ℕ) (area words : List ℕ) (t : Tree) (m : List ℕ)
   pub left : LeftState m p m′ (r .numbers)
 
 -- of a field, for the tree of its node
-abbrev pub WritesField : List ℕ → List ℕ → List ℕ → Field → List ℕ → Numbers → List ℕ → List ℕ → List ℕ → Ran → Type 0
+abbrev pub WritesField : List ℕ → List ℕ → List ℕ → MarkedField → List ℕ → Numbers → List ℕ → List ℕ → List ℕ → Ran → Type 0
 WritesField b s words f m p m′ o o′ r =
     (t : Tree) → treeAt b (f .node) ≡ some t → Writes (f .mark) (sheetArea s) words t m p m′ o (f .at) o′ r
 
 -- ---- a node with one child: no list in a repeat, a list in an optional
-pub record OverScalar (make : Tree → Tree) (b known s words m : List ℕ) (p : Numbers) (child : Field) (o : List ℕ) : Type 0 where
+pub record OverScalar (make : Tree → Tree) (b known s words m : List ℕ) (p : Numbers) (child : MarkedField) (o : List ℕ) : Type 0 where
   pub below : Scalar b known s words m p (child .mark) (child .node)
   pub sound : Sound (make (below .stands .tree))
   pub space : Room o (child .at)
 
-pub record OverList (make : Tree → Tree) (b known s words m : List ℕ) (p : Numbers) (child : Field) (o : List ℕ) : Type 0 where
+pub record OverList (make : Tree → Tree) (b known s words m : List ℕ) (p : Numbers) (child : MarkedField) (o : List ℕ) : Type 0 where
   pub below : Listed b known s words m p child o
   pub sound : Sound (make (below .stands .tree))
 
 -- what it answers, for the tree of the child
-abbrev pub WritesOver : (Tree → Tree) → List ℕ → List ℕ → List ℕ → Field → List ℕ → Numbers → List ℕ → List ℕ → List ℕ → Ran → Type 0
+abbrev pub WritesOver : (Tree → Tree) → List ℕ → List ℕ → List ℕ → MarkedField → List ℕ → Numbers → List ℕ → List ℕ → List ℕ → Ran → Type 0
 WritesOver make b s words child m p m′ o o′ r =
     (t : Tree) → treeAt b (child .node) ≡ some t → Writes (child .mark) (sheetArea s) words (make t) m p m′ o (child .at) o′ r
 
 -- ---- a choice between lists
 -- another node in a field's place
-abbrev pub inPlace : Field → ℕ → Field
+abbrev pub inPlace : MarkedField → ℕ → MarkedField
 inPlace f n = record { node = n; at = f .at; mark = f .mark }
 
-pub record EitherList (b known s words m : List ℕ) (p : Numbers) (left : Field) (right : ℕ) (o : List ℕ) : Type 0 where
+pub record EitherList (b known s words m : List ℕ) (p : Numbers) (left : MarkedField) (right : ℕ) (o : List ℕ) : Type 0 where
   pub first : Listed b known s words m p left o
   pub second : Listed b known s words m p (inPlace left right) o
   pub sound : Sound (Choice (first .stands .tree) (second .stands .tree))

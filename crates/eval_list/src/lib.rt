@@ -8,18 +8,17 @@ ghost use lib.Seq.{sets};
 ghost use Rattle.rules.specs.Sheet.{sheetArea};
 ghost use Rattle.rules.specs.Tree.{Tree, Optional, Many, Some, Choice};
 ghost use Rattle.eval_told.specs.Nodes.{treeAt};
-ghost use Rattle.eval_list.specs.Lists.{Listed, Writes, WritesField, OverScalar, OverList, WritesOver, EitherList, CountedList, Aside, settled};
+ghost use Rattle.eval_list.specs.Lists.{Listed, Writes, WritesField, OverScalar, OverList, WritesOver, EitherList, CountedList, Aside, settled, marked};
 use eval_node::Repeat;
 use eval_node::Repeated;
 use eval_told::Ran;
 use state_marks::Numbers;
 use wire::wide;
 
-// A node, the word of the answer slice that its value begins at, and the mark of what it uses.
+// A node, and the word of the answer slice that its value begins at.
 pub struct Field {
     pub node: usize,
     pub at: usize,
-    pub mark: u16,
 }
 
 fn blank() -> [u32; 515]
@@ -94,9 +93,10 @@ fn run_many(
     catch: bool,
     child: Field,
     out: &mut [u32],
+    mark: u16,
 ) -> Ran
-    requires { ⌜ OverScalar (Many catch) (now form) (now known) (now sheet) (now items) (now marks) p child (now out) ⌝ }
-    ensures { λ r. ⌜ WritesOver (Many catch) (now (form .entry)) (now (sheet .entry)) (now (items .entry)) child (now (marks .entry)) p (now (marks .exit)) (now (out .entry)) (now (out .exit)) r ⌝ }
+    requires { ⌜ OverScalar (Many catch) (now form) (now known) (now sheet) (now items) (now marks) p (marked child mark) (now out) ⌝ }
+    ensures { λ r. ⌜ WritesOver (Many catch) (now (form .entry)) (now (sheet .entry)) (now (items .entry)) (marked child mark) (now (marks .entry)) p (now (marks .exit)) (now (out .entry)) (now (out .exit)) r ⌝ }
 {
     let how = Repeat {
         child: child.node,
@@ -105,7 +105,7 @@ fn run_many(
         writes: true,
         at: child.at,
     };
-    let all = eval_node::run_repeat(form, known, sheet, items, marks, p, how, out, child.mark);
+    let all = eval_node::run_repeat(form, known, sheet, items, marks, p, how, out, mark);
     if all.number != 0 {
         let left = all.numbers;
         return eval_told::refusal(all.number, all.place, all.tries, left);
@@ -124,9 +124,10 @@ fn run_some(
     catch: bool,
     child: Field,
     out: &mut [u32],
+    mark: u16,
 ) -> Ran
-    requires { ⌜ OverScalar (Some catch) (now form) (now known) (now sheet) (now items) (now marks) p child (now out) ⌝ }
-    ensures { λ r. ⌜ WritesOver (Some catch) (now (form .entry)) (now (sheet .entry)) (now (items .entry)) child (now (marks .entry)) p (now (marks .exit)) (now (out .entry)) (now (out .exit)) r ⌝ }
+    requires { ⌜ OverScalar (Some catch) (now form) (now known) (now sheet) (now items) (now marks) p (marked child mark) (now out) ⌝ }
+    ensures { λ r. ⌜ WritesOver (Some catch) (now (form .entry)) (now (sheet .entry)) (now (items .entry)) (marked child mark) (now (marks .entry)) p (now (marks .exit)) (now (out .entry)) (now (out .exit)) r ⌝ }
 {
     let how = Repeat {
         child: child.node,
@@ -135,7 +136,7 @@ fn run_some(
         writes: true,
         at: child.at,
     };
-    let all = eval_node::run_repeat(form, known, sheet, items, marks, p, how, out, child.mark);
+    let all = eval_node::run_repeat(form, known, sheet, items, marks, p, how, out, mark);
     let left = all.numbers;
     if all.number != 0 {
         return eval_told::refusal(all.number, all.place, all.tries, left);
@@ -157,9 +158,10 @@ pub fn run_list(
     p: Numbers,
     field: Field,
     out: &mut [u32],
+    mark: u16,
 ) -> Ran
-    requires { ⌜ Listed (now form) (now known) (now sheet) (now items) (now marks) p field (now out) ⌝ }
-    ensures { λ r. ⌜ WritesField (now (form .entry)) (now (sheet .entry)) (now (items .entry)) field (now (marks .entry)) p (now (marks .exit)) (now (out .entry)) (now (out .exit)) r ⌝ }
+    requires { ⌜ Listed (now form) (now known) (now sheet) (now items) (now marks) p (marked field mark) (now out) ⌝ }
+    ensures { λ r. ⌜ WritesField (now (form .entry)) (now (sheet .entry)) (now (items .entry)) (marked field mark) (now (marks .entry)) p (now (marks .exit)) (now (out .entry)) (now (out .exit)) r ⌝ }
 {
     let x = form_layout::node_at(form, field.node);
     let kind = x.kind;
@@ -167,13 +169,12 @@ pub fn run_list(
     let child = Field {
         node: x.p,
         at: field.at,
-        mark: field.mark,
     };
     match kind {
-        4 => run_optional_list(form, known, sheet, items, marks, p, catch, child, out),
-        5 => run_many(form, known, sheet, items, marks, p, catch, child, out),
-        6 => run_some(form, known, sheet, items, marks, p, catch, child, out),
-        _ => run_either(form, known, sheet, items, marks, p, child, x.q, out),
+        4 => run_optional_list(form, known, sheet, items, marks, p, catch, child, out, mark),
+        5 => run_many(form, known, sheet, items, marks, p, catch, child, out, mark),
+        6 => run_some(form, known, sheet, items, marks, p, catch, child, out, mark),
+        _ => run_either(form, known, sheet, items, marks, p, child, x.q, out, mark),
     }
 }
 
@@ -188,12 +189,13 @@ fn run_optional_list(
     catch: bool,
     child: Field,
     out: &mut [u32],
+    mark: u16,
 ) -> Ran
-    requires { ⌜ OverList (Optional catch) (now form) (now known) (now sheet) (now items) (now marks) p child (now out) ⌝ }
-    ensures { λ r. ⌜ WritesOver (Optional catch) (now (form .entry)) (now (sheet .entry)) (now (items .entry)) child (now (marks .entry)) p (now (marks .exit)) (now (out .entry)) (now (out .exit)) r ⌝ }
+    requires { ⌜ OverList (Optional catch) (now form) (now known) (now sheet) (now items) (now marks) p (marked child mark) (now out) ⌝ }
+    ensures { λ r. ⌜ WritesOver (Optional catch) (now (form .entry)) (now (sheet .entry)) (now (items .entry)) (marked child mark) (now (marks .entry)) p (now (marks .exit)) (now (out .entry)) (now (out .exit)) r ⌝ }
 {
     let before = *marks;
-    let ran = run_list(form, known, sheet, items, marks, p, child, out);
+    let ran = run_list(form, known, sheet, items, marks, p, child, out, mark);
     let made = eval_combine::optional(ran, p, catch, &before, marks);
     if made.present {
         shift(out, child.at, wide(ran.len));
@@ -213,12 +215,13 @@ fn run_either(
     left: Field,
     right: usize,
     out: &mut [u32],
+    mark: u16,
 ) -> Ran
-    requires { ⌜ EitherList (now form) (now known) (now sheet) (now items) (now marks) p left right (now out) ⌝ }
-    ensures { λ r. ⌜ ((t u : Tree) → treeAt (now (form .entry)) (left .node) ≡ some t → treeAt (now (form .entry)) right ≡ some u → Writes (left .mark) (sheetArea (now (sheet .entry))) (now (items .entry)) (Choice t u) (now (marks .entry)) p (now (marks .exit)) (now (out .entry)) (left .at) (now (out .exit)) r) ⌝ }
+    requires { ⌜ EitherList (now form) (now known) (now sheet) (now items) (now marks) p (marked left mark) right (now out) ⌝ }
+    ensures { λ r. ⌜ ((t u : Tree) → treeAt (now (form .entry)) (left .node) ≡ some t → treeAt (now (form .entry)) right ≡ some u → Writes mark (sheetArea (now (sheet .entry))) (now (items .entry)) (Choice t u) (now (marks .entry)) p (now (marks .exit)) (now (out .entry)) (left .at) (now (out .exit)) r) ⌝ }
 {
     let before = *marks;
-    let x = run_list(form, known, sheet, items, marks, p, left, out);
+    let x = run_list(form, known, sheet, items, marks, p, left, out, mark);
     let first = *marks;
     let n = wide(x.len);
     let kept = set_aside(out, left.at, n);
@@ -226,9 +229,8 @@ fn run_either(
     let other = Field {
         node: right,
         at: left.at,
-        mark: left.mark,
     };
-    let y = run_list(form, known, sheet, items, marks, p, other, out);
+    let y = run_list(form, known, sheet, items, marks, p, other, out, mark);
     let made = eval_combine::choose(x, y, p, &before, &first, marks);
     let answer = made.ran;
     settle(

@@ -27,7 +27,7 @@ use Rattle.eval_told.proofs.NodeLaw.{at-tree}
 use Rattle.eval_node.specs.Values.{Put}
 use Rattle.eval_shortcut.proofs.Words.{scalar-short}
 use Rattle.eval_shortcut.proofs.Trees.{form-good, node-inside}
-use Rattle.eval_list.specs.declared.Field.{Field}
+use Rattle.eval_list.specs.Lists.{MarkedField}
 use Rattle.eval_list.specs.Lists.{Listed, Writes}
 use Rattle.run_fields.specs.Line.{FieldReady, PutValue}
 use Rattle.run_fields.proofs.Shapes.{single-here}
@@ -36,7 +36,7 @@ use Rattle.run_fields.proofs.Shapes.{single-here}
 module _
     (b known s words m : List ℕ)
     (p : Numbers)
-    (field : Field)
+    (field : MarkedField)
     (o : List ℕ)
     (f : FieldReady b known s words m p field o)
     (r : Bool)
@@ -46,14 +46,21 @@ module _
     field-listed h =
         record { stands = f .stands; long = sym (says (f .stands .tree) (f .stands .node)) ∙ ap not h; space = f .space }
 
-    pub field-scalar : r ≡ false → Scalar b known s words m p (field .mark) (field .node)
-    field-scalar h = record { stands = f .stands; scalar = sym (says (f .stands .tree) (f .stands .node)) ∙ ap not h }
+pub field-scalar :
+    (b known s words m : List ℕ) (p : Numbers) (n at mark : ℕ) (o : List ℕ)
+    → FieldReady b known s words m p (record { node = n; at = at; mark = mark }) o
+    → (r : Bool)
+    → ((t : Tree) → treeAt b n ≡ some t → not r ≡ isScalar (kindOf t))
+    → r ≡ false
+    → Scalar b known s words m p mark n
+field-scalar b known s words m p n at mark o f r says h =
+    record { stands = f .stands; scalar = sym (says (f .stands .tree) (f .stands .node)) ∙ ap not h }
 
 -- a field that is a leaf
 module _
     (b known s words m : List ℕ)
     (p : Numbers)
-    (field : Field)
+    (field : MarkedField)
     (o : List ℕ)
     (f : FieldReady b known s words m p field o)
   where

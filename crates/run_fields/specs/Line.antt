@@ -25,7 +25,7 @@ use Rattle.eval_told.specs.Told.{Told}
 use Rattle.eval_told.specs.Nodes.{Standing}
 use Rattle.eval_node.specs.Cycle.{Room}
 use Rattle.eval_node.specs.Values.{Put}
-use Rattle.eval_list.specs.declared.Field.{Field}
+use Rattle.eval_list.specs.Lists.{MarkedField}
 use Rattle.run_fields.specs.declared.Reached.{Reached}
 
 -- an accepted form, a checked sheet, a state over the items, which nodes each item matches, the number of the first field, and
@@ -41,7 +41,7 @@ pub record Starts (b known s words m : List ℕ) (p : Numbers) (first : ℕ) (o 
   pub zeros : (k : ℕ) → getD o k 0 ≡ 0
 
 -- a node, and room for its words
-pub record FieldReady (b known s words m : List ℕ) (p : Numbers) (f : Field) (o : List ℕ) : Type 0 where
+pub record FieldReady (b known s words m : List ℕ) (p : Numbers) (f : MarkedField) (o : List ℕ) : Type 0 where
   pub stands : Standing b known s words m p (f .mark) (f .node)
   pub space : Room o (f .at)
 

@@ -10,7 +10,7 @@ ghost use Rattle.rules.specs.Run.{parsedMark};
 ghost use Rattle.rules.specs.Tree.{Tree, kindOf};
 ghost use Rattle.eval_told.specs.Nodes.{treeAt, isScalar};
 ghost use Rattle.run_fields.specs.Line.{Starts, FieldReady, PutValue, RunsFields, RunsAll, refusedWith, valuesOf};
-ghost use Rattle.eval_list.specs.Lists.{WritesField};
+ghost use Rattle.eval_list.specs.Lists.{WritesField, marked};
 use eval_list::Field;
 use eval_told::Ran;
 use rules::State;
@@ -73,14 +73,15 @@ pub fn run_value(
     p: Numbers,
     field: Field,
     out: &mut [u32],
+    mark: u16,
 ) -> Ran
-    requires { ⌜ FieldReady (now form) (now known) (now sheet) (now items) (now marks) p field (now out) ⌝ }
-    ensures { λ r. ⌜ WritesField (now (form .entry)) (now (sheet .entry)) (now (items .entry)) field (now (marks .entry)) p (now (marks .exit)) (now (out .entry)) (now (out .exit)) r ⌝ }
+    requires { ⌜ FieldReady (now form) (now known) (now sheet) (now items) (now marks) p (marked field mark) (now out) ⌝ }
+    ensures { λ r. ⌜ WritesField (now (form .entry)) (now (sheet .entry)) (now (items .entry)) (marked field mark) (now (marks .entry)) p (now (marks .exit)) (now (out .entry)) (now (out .exit)) r ⌝ }
 {
     if is_list(form, field.node) {
-        return eval_list::run_list(form, known, sheet, items, marks, p, field, out);
+        return eval_list::run_list(form, known, sheet, items, marks, p, field, out, mark);
     }
-    let ran = eval_node::run_node(form, known, sheet, items, marks, p, field.node, field.mark);
+    let ran = eval_node::run_node(form, known, sheet, items, marks, p, field.node, mark);
     put_value(out, field.at, ran)
 }
 
@@ -94,12 +95,12 @@ fn run_field(
     p: Numbers,
     field: Field,
     out: &mut [u32],
+    mark: u16,
 ) -> Ran
-    requires { ⌜ FieldReady (now form) (now known) (now sheet) (now items) (now marks) p field (now out) ⌝ }
-    ensures { λ r. ⌜ WritesField (now (form .entry)) (now (sheet .entry)) (now (items .entry)) field (now (marks .entry)) p (now (marks .exit)) (now (out .entry)) (now (out .exit)) r ⌝ }
+    requires { ⌜ FieldReady (now form) (now known) (now sheet) (now items) (now marks) p (marked field mark) (now out) ⌝ }
+    ensures { λ r. ⌜ WritesField (now (form .entry)) (now (sheet .entry)) (now (items .entry)) (marked field mark) (now (marks .entry)) p (now (marks .exit)) (now (out .entry)) (now (out .exit)) r ⌝ }
 {
     let x = form_layout::node_at(form, field.node);
-    let mark = field.mark;
     if x.kind == 1 {
         let flag = eval_params::eval_flag(known, marks, p, field.node, x.r == 1, mark);
         return put_value(out, field.at, flag);
@@ -108,7 +109,7 @@ fn run_field(
         let operand = eval_params::eval_positional(sheet, items, marks, p, x.p, x.r == 2, mark);
         return put_value(out, field.at, operand);
     }
-    run_value(form, known, sheet, items, marks, p, field, out)
+    run_value(form, known, sheet, items, marks, p, field, out, mark)
 }
 
 pub fn refused(number: u32, place: u32, tries: u32, numbers: Numbers) -> Reached
@@ -173,8 +174,8 @@ fn each_field(
     while k < n {
         let node = form_layout::field_at(form, k);
         let mark = field_mark(first + k);
-        let field = Field { node, at, mark };
-        let ran = run_field(form, known, sheet, items, marks, s, field, out);
+        let field = Field { node, at };
+        let ran = run_field(form, known, sheet, items, marks, s, field, out, mark);
         let left = ran.numbers;
         tries = tries + ran.tries;
         if ran.number != 0 {
