@@ -23,7 +23,7 @@ use Rattle.call_check.specs.declared.SplitAnswer.{SplitAnswer}
 use Rattle.call_text.specs.Text.{TextOf}
 use Rattle.replay.specs.Words.{Stands, AnswerAt}
 use Rattle.replay.specs.Calls.{TextTold}
-use Rattle.replay.specs.Cases.{characterWords, utf8Words, bothWords, checkWords, SplitTold, RunTold, OnItems, ItemTold}
+use Rattle.replay.specs.Cases.{characterWords, utf8Words, bothWords, checkWords, SplitTold, WholeRunTold, OnItems, ItemTold}
 use Rattle.replay.specs.declared.words.Head.{Head}
 use Rattle.replay.specs.List.{HasCase, CaseTold}
 
@@ -68,7 +68,7 @@ module _ (form sheet : List ℕ) (ni : ℕ) (ei : 1792 ≡ ni) where
       → (b words : List ℕ)
       → AnswerAt b (answer .number ∷ answer .place ∷ answer .tries ∷ answer .words ∷ 0 ∷ 0 ∷ 0 ∷ []) (answer .state)
       → Stands words 0 answers
-      → RunTold form sheet b words
+      → WholeRunTold form sheet b words
   run-told na ea answer items answers says b words same written =
       record { answer = answer; items = items; answers = answers; says = rw (ei, ea) says; same = same; written = written }
 

@@ -46,7 +46,7 @@ pub record SplitTold (form sheet b words : List ℕ) : Type 0 where
   pub written : Stands words 0 items
 
 -- the words are those of the answer slice
-pub record RunTold (form sheet b words : List ℕ) : Type 0 where
+pub record WholeRunTold (form sheet b words : List ℕ) : Type 0 where
   pub answer : RunAnswer
   pub items : List ℕ
   pub answers : List ℕ
@@ -73,9 +73,9 @@ pub record ItemTold (h : Head) (form sheet given second b words : List ℕ) : Ty
   pub splits : callSplit form sheet 1792 ≡ ok (splittingOf split items)
   pub told : OnItems h form sheet items given second b words
 
-pub data Told (h : Head) (form sheet given second b words : List ℕ) : Type 0 where
-  utf8 : h .call ≡ 0 → Stands b 0 (utf8Words form) → Told h form sheet given second b words
-  check : h .call ≡ 1 → Stands b 0 (checkWords form sheet) → Told h form sheet given second b words
-  split : h .call ≡ 2 → SplitTold form sheet b words → Told h form sheet given second b words
-  run : h .call ≡ 3 → RunTold form sheet b words → Told h form sheet given second b words
-  items : ItemTold h form sheet given second b words → Told h form sheet given second b words
+pub data CaseTold (h : Head) (form sheet given second b words : List ℕ) : Type 0 where
+  utf8 : h .call ≡ 0 → Stands b 0 (utf8Words form) → CaseTold h form sheet given second b words
+  check : h .call ≡ 1 → Stands b 0 (checkWords form sheet) → CaseTold h form sheet given second b words
+  split : h .call ≡ 2 → SplitTold form sheet b words → CaseTold h form sheet given second b words
+  run : h .call ≡ 3 → WholeRunTold form sheet b words → CaseTold h form sheet given second b words
+  items : ItemTold h form sheet given second b words → CaseTold h form sheet given second b words
