@@ -23,6 +23,8 @@ use Rattle.eval_told.specs.Nodes.{treeAt, isScalar, Standing, Scalar}
 use Rattle.eval_node.specs.Cycle.{Room}
 use Rattle.eval_node.specs.declared.Repeated.{Repeated}
 use Rattle.eval_list.specs.declared.Field.{Field}
+use Rattle.eval_list.specs.declared.Child.{Child}
+use Rattle.eval_list.specs.declared.Either.{Either}
 
 -- ---- a field, and the mark of what it uses
 pub record MarkedField : Type 0 where
@@ -32,6 +34,13 @@ pub record MarkedField : Type 0 where
 
 abbrev pub marked : Field → ℕ → MarkedField
 marked f m = record { node = f .node; at = f .at; mark = m }
+
+abbrev pub markedChild : Child → ℕ → MarkedField
+markedChild c m = record { node = c .node; at = c .at; mark = m }
+
+-- of the first side
+abbrev pub markedSide : Either → ℕ → MarkedField
+markedSide s m = record { node = s .left; at = s .at; mark = m }
 
 -- ---- a node whose value is a list or an optional list, and room for its words
 pub record Listed (b known s words m : List ℕ) (p : Numbers) (f : MarkedField) (o : List ℕ) : Type 0 where

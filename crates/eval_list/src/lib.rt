@@ -8,7 +8,7 @@ ghost use lib.Seq.{sets};
 ghost use Rattle.rules.specs.Sheet.{sheetArea};
 ghost use Rattle.rules.specs.Tree.{Tree, Optional, Many, Some, Choice};
 ghost use Rattle.eval_told.specs.Nodes.{treeAt};
-ghost use Rattle.eval_list.specs.Lists.{Listed, Writes, WritesField, OverScalar, OverList, WritesOver, EitherList, CountedList, Aside, settled, marked};
+ghost use Rattle.eval_list.specs.Lists.{Listed, Writes, WritesField, OverScalar, OverList, WritesOver, EitherList, CountedList, Aside, settled, marked, markedChild, markedSide};
 use eval_node::Repeat;
 use eval_node::Repeated;
 use eval_told::Ran;
@@ -19,6 +19,20 @@ use wire::wide;
 pub struct Field {
     pub node: usize,
     pub at: usize,
+}
+
+// The child of a node, whether its refusal is caught, and where the value begins.
+struct Child {
+    node: usize,
+    catch: bool,
+    at: usize,
+}
+
+// The two sides of a choice, and where the value begins.
+struct Either {
+    left: usize,
+    right: usize,
+    at: usize,
 }
 
 fn blank() -> [u32; 515]
@@ -90,17 +104,16 @@ fn run_many(
     items: &[u32],
     marks: &mut [u16; 256],
     p: Numbers,
-    catch: bool,
-    child: Field,
+    child: Child,
     out: &mut [u32],
     mark: u16,
 ) -> Ran
-    requires { ⌜ OverScalar (Many catch) (now form) (now known) (now sheet) (now items) (now marks) p (marked child mark) (now out) ⌝ }
-    ensures { λ r. ⌜ WritesOver (Many catch) (now (form .entry)) (now (sheet .entry)) (now (items .entry)) (marked child mark) (now (marks .entry)) p (now (marks .exit)) (now (out .entry)) (now (out .exit)) r ⌝ }
+    requires { ⌜ OverScalar (Many (child .catch)) (now form) (now known) (now sheet) (now items) (now marks) p (markedChild child mark) (now out) ⌝ }
+    ensures { λ r. ⌜ WritesOver (Many (child .catch)) (now (form .entry)) (now (sheet .entry)) (now (items .entry)) (markedChild child mark) (now (marks .entry)) p (now (marks .exit)) (now (out .entry)) (now (out .exit)) r ⌝ }
 {
     let how = Repeat {
         child: child.node,
-        catch,
+        catch: child.catch,
         stops: false,
         writes: true,
         at: child.at,
@@ -121,17 +134,16 @@ fn run_some(
     items: &[u32],
     marks: &mut [u16; 256],
     p: Numbers,
-    catch: bool,
-    child: Field,
+    child: Child,
     out: &mut [u32],
     mark: u16,
 ) -> Ran
-    requires { ⌜ OverScalar (Some catch) (now form) (now known) (now sheet) (now items) (now marks) p (marked child mark) (now out) ⌝ }
-    ensures { λ r. ⌜ WritesOver (Some catch) (now (form .entry)) (now (sheet .entry)) (now (items .entry)) (marked child mark) (now (marks .entry)) p (now (marks .exit)) (now (out .entry)) (now (out .exit)) r ⌝ }
+    requires { ⌜ OverScalar (Some (child .catch)) (now form) (now known) (now sheet) (now items) (now marks) p (markedChild child mark) (now out) ⌝ }
+    ensures { λ r. ⌜ WritesOver (Some (child .catch)) (now (form .entry)) (now (sheet .entry)) (now (items .entry)) (markedChild child mark) (now (marks .entry)) p (now (marks .exit)) (now (out .entry)) (now (out .exit)) r ⌝ }
 {
     let how = Repeat {
         child: child.node,
-        catch,
+        catch: child.catch,
         stops: false,
         writes: true,
         at: child.at,
@@ -165,16 +177,21 @@ pub fn run_list(
 {
     let x = form_layout::node_at(form, field.node);
     let kind = x.kind;
-    let catch = x.r == 1;
-    let child = Field {
+    let child = Child {
         node: x.p,
+        catch: x.r == 1,
+        at: field.at,
+    };
+    let sides = Either {
+        left: x.p,
+        right: x.q,
         at: field.at,
     };
     match kind {
-        4 => run_optional_list(form, known, sheet, items, marks, p, catch, child, out, mark),
-        5 => run_many(form, known, sheet, items, marks, p, catch, child, out, mark),
-        6 => run_some(form, known, sheet, items, marks, p, catch, child, out, mark),
-        _ => run_either(form, known, sheet, items, marks, p, child, x.q, out, mark),
+        4 => run_optional_list(form, known, sheet, items, marks, p, child, out, mark),
+        5 => run_many(form, known, sheet, items, marks, p, child, out, mark),
+        6 => run_some(form, known, sheet, items, marks, p, child, out, mark),
+        _ => run_either(form, known, sheet, items, marks, p, sides, out, mark),
     }
 }
 
@@ -186,17 +203,20 @@ fn run_optional_list(
     items: &[u32],
     marks: &mut [u16; 256],
     p: Numbers,
-    catch: bool,
-    child: Field,
+    child: Child,
     out: &mut [u32],
     mark: u16,
 ) -> Ran
-    requires { ⌜ OverList (Optional catch) (now form) (now known) (now sheet) (now items) (now marks) p (marked child mark) (now out) ⌝ }
-    ensures { λ r. ⌜ WritesOver (Optional catch) (now (form .entry)) (now (sheet .entry)) (now (items .entry)) (marked child mark) (now (marks .entry)) p (now (marks .exit)) (now (out .entry)) (now (out .exit)) r ⌝ }
+    requires { ⌜ OverList (Optional (child .catch)) (now form) (now known) (now sheet) (now items) (now marks) p (markedChild child mark) (now out) ⌝ }
+    ensures { λ r. ⌜ WritesOver (Optional (child .catch)) (now (form .entry)) (now (sheet .entry)) (now (items .entry)) (markedChild child mark) (now (marks .entry)) p (now (marks .exit)) (now (out .entry)) (now (out .exit)) r ⌝ }
 {
     let before = *marks;
-    let ran = run_list(form, known, sheet, items, marks, p, child, out, mark);
-    let made = eval_combine::optional(ran, p, catch, &before, marks);
+    let field = Field {
+        node: child.node,
+        at: child.at,
+    };
+    let ran = run_list(form, known, sheet, items, marks, p, field, out, mark);
+    let made = eval_combine::optional(ran, p, child.catch, &before, marks);
     if made.present {
         shift(out, child.at, wide(ran.len));
     }
@@ -212,30 +232,33 @@ fn run_either(
     items: &[u32],
     marks: &mut [u16; 256],
     p: Numbers,
-    left: Field,
-    right: usize,
+    sides: Either,
     out: &mut [u32],
     mark: u16,
 ) -> Ran
-    requires { ⌜ EitherList (now form) (now known) (now sheet) (now items) (now marks) p (marked left mark) right (now out) ⌝ }
-    ensures { λ r. ⌜ ((t u : Tree) → treeAt (now (form .entry)) (left .node) ≡ some t → treeAt (now (form .entry)) right ≡ some u → Writes mark (sheetArea (now (sheet .entry))) (now (items .entry)) (Choice t u) (now (marks .entry)) p (now (marks .exit)) (now (out .entry)) (left .at) (now (out .exit)) r) ⌝ }
+    requires { ⌜ EitherList (now form) (now known) (now sheet) (now items) (now marks) p (markedSide sides mark) (sides .right) (now out) ⌝ }
+    ensures { λ r. ⌜ ((t u : Tree) → treeAt (now (form .entry)) (sides .left) ≡ some t → treeAt (now (form .entry)) (sides .right) ≡ some u → Writes mark (sheetArea (now (sheet .entry))) (now (items .entry)) (Choice t u) (now (marks .entry)) p (now (marks .exit)) (now (out .entry)) (sides .at) (now (out .exit)) r) ⌝ }
 {
     let before = *marks;
+    let left = Field {
+        node: sides.left,
+        at: sides.at,
+    };
     let x = run_list(form, known, sheet, items, marks, p, left, out, mark);
     let first = *marks;
     let n = wide(x.len);
-    let kept = set_aside(out, left.at, n);
+    let kept = set_aside(out, sides.at, n);
     *marks = before;
-    let other = Field {
-        node: right,
-        at: left.at,
+    let right = Field {
+        node: sides.right,
+        at: sides.at,
     };
-    let y = run_list(form, known, sheet, items, marks, p, other, out, mark);
+    let y = run_list(form, known, sheet, items, marks, p, right, out, mark);
     let made = eval_combine::choose(x, y, p, &before, &first, marks);
     let answer = made.ran;
     settle(
         out,
-        left.at,
+        sides.at,
         answer.number,
         made.first,
         &kept,

@@ -22,13 +22,13 @@ use Rattle.eval_combine.proofs.optional.Reads as optional-reads
 use Rattle.wire.proofs.wide.Reads as wide-reads
 
 abbrev pub μ-run-either : Measures 6 run-either-kinds.ps ℕ
-μ-run-either κs a = max (a .1 .1 .1 .1 .1 .1 .0 .node) (a .1 .1 .1 .1 .1 .1 .1 .0) * 2 + 2
+μ-run-either κs a = max (a .1 .1 .1 .1 .1 .1 .0 .left) (a .1 .1 .1 .1 .1 .1 .0 .right) * 2 + 2
 
 abbrev pub μ-run-list : Measures 6 run-list-kinds.ps ℕ
 μ-run-list κs a = a .1 .1 .1 .1 .1 .1 .0 .node * 2 + 1
 
 abbrev pub μ-run-optional-list : Measures 6 run-optional-list-kinds.ps ℕ
-μ-run-optional-list κs a = a .1 .1 .1 .1 .1 .1 .1 .0 .node * 2 + 2
+μ-run-optional-list κs a = a .1 .1 .1 .1 .1 .1 .0 .node * 2 + 2
 
 abbrev pub run-either-at : ℕ → In 6 run-either-kinds.ps
 run-either-at t =
