@@ -32,15 +32,15 @@ pub record MarkedField : Type 0 where
   pub at : ℕ
   pub mark : ℕ
 
-abbrev pub marked : Field → ℕ → MarkedField
-marked f m = record { node = f .node; at = f .at; mark = m }
+abbrev pub withMark : Field → ℕ → MarkedField
+withMark f m = record { node = f .node; at = f .at; mark = m }
 
-abbrev pub markedChild : Child → ℕ → MarkedField
-markedChild c m = record { node = c .node; at = c .at; mark = m }
+abbrev pub childWithMark : Child → ℕ → MarkedField
+childWithMark c m = record { node = c .node; at = c .at; mark = m }
 
 -- of the first side
-abbrev pub markedSide : Either → ℕ → MarkedField
-markedSide s m = record { node = s .left; at = s .at; mark = m }
+abbrev pub sideWithMark : Either → ℕ → MarkedField
+sideWithMark s m = record { node = s .left; at = s .at; mark = m }
 
 -- ---- a node whose value is a list or an optional list, and room for its words
 pub record Listed (b known s words m : List ℕ) (p : Numbers) (f : MarkedField) (o : List ℕ) : Type 0 where

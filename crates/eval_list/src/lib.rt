@@ -8,7 +8,7 @@ ghost use lib.Seq.{sets};
 ghost use Rattle.rules.specs.Sheet.{sheetArea};
 ghost use Rattle.rules.specs.Tree.{Tree, Optional, Many, Some, Choice};
 ghost use Rattle.eval_told.specs.Nodes.{treeAt};
-ghost use Rattle.eval_list.specs.Lists.{Listed, Writes, WritesField, OverScalar, OverList, WritesOver, EitherList, CountedList, Aside, settled, marked, markedChild, markedSide};
+ghost use Rattle.eval_list.specs.Lists.{Listed, Writes, WritesField, OverScalar, OverList, WritesOver, EitherList, CountedList, Aside, settled, withMark, childWithMark, sideWithMark};
 use eval_node::Repeat;
 use eval_node::Repeated;
 use eval_told::Ran;
@@ -108,8 +108,8 @@ fn run_many(
     out: &mut [u32],
     mark: u16,
 ) -> Ran
-    requires { ⌜ OverScalar (Many (child .catch)) (now form) (now known) (now sheet) (now items) (now marks) p (markedChild child mark) (now out) ⌝ }
-    ensures { λ r. ⌜ WritesOver (Many (child .catch)) (now (form .entry)) (now (sheet .entry)) (now (items .entry)) (markedChild child mark) (now (marks .entry)) p (now (marks .exit)) (now (out .entry)) (now (out .exit)) r ⌝ }
+    requires { ⌜ OverScalar (Many (child .catch)) (now form) (now known) (now sheet) (now items) (now marks) p (childWithMark child mark) (now out) ⌝ }
+    ensures { λ r. ⌜ WritesOver (Many (child .catch)) (now (form .entry)) (now (sheet .entry)) (now (items .entry)) (childWithMark child mark) (now (marks .entry)) p (now (marks .exit)) (now (out .entry)) (now (out .exit)) r ⌝ }
 {
     let how = Repeat {
         child: child.node,
@@ -138,8 +138,8 @@ fn run_some(
     out: &mut [u32],
     mark: u16,
 ) -> Ran
-    requires { ⌜ OverScalar (Some (child .catch)) (now form) (now known) (now sheet) (now items) (now marks) p (markedChild child mark) (now out) ⌝ }
-    ensures { λ r. ⌜ WritesOver (Some (child .catch)) (now (form .entry)) (now (sheet .entry)) (now (items .entry)) (markedChild child mark) (now (marks .entry)) p (now (marks .exit)) (now (out .entry)) (now (out .exit)) r ⌝ }
+    requires { ⌜ OverScalar (Some (child .catch)) (now form) (now known) (now sheet) (now items) (now marks) p (childWithMark child mark) (now out) ⌝ }
+    ensures { λ r. ⌜ WritesOver (Some (child .catch)) (now (form .entry)) (now (sheet .entry)) (now (items .entry)) (childWithMark child mark) (now (marks .entry)) p (now (marks .exit)) (now (out .entry)) (now (out .exit)) r ⌝ }
 {
     let how = Repeat {
         child: child.node,
@@ -172,8 +172,8 @@ pub fn run_list(
     out: &mut [u32],
     mark: u16,
 ) -> Ran
-    requires { ⌜ Listed (now form) (now known) (now sheet) (now items) (now marks) p (marked field mark) (now out) ⌝ }
-    ensures { λ r. ⌜ WritesField (now (form .entry)) (now (sheet .entry)) (now (items .entry)) (marked field mark) (now (marks .entry)) p (now (marks .exit)) (now (out .entry)) (now (out .exit)) r ⌝ }
+    requires { ⌜ Listed (now form) (now known) (now sheet) (now items) (now marks) p (withMark field mark) (now out) ⌝ }
+    ensures { λ r. ⌜ WritesField (now (form .entry)) (now (sheet .entry)) (now (items .entry)) (withMark field mark) (now (marks .entry)) p (now (marks .exit)) (now (out .entry)) (now (out .exit)) r ⌝ }
 {
     let x = form_layout::node_at(form, field.node);
     let kind = x.kind;
@@ -207,8 +207,8 @@ fn run_optional_list(
     out: &mut [u32],
     mark: u16,
 ) -> Ran
-    requires { ⌜ OverList (Optional (child .catch)) (now form) (now known) (now sheet) (now items) (now marks) p (markedChild child mark) (now out) ⌝ }
-    ensures { λ r. ⌜ WritesOver (Optional (child .catch)) (now (form .entry)) (now (sheet .entry)) (now (items .entry)) (markedChild child mark) (now (marks .entry)) p (now (marks .exit)) (now (out .entry)) (now (out .exit)) r ⌝ }
+    requires { ⌜ OverList (Optional (child .catch)) (now form) (now known) (now sheet) (now items) (now marks) p (childWithMark child mark) (now out) ⌝ }
+    ensures { λ r. ⌜ WritesOver (Optional (child .catch)) (now (form .entry)) (now (sheet .entry)) (now (items .entry)) (childWithMark child mark) (now (marks .entry)) p (now (marks .exit)) (now (out .entry)) (now (out .exit)) r ⌝ }
 {
     let before = *marks;
     let field = Field {
@@ -236,7 +236,7 @@ fn run_either(
     out: &mut [u32],
     mark: u16,
 ) -> Ran
-    requires { ⌜ EitherList (now form) (now known) (now sheet) (now items) (now marks) p (markedSide sides mark) (sides .right) (now out) ⌝ }
+    requires { ⌜ EitherList (now form) (now known) (now sheet) (now items) (now marks) p (sideWithMark sides mark) (sides .right) (now out) ⌝ }
     ensures { λ r. ⌜ ((t u : Tree) → treeAt (now (form .entry)) (sides .left) ≡ some t → treeAt (now (form .entry)) (sides .right) ≡ some u → Writes mark (sheetArea (now (sheet .entry))) (now (items .entry)) (Choice t u) (now (marks .entry)) p (now (marks .exit)) (now (out .entry)) (sides .at) (now (out .exit)) r) ⌝ }
 {
     let before = *marks;

@@ -10,7 +10,7 @@ ghost use Rattle.rules.specs.Run.{parsedMark};
 ghost use Rattle.rules.specs.Tree.{Tree, kindOf};
 ghost use Rattle.eval_told.specs.Nodes.{treeAt, isScalar};
 ghost use Rattle.run_fields.specs.Line.{Starts, FieldReady, PutValue, RunsFields, RunsAll, refusedWith, valuesOf};
-ghost use Rattle.eval_list.specs.Lists.{WritesField, marked};
+ghost use Rattle.eval_list.specs.Lists.{WritesField, withMark};
 use eval_list::Field;
 use eval_told::Ran;
 use rules::State;
@@ -75,8 +75,8 @@ pub fn run_value(
     out: &mut [u32],
     mark: u16,
 ) -> Ran
-    requires { ⌜ FieldReady (now form) (now known) (now sheet) (now items) (now marks) p (marked field mark) (now out) ⌝ }
-    ensures { λ r. ⌜ WritesField (now (form .entry)) (now (sheet .entry)) (now (items .entry)) (marked field mark) (now (marks .entry)) p (now (marks .exit)) (now (out .entry)) (now (out .exit)) r ⌝ }
+    requires { ⌜ FieldReady (now form) (now known) (now sheet) (now items) (now marks) p (withMark field mark) (now out) ⌝ }
+    ensures { λ r. ⌜ WritesField (now (form .entry)) (now (sheet .entry)) (now (items .entry)) (withMark field mark) (now (marks .entry)) p (now (marks .exit)) (now (out .entry)) (now (out .exit)) r ⌝ }
 {
     if is_list(form, field.node) {
         return eval_list::run_list(form, known, sheet, items, marks, p, field, out, mark);
@@ -97,8 +97,8 @@ fn run_field(
     out: &mut [u32],
     mark: u16,
 ) -> Ran
-    requires { ⌜ FieldReady (now form) (now known) (now sheet) (now items) (now marks) p (marked field mark) (now out) ⌝ }
-    ensures { λ r. ⌜ WritesField (now (form .entry)) (now (sheet .entry)) (now (items .entry)) (marked field mark) (now (marks .entry)) p (now (marks .exit)) (now (out .entry)) (now (out .exit)) r ⌝ }
+    requires { ⌜ FieldReady (now form) (now known) (now sheet) (now items) (now marks) p (withMark field mark) (now out) ⌝ }
+    ensures { λ r. ⌜ WritesField (now (form .entry)) (now (sheet .entry)) (now (items .entry)) (withMark field mark) (now (marks .entry)) p (now (marks .exit)) (now (out .entry)) (now (out .exit)) r ⌝ }
 {
     let x = form_layout::node_at(form, field.node);
     if x.kind == 1 {
