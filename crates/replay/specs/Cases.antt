@@ -73,9 +73,9 @@ pub record ItemTold (h : Head) (form sheet given second b words : List ℕ) : Ty
   pub splits : callSplit form sheet 1792 ≡ ok (splittingOf split items)
   pub told : OnItems h form sheet items given second b words
 
-pub data CaseTold (h : Head) (form sheet given second b words : List ℕ) : Type 0 where
-  utf8 : h .call ≡ 0 → Stands b 0 (utf8Words form) → CaseTold h form sheet given second b words
-  check : h .call ≡ 1 → Stands b 0 (checkWords form sheet) → CaseTold h form sheet given second b words
-  split : h .call ≡ 2 → SplitTold form sheet b words → CaseTold h form sheet given second b words
-  run : h .call ≡ 3 → WholeRunTold form sheet b words → CaseTold h form sheet given second b words
-  items : ItemTold h form sheet given second b words → CaseTold h form sheet given second b words
+pub data AnswerTold (h : Head) (form sheet given second b words : List ℕ) : Type 0 where
+  utf8 : h .call ≡ 0 → Stands b 0 (utf8Words form) → AnswerTold h form sheet given second b words
+  check : h .call ≡ 1 → Stands b 0 (checkWords form sheet) → AnswerTold h form sheet given second b words
+  split : h .call ≡ 2 → SplitTold form sheet b words → AnswerTold h form sheet given second b words
+  run : h .call ≡ 3 → WholeRunTold form sheet b words → AnswerTold h form sheet given second b words
+  items : ItemTold h form sheet given second b words → AnswerTold h form sheet given second b words

@@ -5,7 +5,7 @@ use mathlib.Core.List.{List}
 use Prim.Native.Nat.{ℕ, _+_, _*_, _≤_}
 use Rattle.wire.specs.Wire.{numberAt, tableGood, entryOf}
 use Rattle.replay.specs.Words.{headOf}
-use Rattle.replay.specs.Cases.{CaseTold}
+use Rattle.replay.specs.Cases.{AnswerTold}
 
 -- a table of n entries, of which seven are there from `at` on
 pub record HasCase (list : List ℕ) (n at : ℕ) : Type 0 where
@@ -15,7 +15,7 @@ pub record HasCase (list : List ℕ) (n at : ℕ) : Type 0 where
 -- what the rules say of the case from entry `at` on is what it says
 abbrev pub CaseTold : List ℕ → ℕ → ℕ → Type 0
 CaseTold list n at =
-    CaseTold
+    AnswerTold
     (headOf (entryOf 2 n list at))
     (entryOf 2 n list (at + 1))
     (entryOf 2 n list (at + 2))

@@ -3,7 +3,7 @@ ghost use mathlib.Core.Path.{_≡_};
 ghost use mathlib.Core.Bool.{true, cond};
 ghost use lib.ListN.{length};
 ghost use Rattle.replay.specs.Words.{Stands};
-ghost use Rattle.replay.specs.Cases.{utf8Words, checkWords, SplitTold, WholeRunTold, StatesTold, ItemTold, CaseTold};
+ghost use Rattle.replay.specs.Cases.{utf8Words, checkWords, SplitTold, WholeRunTold, StatesTold, ItemTold, AnswerTold};
 use crate::calls;
 use crate::words;
 use crate::words::Head;
@@ -139,7 +139,7 @@ pub fn same<'a>(
     numbers: &[u8],
     words: &[u8],
 ) -> bool
-    ensures { λ r. ⌜ (r ≡ true → CaseTold h (now (form .entry)) (now (sheet .entry)) (now (given .entry)) (now (second .entry)) (now (numbers .entry)) (now (words .entry))) ⌝ }
+    ensures { λ r. ⌜ (r ≡ true → AnswerTold h (now (form .entry)) (now (sheet .entry)) (now (given .entry)) (now (second .entry)) (now (numbers .entry)) (now (words .entry))) ⌝ }
 {
     let k = h.call;
     match k {
