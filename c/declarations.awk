@@ -6,7 +6,6 @@ function c_type(type) {
   if (type == "bool") return "bool"
   if (type == "usize") return "size_t"
   if (type ~ /^u[0-9]+$/) return "uint" substr(type, 2) "_t"
-  if (type == "NodeAnswer") return "SilverpoiseRunAnswer" # one type in C, since the fields are the same
   return "Silverpoise" type
 }
 

@@ -1,10 +1,10 @@
-//! Fixed lists: a sample of answers per layer, a case a line, in words that a small program can read. Bytes are in
-//! hexadecimal, numbers in decimal, `-` is none or empty. The first line is the command that makes the list again.
+//! Fixed lists: a sample of answers per layer, in a form that a small program can read.
 
-use line::{cases, cases::Case, cases::Rng, format::*};
+use line::{cases, cases::Rng, format::*};
 
+use crate::list_form::{self, Case};
 #[cfg(live)]
-use crate::script::{or_dash, Script};
+use crate::script::Script;
 #[cfg(live)]
 use bpaf::doc::harness::{run_bytes, Held, View, Wanted};
 
@@ -18,36 +18,33 @@ pub fn hex(bytes: &[u8]) -> String {
     bytes.iter().map(|b| format!("{b:02x}")).collect()
 }
 
-fn place(place: Option<usize>) -> String {
-    place.map_or("-".to_string(), |p| p.to_string())
+/// A place plus 1, or 0 for none.
+fn code(place: Option<usize>) -> u32 {
+    place.map_or(0, |p| p as u32 + 1)
 }
 
 /// The list of a layer, or none if there is no such layer in this build.
-pub fn list(layer: &str, seed: u64, count: usize) -> Option<String> {
-    let line: fn(&mut Rng) -> String = match layer {
-        "utf8" => utf8_line,
-        "check" => check_line,
+pub fn list(layer: &str, seed: u64, count: usize) -> Option<Vec<u8>> {
+    let case: fn(&mut Rng) -> Case = match layer {
+        "utf8" => utf8_case,
+        "check" => check_case,
         #[cfg(live)]
-        "split" => split_line,
+        "split" => split_case,
         #[cfg(live)]
-        "run" => run_line,
+        "run" => run_case,
         #[cfg(live)]
-        "text" => text_line,
+        "text" => text_case,
         #[cfg(live)]
-        "calls" => calls_line,
+        "calls" => calls_case,
         _ => return None,
     };
     let mut rng = Rng::new(seed);
-    let mut out = format!("# oracle list {layer} {seed} {count}\n");
-    for _ in 0..count {
-        out.push_str(&line(&mut rng));
-        out.push('\n');
-    }
-    Some(out)
+    let cases: Vec<Case> = (0..count).map(|_| case(&mut rng)).collect();
+    Some(list_form::write(&format!("oracle list {layer} {seed} {count}"), &cases))
 }
 
 /// A case that fits a list: damaged ones among the well-made, as asked.
-pub fn short_case(rng: &mut Rng, damaged_in: usize) -> Case {
+pub fn short_case(rng: &mut Rng, damaged_in: usize) -> cases::Case {
     loop {
         let damaged = damaged_in > 0 && rng.below(damaged_in) == 0;
         let case = if damaged { cases::damaged(rng) } else { cases::well_made(rng) };
@@ -57,12 +54,12 @@ pub fn short_case(rng: &mut Rng, damaged_in: usize) -> Case {
     }
 }
 
-/// Bytes, whether they are UTF-8, the first character and its size.
-fn utf8_line(rng: &mut Rng) -> String {
+/// Whether the bytes are UTF-8; whether there is a first character, its value and its size.
+fn utf8_case(rng: &mut Rng) -> Case {
     let bytes = utf8_bytes(rng);
-    let (character, size) = first_character(&bytes).map_or((None, 0), |c| (Some(c as usize), c.len_utf8()));
-    let valid = usize::from(std::str::from_utf8(&bytes).is_ok());
-    format!("{} {} {} {}", hex(&bytes), valid, place(character), size)
+    let (found, character, size) = first_character(&bytes).map_or((0, 0, 0), |c| (1, c as u32, c.len_utf8() as u32));
+    let valid = u32::from(std::str::from_utf8(&bytes).is_ok());
+    Case { answer: vec![valid, found, character, size], ..Case::new("utf8", &[], &bytes, &[]) }
 }
 
 /// Up to eight bytes: whole characters, and often one byte changed, lost or added.
@@ -98,59 +95,61 @@ pub fn first_character(bytes: &[u8]) -> Option<char> {
     valid.chars().next()
 }
 
-/// Form, sheet, and the refusal of the two checks (0: both accepted).
-fn check_line(rng: &mut Rng) -> String {
+/// The refusal of each of the two checks.
+fn check_case(rng: &mut Rng) -> Case {
     let case = short_case(rng, 1);
-    let refused = Form::check(&case.form).err().or(Sheet::check(&case.sheet).err());
-    let refused = refused.unwrap_or(Refusal::new(0));
-    format!("{} {} {} {}", hex(&case.form), hex(&case.sheet), refused.number, place(refused.place))
+    let refusals = [Form::check(&case.form).err(), Sheet::check(&case.sheet).err()];
+    let answer = refusals.iter().flat_map(|r| r.as_ref().map_or([0, 0], |r| [r.number, code(r.place)])).collect();
+    Case { answer, ..Case::new("check", &[], &case.form, &case.sheet) }
 }
 
 #[cfg(live)]
-fn words<T: ToString>(words: impl IntoIterator<Item = T>) -> String {
-    words.into_iter().map(|w| format!(" {}", w.to_string())).collect()
+fn state(view: &View) -> Vec<u32> {
+    let [remaining, start, end] = [view.remaining, view.scope.start, view.scope.end].map(|n| n as u32);
+    [&[view.marks.len() as u32, remaining, code(view.current), start, end], &view.marks[..]].concat()
 }
 
-/// Remaining, current, scope, count and marks.
+/// The answer and the item records after splitting.
 #[cfg(live)]
-fn state(view: &View) -> String {
-    let head = format!("{} {} {} {}", view.remaining, or_dash(view.current), view.scope.start, view.scope.end);
-    format!("{head} {}{}", view.marks.len(), words(&view.marks))
-}
-
-/// Form, sheet, refusal (0, 8 or 9), the state and the item records after splitting.
-#[cfg(live)]
-fn split_line(rng: &mut Rng) -> String {
+fn split_case(rng: &mut Rng) -> Case {
     let case = short_case(rng, 0);
     let form = Form::check(&case.form).expect("a well-made form");
     let sheet = Sheet::check(&case.sheet).expect("a well-made sheet");
     let (held, records, refused) = Held::split(&form, &sheet);
-    let refused = refused.unwrap_or(Refusal::new(0));
-    let head = format!("{} {} {} {}", hex(&case.form), hex(&case.sheet), refused.number, place(refused.place));
-    format!("{head} {}{}", state(&held.view()), words(records.iter().flatten()))
+    let (number, place) = refused.map_or((0, 0), |r| (r.number, code(r.place)));
+    let answer = [vec![number, place, 0, 0, 0, 0, 0], state(&held.view())].concat();
+    let written = list_form::bytes(&records.concat());
+    Case { answer, written, ..Case::new("split", &[], &case.form, &case.sheet) }
 }
 
-/// Form, sheet, answer (number, place, tries, words) and the state reached.
+/// The answer of a run and its words.
 #[cfg(live)]
-fn run_line(rng: &mut Rng) -> String {
+fn run_case(rng: &mut Rng) -> Case {
     let case = short_case(rng, 20);
     let ran = run_bytes(&case.form, &case.sheet, Wanted::default());
-    let a = &ran.answer;
-    let head = format!("{} {} {} {} {}", hex(&case.form), hex(&case.sheet), a.number, place(a.place), a.tries);
-    format!("{head} {}{} {}", a.words.len(), words(&a.words), state(&ran.state))
+    let answer = [ended(&ran.answer), state(&ran.state)].concat();
+    Case { answer, written: list_form::bytes(&ran.answer.words), ..Case::new("run", &[], &case.form, &case.sheet) }
 }
 
-/// Form, sheet, answer word, refusal and the bytes of the text: bpaf's own for an item, the record's for a fallback.
+/// The numbers of a run or of an evaluation.
 #[cfg(live)]
-fn text_line(rng: &mut Rng) -> String {
+fn ended(a: &Answer) -> Vec<u32> {
+    vec![a.number, code(a.place), a.tries as u32, a.words.len() as u32, 0, 0, 0]
+}
+
+/// The text of an answer word: bpaf's own for an item, the record's for a fallback.
+#[cfg(live)]
+fn text_case(rng: &mut Rng) -> Case {
     let wanted = rng.below(20);
     loop {
         let case = short_case(rng, usize::from(wanted == 0));
-        let head = |word: usize| format!("{} {} {word}", hex(&case.form), hex(&case.sheet));
+        let told = |word: usize, answer: Vec<u32>, written: Vec<u8>| {
+            Case { answer, written, ..Case::new("text", &[word as u32], &case.form, &case.sheet) }
+        };
         let checked = Form::check(&case.form).and_then(|f| Sheet::check(&case.sheet).map(|s| (f, s)));
         let (form, sheet) = match checked {
             Ok(both) => both,
-            Err(refused) => return format!("{} {} {} -", head(rng.below(300)), refused.number, place(refused.place)),
+            Err(r) => return told(rng.below(300), vec![r.number, code(r.place)], Vec::new()),
         };
         let (held, records, _) = Held::split(&form, &sheet);
         let texts: Vec<usize> = (0..form.names.len()).filter(|n| form.names[*n].ty == TEXT).collect();
@@ -167,20 +166,20 @@ fn text_line(rng: &mut Rng) -> String {
             Some(record) => texts.contains(&record).then(|| form.name(record).to_vec()),
         };
         return match text {
-            Some(bytes) => format!("{} 0 - {}", head(word), hex(&bytes)),
-            None => format!("{} 28 - -", head(word)),
+            Some(bytes) => told(word, Vec::new(), bytes),
+            None => told(word, vec![28], Vec::new()),
         };
     }
 }
 
-/// Form, sheet; the state given, the call, its answer and the state left, set apart by `;`. A call on two states names
-/// the second by a number, and its state stands last.
+/// A single call on a state, its answer and the state left. A second state is given itself, not by its number.
 #[cfg(live)]
-fn calls_line(rng: &mut Rng) -> String {
+fn calls_case(rng: &mut Rng) -> Case {
     loop {
         let case = short_case(rng, 0);
         let form = Form::check(&case.form).expect("a well-made form");
         let sheet = Sheet::check(&case.sheet).expect("a well-made sheet");
+        let records = Held::split(&form, &sheet).1;
         let Ok(mut script) = Script::new(form, &sheet) else { continue };
         for _ in 0..rng.below(6) {
             let call = script.random_call(rng);
@@ -191,9 +190,61 @@ fn calls_line(rng: &mut Rng) -> String {
             continue;
         }
         let given = state(&script.view());
-        let second = script.second_state(&call).map_or("-".to_string(), |v| state(&v));
-        let answer = script.call(&call).expect("a random call is allowed");
-        let left = state(&script.view());
-        return format!("{} {} ; {given} ; {call} ; {answer} ; {left} ; {second}", hex(&case.form), hex(&case.sheet));
+        let second = script.second_state(&call).map(|v| state(&v));
+        let said = script.call(&call).expect("a random call is allowed");
+        let words: Vec<&str> = call.split(' ').collect();
+        let numbers: Vec<u32> = words[1..].iter().map(|w| w.parse().expect("a number")).collect();
+        let told = &numbers[usize::from(second.is_some())..];
+        let (answer, written) = match words[0] {
+            "get" => got(told[0] as usize, &said, &records),
+            "eval" => evaluated(&said),
+            name => (answer(name, &said), Vec::new()),
+        };
+        let made = Case::new(words[0], told, &case.form, &case.sheet);
+        let (answer, second) = ([answer, state(&script.view())].concat(), second.unwrap_or_default());
+        return Case { given, second, answer, written: list_form::bytes(&written), ..made };
     }
+}
+
+/// The seven numbers of an answer that the script writes in words.
+#[cfg(live)]
+fn answer(call: &str, said: &str) -> Vec<u32> {
+    let words: Vec<&str> = said.split(' ').collect();
+    let place = |w: &str| code(w.parse().ok());
+    let number = |w: &str| match w {
+        "yes" | "done" => 1,
+        "no" => 0,
+        w => w.parse().expect("a number"),
+    };
+    match (call, &words[..]) {
+        (_, ["refused", n, p]) => vec![number(n), place(p), 0, 0, 0, 0, 0],
+        ("pick_winner", [first, p]) => vec![0, 0, 0, 0, number(first), place(p), 0],
+        (_, ["-"]) => vec![0; 7],
+        (_, [w @ ("yes" | "no" | "done")]) => vec![0, 0, 0, 0, number(w), 0, 0],
+        (_, [v]) => vec![0, 0, 0, 0, 1, number(v), 0],
+        (_, [v, w]) => vec![0, 0, 0, 0, 1, number(v), number(w)],
+        _ => panic!("no such answer: {said}"),
+    }
+}
+
+/// `get`: 28 for a place that is none of the items, and the record if it gives the item.
+#[cfg(live)]
+fn got(place: usize, said: &str, records: &[[u32; 7]]) -> (Vec<u32>, Vec<u32>) {
+    let number = if place < records.len() { 0 } else { 28 };
+    let record = if said == "yes" { records[place].to_vec() } else { Vec::new() };
+    (vec![number, 0, 0, 0, 0, 0, 0], record)
+}
+
+/// `eval`: number, place, tries and words, as the script writes them.
+#[cfg(live)]
+fn evaluated(said: &str) -> (Vec<u32>, Vec<u32>) {
+    let numbers: Vec<Option<usize>> = said.split(' ').map(|w| w.parse().ok()).collect();
+    let words: Vec<u32> = numbers[5..].iter().map(|w| w.expect("a word") as u32).collect();
+    let answer = Answer {
+        number: numbers[0].expect("a number") as u32,
+        place: numbers[1],
+        tries: numbers[3].expect("tries") as _,
+        words: words.clone(),
+    };
+    (ended(&answer), words)
 }

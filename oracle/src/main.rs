@@ -10,12 +10,14 @@ mod compare;
 mod equations;
 #[cfg(live)]
 mod lines;
+mod list_form;
 mod lists;
 #[cfg(live)]
 mod program;
 #[cfg(live)]
 mod script;
 
+use std::io::Write;
 use std::process::ExitCode;
 
 const USAGE: &str = "\
@@ -24,8 +26,9 @@ oracle compare LAYER [SEED COUNT]  the proved code against the Rust, in this pro
 oracle read FORM [ARGUMENT..]      a command line read under a form: items and values, by the proved code
 oracle split FORM [ARGUMENT..]     a command line split into items, by the proved code
 oracle utf8 [ARGUMENT..]           each argument's characters, by the proved code
-oracle list LAYER SEED COUNT       a fixed list of a layer: utf8, check, and live: split, run, text, calls
-oracle lists FILE..                make each list again by its first line and compare
+oracle list LAYER SEED COUNT       writes a fixed list of a layer: utf8, check, and live: split, run, text, calls
+oracle lists FILE..                make each list again by the command in it and compare
+oracle show FILE                   a fixed list as text, a line a case (see README.md)
 oracle replay FILE..               fixed lists, by the proved code
 live, with bpaf's source:
 oracle bench                       form and sheet joined on standard input; prints what bench prints
@@ -57,6 +60,7 @@ fn main() -> ExitCode {
         "read" if words.len() >= 2 => compare::show_run(&words[1]),
         "split" if words.len() >= 2 => compare::show_split(&words[1]),
         "list" if words.len() == 4 => print_list(&words),
+        "show" if words.len() == 2 => show_list(&words[1]),
         "replay" => each_file(&words[1..], replayed),
         "lists" => each_file(&words[1..], same_list),
         _ => live(first, &words),
@@ -90,21 +94,33 @@ fn compare(words: &[String]) -> bool {
 
 fn print_list(words: &[String]) -> bool {
     match lists::list(&words[1], number(words, 2, 1), number(words, 3, 1) as usize) {
-        Some(text) => print!("{text}"),
+        Some(list) => std::io::stdout().write_all(&list).is_ok(),
         None => {
             println!("this build has no layer {}", words[1]);
-            return false;
+            false
         }
     }
-    true
+}
+
+fn read(file: &str) -> Vec<u8> {
+    std::fs::read(file).unwrap_or_else(|e| panic!("{file}: {e}"))
+}
+
+/// A list as text: the command that makes it, then a line a case.
+fn show_list(file: &str) -> bool {
+    let Some((command, cases)) = list_form::read(&read(file)) else {
+        println!("{file}: no list");
+        return false;
+    };
+    let lines: String = cases.iter().map(|case| case.show() + "\n").collect();
+    std::io::stdout().write_all(format!("# {command}\n{lines}").as_bytes()).is_ok()
 }
 
 /// Whether the proved code gives the answers of a list. One that is not run has not passed.
 fn replayed(file: &str) -> bool {
-    let text = std::fs::read_to_string(file).unwrap_or_else(|e| panic!("{file}: {e}"));
-    match compare::replay(&text) {
+    match compare::replay(&read(file)) {
         None => {
-            println!("{file}: no such layer");
+            println!("{file}: no list");
             false
         }
         Some((cases, differ)) => {
@@ -114,34 +130,34 @@ fn replayed(file: &str) -> bool {
     }
 }
 
-/// Whether a committed list is the one that its first line makes. One that this build cannot make has not passed.
+/// Whether a committed list is the one that its command makes. One that this build cannot make has not passed.
 fn same_list(file: &str) -> bool {
-    let text = std::fs::read_to_string(file).unwrap_or_else(|e| panic!("{file}: {e}"));
-    let head: Vec<&str> = text.lines().next().unwrap_or("").split(' ').collect();
-    let ["#", "oracle", "list", layer, seed, count] = head[..] else {
-        println!("{file}: the first line is no command");
+    let list = read(file);
+    let Some((command, cases)) = list_form::read(&list) else {
+        println!("{file}: no list");
         return false;
     };
-    let numbers = (seed.parse::<u64>(), count.parse::<usize>());
-    let (Ok(seed), Ok(count)) = numbers else {
-        println!("{file}: the first line is no command");
+    let command: Vec<&str> = command.split(' ').collect();
+    let ["oracle", "list", layer, seed, count] = command[..] else {
+        println!("{file}: no command in it");
         return false;
     };
-    match lists::list(layer, seed, count) {
-        None => {
-            println!("{file}: this build has no layer {layer}");
-            false
-        }
-        Some(made) if made == text => {
-            println!("{file}: {count} cases, the same");
-            count > 0
-        }
-        Some(made) => {
-            let differs = made.lines().zip(text.lines()).position(|(a, b)| a != b);
-            println!("{file}: DIFFERS at line {}", differs.map_or("the end".to_string(), |n| (n + 1).to_string()));
-            false
-        }
+    let (Ok(seed), Ok(count)) = (seed.parse::<u64>(), count.parse::<usize>()) else {
+        println!("{file}: no command in it");
+        return false;
+    };
+    let Some(made) = lists::list(layer, seed, count) else {
+        println!("{file}: this build has no layer {layer}");
+        return false;
+    };
+    if made == list {
+        println!("{file}: {count} cases, the same");
+        return count > 0;
     }
+    let made = list_form::read(&made).expect("a list").1;
+    let differs = made.iter().zip(&cases).position(|(a, b)| a.show() != b.show());
+    println!("{file}: DIFFERS at case {}", differs.map_or("the end".to_string(), |n| (n + 1).to_string()));
+    false
 }
 
 #[cfg(not(live))]

@@ -9,6 +9,10 @@ pub const ITEM_WORDS: usize = 1792;
 pub const ANSWER_WORDS: usize = 8240;
 
 /// A place is handed over as itself plus 1, and none as 0.
+pub fn place(code: u32) -> Option<usize> {
+    code.checked_sub(1).map(|place| place as usize)
+}
+
 #[repr(C)]
 #[derive(Clone, Copy, Debug, PartialEq, Eq)]
 pub struct Refused {

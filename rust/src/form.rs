@@ -1,15 +1,11 @@
 //! Forms: which options exist, checked when they are made.
 
-use std::ffi::OsStr;
-use std::fmt;
-
+use crate::ffi;
+use crate::form_error::FormError;
+use crate::form_words;
+use crate::kind::{Base, Kind};
 use crate::layout::{self, Layout};
-use crate::line::Line;
 use crate::node::{Fallback, Node};
-use crate::read_error::ReadError;
-use crate::reader::Reader;
-use crate::value::{Base, Kind, Value};
-use crate::{ffi, form_words};
 
 /// Which options exist, as data: the fields in order, each a [`Node`]. A form that exists has passed the form check.
 #[derive(Clone, Debug, PartialEq, Eq)]
@@ -33,7 +29,7 @@ impl Form {
     pub fn from_bytes(bytes: &[u8]) -> Result<Form, FormError> {
         let refused = ffi::form_check(bytes);
         if refused.number != 0 {
-            return Err(form_words::why(bytes, refused.number, place(refused.place)));
+            return Err(form_words::why(bytes, refused.number, ffi::place(refused.place)));
         }
         let layout = Layout::of(bytes);
         let kinds = (0..layout.fields()).map(|field| kind(bytes, layout.field(field))).collect();
@@ -68,13 +64,6 @@ impl Form {
         ffi::portable(&self.bytes).answer == 1
     }
 
-    /// Reads a line: a value for each field, in order. The arguments are those behind the program's name.
-    ///
-    /// A [`Reader`] does the same and keeps its buffers from line to line.
-    pub fn read_values<'a, A: AsRef<OsStr>>(&'a self, args: &'a [A]) -> Result<Line<'a, Vec<Value<'a>>>, ReadError> {
-        Reader::new().read_values(self, args)
-    }
-
     pub(crate) fn kinds(&self) -> &[Kind] {
         &self.kinds
     }
@@ -88,52 +77,3 @@ impl Form {
 fn kind(form: &[u8], node: usize) -> Kind {
     Kind::of_code(ffi::kind(form, node).answer).expect("every node of an accepted form has a kind")
 }
-
-/// A place is handed out as itself plus 1, and none as 0.
-pub(crate) fn place(code: u32) -> Option<usize> {
-    code.checked_sub(1).map(|place| place as usize)
-}
-
-/// Why a form was refused. Its `Display` says in words what is at fault and why.
-#[derive(Clone, Debug, PartialEq, Eq)]
-pub struct FormError {
-    number: u32,
-    place: Option<usize>,
-    /// the name record or the node at fault, in words
-    subject: Option<String>,
-    reason: String,
-}
-
-impl FormError {
-    pub(crate) fn new(number: u32, place: Option<usize>, subject: Option<String>, reason: String) -> FormError {
-        FormError { number, place, subject, reason }
-    }
-
-    /// The refusal's number: 1 counts or length, 2 a name, 3 a node, 4 how nodes are used.
-    pub fn number(&self) -> u32 {
-        self.number
-    }
-
-    /// The number of the name record (2) or of the node (3, 4) at fault, if the refusal has one. Nodes and names are numbered
-    /// in the order in which they were put together: fields in order, what is beneath a node before it, a choice's first side
-    /// before its second.
-    pub fn place(&self) -> Option<usize> {
-        self.place
-    }
-
-    /// What is wrong, without the node or name record that `Display` puts before it.
-    pub fn reason(&self) -> &str {
-        &self.reason
-    }
-}
-
-impl fmt::Display for FormError {
-    fn fmt(&self, f: &mut fmt::Formatter<'_>) -> fmt::Result {
-        match &self.subject {
-            Some(subject) => write!(f, "{subject}: {}", self.reason),
-            None => f.write_str(&self.reason),
-        }
-    }
-}
-
-impl std::error::Error for FormError {}

@@ -1,10 +1,10 @@
 //! Why a form was refused, in words. The proved check decides; what is here only finds the words.
 
-use crate::form::FormError;
+use crate::form_error::FormError;
+use crate::kind::{Base, Kind};
 use crate::layout::{Layout, AREA, FIELDS, NAMES, NODES};
 use crate::node::{kind, Node, Record, LONG, MISPLACED, SHORT, TEXT};
 use crate::shown::{quoted, shown};
-use crate::value::{Base, Kind};
 
 /// How deep a node is shown: nodes at fault may share children, so a whole tree may be endless for people.
 const DEPTH: usize = 4;

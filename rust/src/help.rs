@@ -5,7 +5,8 @@ use std::fmt;
 use std::marker::PhantomData;
 use std::os::unix::ffi::OsStrExt;
 
-use crate::form::{Form, FormError};
+use crate::form::Form;
+use crate::form_error::FormError;
 use crate::form_words;
 use crate::item::{Item, ItemKind};
 use crate::names::short;

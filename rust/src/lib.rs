@@ -47,27 +47,47 @@
 #![deny(unsafe_code)]
 #![warn(missing_docs)]
 
+// The files, lowest first: each imports only those above it (rust/test looks).
+
 #[allow(unsafe_code)]
 mod ffi;
-mod form;
-mod form_words;
-mod help;
+mod form_error;
 mod item;
-mod layout;
-mod line;
+mod kind;
 mod names;
-mod needs;
-mod node;
-mod parser;
-mod read_error;
-mod read_words;
-mod reader;
 pub mod shape;
 mod shown;
-mod typed;
+
+// forms: put together, written as bytes, checked
+mod node;
+
+mod layout;
+
+mod form_words;
+
+mod form;
+mod needs;
+
+// lines: run, and what is told of them
+mod run;
+
+mod line;
+mod read_words;
 mod value;
 
-pub use form::{Form, FormError};
+mod read_error;
+
+mod reader;
+
+// both with types
+mod parser;
+
+mod typed;
+
+mod help;
+
+pub use form::Form;
+pub use form_error::FormError;
 pub use help::{Answer, HelpForm};
 pub use item::{Item, ItemKind, Mark};
 pub use line::Line;

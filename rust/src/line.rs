@@ -1,7 +1,7 @@
 //! A line that was read.
 
 use crate::item::Item;
-use crate::reader::Run;
+use crate::run::Run;
 
 /// A line that was accepted: its values, and what they were read from.
 #[derive(Clone, Debug, PartialEq, Eq)]

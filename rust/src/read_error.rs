@@ -3,12 +3,13 @@
 use std::ffi::{OsStr, OsString};
 use std::fmt;
 use std::ops::Range;
+use std::os::unix::ffi::OsStrExt;
 
-use crate::form::place;
+use crate::ffi;
 use crate::item::{Area, Item};
 use crate::read_words::{sentence, spot};
-use crate::reader::Run;
-use crate::shown::underlined;
+use crate::run::Run;
+use crate::shown::{underlined, ShownArgument};
 
 /// Why a line was refused. Its `Display` says in words what was refused, and shows the line with the place underlined.
 ///
@@ -34,7 +35,7 @@ struct Inner {
 impl ReadError {
     pub(crate) fn new(run: &Run) -> ReadError {
         let answer = &run.answer;
-        let (place, items) = (place(answer.place), run.items());
+        let (place, items) = (ffi::place(answer.place), run.items());
         let split = !run.records.is_empty();
         ReadError(Box::new(Inner {
             number: answer.number,
@@ -88,12 +89,25 @@ fn starts<'r>(args: &'r [&OsStr]) -> impl Iterator<Item = usize> + 'r {
     })
 }
 
+impl Inner {
+    /// The program and the arguments on a line, with carets under a part of one of them.
+    fn line(&self, argument: usize, part: &Range<usize>) -> String {
+        let words = self.program.iter().chain(&self.args);
+        let shown: Vec<ShownArgument> = words.map(|word| ShownArgument::new(word.as_bytes(), usize::MAX)).collect();
+        let (before, from) = shown.split_at(self.program.iter().len() + argument);
+        let (start, columns) = (before.iter().map(|word| word.width + 1).sum::<usize>(), from[0].columns(part));
+        let texts: Vec<&str> = shown.iter().map(|word| word.text.as_str()).collect();
+        underlined(&texts.join(" "), start + columns.start..start + columns.end)
+    }
+}
+
 impl fmt::Display for ReadError {
     fn fmt(&self, f: &mut fmt::Formatter<'_>) -> fmt::Result {
         f.write_str(&self.0.sentence)?;
-        let Some((argument, part)) = &self.0.spot else { return Ok(()) };
-        let args: Vec<&OsStr> = self.0.args.iter().map(OsString::as_os_str).collect();
-        write!(f, "\n{}", underlined(self.0.program.as_deref(), &args, *argument, part))
+        match &self.0.spot {
+            Some((argument, part)) => write!(f, "\n{}", self.0.line(*argument, part)),
+            None => Ok(()),
+        }
     }
 }
 

@@ -6,7 +6,7 @@ use std::os::unix::ffi::OsStrExt;
 use crate::item::{Item, ItemKind, Mark};
 use crate::needs::{has_option, required};
 use crate::node::{LONG, SHORT};
-use crate::reader::{Run, ARGUMENTS};
+use crate::run::{Run, ARGUMENTS};
 use crate::shown::quoted;
 
 /// What was refused, in a sentence.

@@ -3,16 +3,12 @@
 use std::ffi::OsStr;
 use std::os::unix::ffi::OsStrExt;
 
-use crate::ffi::{self, RunAnswer};
+use crate::ffi;
 use crate::form::Form;
-use crate::item::{Area, Item};
 use crate::line::Line;
 use crate::read_error::ReadError;
-use crate::typed::{Kinds, TypedForm};
+use crate::run::{Run, ARGUMENTS};
 use crate::value::{Value, Words};
-
-/// The most arguments of a line.
-pub(crate) const ARGUMENTS: usize = 256;
 
 /// The buffers of a read, kept from line to line: [`read`](Reader::read) then allocates nothing but its values and a list of
 /// references to its arguments, [`read_values`](Reader::read_values) the items besides.
@@ -22,18 +18,6 @@ pub struct Reader {
     starts: Vec<usize>,
     items: Vec<u32>,
     answers: Vec<u32>,
-}
-
-/// What a run left, with what it was run on.
-pub struct Run<'r, 'a> {
-    pub(crate) form: &'a Form,
-    pub(crate) args: Vec<&'a OsStr>,
-    pub(crate) answer: RunAnswer,
-    /// where each argument begins in the sheet's area
-    pub(crate) starts: &'r [usize],
-    /// the records of the items
-    pub(crate) records: &'r [u32],
-    pub(crate) words: &'r [u32],
 }
 
 impl Reader {
@@ -53,16 +37,6 @@ impl Reader {
         let mut words = Words::new(&run);
         let values = form.kinds().iter().map(|kind| words.value(*kind)).collect();
         Ok(Line::new(values, &run))
-    }
-
-    /// Reads a line under a form with types, as [`TypedForm::read`] does.
-    pub fn read<'a, K: Kinds, A: AsRef<OsStr>>(
-        &mut self,
-        form: &'a TypedForm<K>,
-        args: &'a [A],
-    ) -> Result<K::Values<'a>, ReadError> {
-        let run = self.run(form.form(), args)?;
-        Ok(K::read(&mut Words::new(&run)))
     }
 
     /// Runs a form on a line, to its values or its refusal.
@@ -106,31 +80,20 @@ impl Default for Reader {
     }
 }
 
-impl<'a> Run<'_, 'a> {
-    pub(crate) fn area(&self) -> Area<'_, 'a> {
-        Area { args: &self.args, starts: self.starts }
-    }
-
-    pub(crate) fn items(&self) -> Vec<Item<'a>> {
-        self.area().items(self.records, &self.answer.state.marks)
-    }
-
-    /// The text that an answer word stands for: an item's, or from 256 on a name record's.
-    pub(crate) fn text(&self, word: u32) -> &'a OsStr {
-        match word.checked_sub(256) {
-            Some(record) => OsStr::from_bytes(self.form.layout().name(record as usize).1),
-            None => {
-                let at = 7 * word as usize;
-                self.area().part(self.records[at + 5], self.records[at + 6])
-            }
-        }
+impl Form {
+    /// Reads a line: a value for each field, in order. The arguments are those behind the program's name.
+    ///
+    /// A [`Reader`] does the same and keeps its buffers from line to line.
+    pub fn read_values<'a, A: AsRef<OsStr>>(&'a self, args: &'a [A]) -> Result<Line<'a, Vec<Value<'a>>>, ReadError> {
+        Reader::new().read_values(self, args)
     }
 }
 
 #[cfg(test)]
 mod tests {
     use super::*;
-    use crate::{names::short, node::Node};
+    use crate::names::short;
+    use crate::node::Node;
 
     /// No caller can make a reader with short buffers; if there were one, the run would refuse it.
     #[test]

@@ -1,8 +1,6 @@
-//! Bytes as they are shown to people: nothing that a terminal would act on or leave out.
+//! Bytes as they are shown to people: nothing that a terminal would act on or leave out. The command shows them so too.
 
-use std::ffi::OsStr;
 use std::ops::Range;
-use std::os::unix::ffi::OsStrExt;
 
 /// Columns of a shown line; of a longer one, what stands around the place.
 const WIDTH: usize = 100;
@@ -15,7 +13,8 @@ fn units(bytes: &[u8]) -> impl Iterator<Item = (usize, String)> + '_ {
     })
 }
 
-fn shown_char(c: char) -> String {
+/// A character, escaped if it is not printable.
+pub(crate) fn shown_char(c: char) -> String {
     match c {
         '\'' => c.to_string(),
         _ => c.escape_debug().collect(),
@@ -32,52 +31,59 @@ pub(crate) fn quoted(bytes: &[u8]) -> String {
     format!("`{}`", shown(bytes))
 }
 
-/// An argument as it stands in a shown line, and the columns of a part of it. In double quotes if it is empty or has a space.
-fn argument(bytes: &[u8], part: &Range<usize>) -> (String, Range<usize>) {
-    let quote = bytes.is_empty() || bytes.contains(&b' ');
-    let mut text = String::from(if quote { "\"" } else { "" });
-    let (mut at, mut columns) = (0, None::<Range<usize>>);
-    let mut column = text.len();
-    for (length, unit) in units(bytes) {
-        let width = unit.chars().count();
-        if part.contains(&at) {
-            columns.get_or_insert(column..column).end = column + width;
-        }
-        text.push_str(&unit);
-        (at, column) = (at + length, column + width);
-    }
-    if quote {
-        text.push('"');
-    }
-    let nothing = if bytes.is_empty() { 0..2 } else { column..column + 1 };
-    (text, columns.unwrap_or(nothing))
+/// An argument as it stands in a shown line.
+pub(crate) struct ShownArgument {
+    pub text: String,
+    /// the columns of the text
+    pub width: usize,
+    /// for each byte of the argument, and for its end, the column where it is shown
+    columns: Vec<usize>,
 }
 
-/// The arguments on a line, and below them carets under a part of one of them.
-pub(crate) fn underlined(program: Option<&OsStr>, args: &[&OsStr], at: usize, part: &Range<usize>) -> String {
-    let mut line: Vec<char> = Vec::new();
-    let mut columns = 0..0;
-    if let Some(program) = program {
-        line.extend(argument(program.as_bytes(), &(0..0)).0.chars());
-    }
-    for (k, arg) in args.iter().enumerate() {
-        if !line.is_empty() {
-            line.push(' ');
+impl ShownArgument {
+    /// In double quotes if it is empty or has a space; cut off with dots if it is wider than `most`.
+    pub fn new(bytes: &[u8], most: usize) -> ShownArgument {
+        let quote = if bytes.is_empty() || bytes.contains(&b' ') { "\"" } else { "" };
+        let mut text = quote.to_string();
+        let (mut width, mut columns) = (quote.len(), Vec::with_capacity(bytes.len() + 1));
+        for (length, unit) in units(bytes) {
+            columns.extend(std::iter::repeat_n(width, length));
+            width += unit.chars().count();
+            text.push_str(&unit);
         }
-        let (text, within) = argument(arg.as_bytes(), part);
-        if k == at {
-            columns = line.len() + within.start..line.len() + within.end;
+        columns.push(width);
+        text.push_str(quote);
+        width += quote.len();
+        if width > most {
+            text = text.chars().take(most - 3).chain("...".chars()).collect();
+            width = most;
         }
-        line.extend(text.chars());
+        ShownArgument { text, width, columns }
     }
-    let (line, columns) = window(&line, columns);
+
+    /// The columns of some of its bytes, one at least. Those of an empty argument are its quotes; what was cut off stands under
+    /// the dots.
+    pub fn columns(&self, part: &Range<usize>) -> Range<usize> {
+        if self.columns.len() == 1 {
+            return 0..self.width;
+        }
+        let (from, to) = (self.columns[part.start], self.columns[part.end]);
+        let from = if to > self.width { from.min(self.width - 3) } else { from };
+        from..to.min(self.width).max(from + 1)
+    }
+}
+
+/// A line, and below it carets under some of its columns.
+pub(crate) fn underlined(line: &str, columns: Range<usize>) -> String {
+    let (line, columns) = window(line, columns);
     format!("  {line}\n  {}{}", " ".repeat(columns.start), "^".repeat(columns.len()))
 }
 
 /// The line, or if it is too wide what stands about the columns, with dots where it was cut.
-fn window(line: &[char], columns: Range<usize>) -> (String, Range<usize>) {
+fn window(line: &str, columns: Range<usize>) -> (String, Range<usize>) {
+    let line: Vec<char> = line.chars().collect();
     if line.len() <= WIDTH {
-        return (line.iter().collect(), columns);
+        return (line.into_iter().collect(), columns);
     }
     let from = columns.start.saturating_sub(WIDTH / 2);
     let to = line.len().min(from + WIDTH);

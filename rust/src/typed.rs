@@ -4,7 +4,8 @@ use std::ffi::OsStr;
 use std::fmt;
 use std::marker::PhantomData;
 
-use crate::form::{Form, FormError};
+use crate::form::Form;
+use crate::form_error::FormError;
 use crate::line::Line;
 use crate::node::Node;
 use crate::parser::{Kind, Parser};
@@ -124,5 +125,17 @@ impl<K: Kinds> TypedForm<K> {
 
     pub(crate) fn fields(&self) -> &[Node] {
         &self.fields
+    }
+}
+
+impl Reader {
+    /// Reads a line under a form with types, as [`TypedForm::read`] does.
+    pub fn read<'a, K: Kinds, A: AsRef<OsStr>>(
+        &mut self,
+        form: &'a TypedForm<K>,
+        args: &'a [A],
+    ) -> Result<K::Values<'a>, ReadError> {
+        let run = self.run(form.form(), args)?;
+        Ok(K::read(&mut Words::new(&run)))
     }
 }

@@ -67,7 +67,12 @@ module _ (o : List ℕ) (at : ℕ) where
   pub appends-none : at ≤ length o → Appends o at o at []
   appends-none h = record { text = sym (append-nil (take at o)); rest = refl; size = omega arith; inside = h }
 
-  pub appends-more : (o₁ : List ℕ) (e₁ : ℕ) (p : List ℕ) → Appends o at o₁ e₁ p → (o₂ : List ℕ) (e₂ : ℕ) (q : List ℕ) → Appends o₁ e₁ o₂ e₂ q → Appends o at o₂ e₂ (p ++ q)
+  pub appends-more :
+      (o₁ : List ℕ) (e₁ : ℕ) (p : List ℕ)
+      → Appends o at o₁ e₁ p
+      → (o₂ : List ℕ) (e₂ : ℕ) (q : List ℕ)
+      → Appends o₁ e₁ o₂ e₂ q
+      → Appends o at o₂ e₂ (p ++ q)
   appends-more o₁ e₁ p g o₂ e₂ q h = record {
     text = h .text ∙ ap (λ (t : List ℕ). t ++ q) (g .text) ∙ append-assoc (take at o) p q;
     rest = h .rest ∙ rw (h .size) (drop-more (length q) e₁ o₁ o (g .rest));

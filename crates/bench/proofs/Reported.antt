@@ -18,8 +18,8 @@ use Rattle.rules.specs.Given.{roomIn, inputIn}
 use Rattle.rules.specs.Bench.{firstLine, wordLine, benchText, bench}
 use Rattle.rules.specs.Codes.{placeOf}
 use Rattle.rules.proofs.CodeLaws.{place-code}
-use Rattle.runner.specs.Runner.{Ended, runAnswer, ended}
-use Rattle.runner.specs.declared.RunAnswer.{RunAnswer}
+use Rattle.run.specs.Runner.{Ended, runAnswer, ended}
+use Rattle.run_fields.specs.declared.RunAnswer.{RunAnswer}
 use Rattle.bench.specs.Text.{Appends, lineText}
 use Rattle.bench.proofs.Appending.{appends-more}
 

@@ -36,9 +36,9 @@ fn answer(input: &[u8], out: &mut [u8]) -> usize
 {
     let mut items = [0u32; 1792];
     let mut answers = [0u32; 8240];
-    let form = ends::form_part(input);
-    let sheet = ends::sheet_part(input);
-    let ran = runner::run(form, sheet, &mut items, &mut answers);
+    let form = bench_input::form_part(input);
+    let sheet = bench_input::sheet_part(input);
+    let ran = run::run(form, sheet, &mut items, &mut answers);
     let end = output::first_line(out, ran.number, ran.place, ran.tries, ran.words);
     let count = size(ran.words);
     output::append_words(out, end, &answers[..count])

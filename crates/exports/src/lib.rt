@@ -9,15 +9,15 @@ ghost use Rattle.rules.specs.Accept.{checkForm};
 ghost use Rattle.rules.specs.Codes.{checkCode, kindCode};
 ghost use Rattle.rules.specs.Calls.{callKind, callPortable, callSplit};
 ghost use Rattle.rules.specs.Run as Run;
-ghost use Rattle.runner.specs.Runner.{runAnswer};
-ghost use Rattle.reader.specs.Reader.{sheetCode, told, yesCode, splittingOf};
-ghost use Rattle.text.specs.Text.{PartOf};
+ghost use Rattle.run.specs.Runner.{runAnswer};
+ghost use Rattle.call_check.specs.Reader.{sheetCode, told, yesCode, splittingOf};
+ghost use Rattle.call_text.specs.Text.{PartOf};
 ghost use Rattle.exports.specs.Exports.{decoding};
-use reader::SplitAnswer;
-use reader::Told;
+use call_check::SplitAnswer;
+use call_check::Told;
+use call_text::TextPart;
 use rules::Refused;
-use runner::RunAnswer;
-use text::TextPart;
+use run_fields::RunAnswer;
 use utf8::Decoded;
 
 // The character at a place. Where there is none, found is false and the numbers are 0.
@@ -58,42 +58,42 @@ pub extern "C" fn silverpoise_utf8_decode(s: &[u8], at: usize) -> Decoding
 pub extern "C" fn silverpoise_form_check(form: &[u8]) -> Refused
     ensures { λ r. ⌜ r ≡ checkCode (checkForm (now (form .entry))) ⌝ }
 {
-    reader::form_check(form)
+    call_check::form_check(form)
 }
 
 #[no_mangle]
 pub extern "C" fn silverpoise_sheet_check(sheet: &[u8]) -> Refused
     ensures { λ r. ⌜ r ≡ sheetCode (sheetFault (now (sheet .entry))) ⌝ }
 {
-    reader::sheet_check(sheet)
+    call_check::sheet_check(sheet)
 }
 
 #[no_mangle]
 pub extern "C" fn silverpoise_kind(form: &[u8], node: usize) -> Told
     ensures { λ r. ⌜ told kindCode (callKind (now (form .entry)) node) ≡ some r ⌝ }
 {
-    reader::kind(form, node)
+    call_check::kind(form, node)
 }
 
 #[no_mangle]
 pub extern "C" fn silverpoise_portable(form: &[u8]) -> Told
     ensures { λ r. ⌜ told yesCode (callPortable (now (form .entry))) ≡ some r ⌝ }
 {
-    reader::portable(form)
+    call_check::portable(form)
 }
 
 #[no_mangle]
 pub extern "C" fn silverpoise_split(form: &[u8], sheet: &[u8], items: &mut [u32]) -> SplitAnswer
     ensures { λ r. ⌜ callSplit (now (form .entry)) (now (sheet .entry)) (length (now (items .entry))) ≡ ok (splittingOf r (now (items .exit))) ⌝ }
 {
-    reader::split(form, sheet, items)
+    call_check::split(form, sheet, items)
 }
 
 #[no_mangle]
 pub extern "C" fn silverpoise_text(form: &[u8], sheet: &[u8], items: &[u32], word: u32) -> TextPart
     ensures { λ r. ⌜ PartOf (now (form .entry)) (now (sheet .entry)) (now (items .entry)) word r ⌝ }
 {
-    text::text_part(form, sheet, items, word)
+    call_text::text_part(form, sheet, items, word)
 }
 
 #[no_mangle]
@@ -105,5 +105,5 @@ pub extern "C" fn silverpoise_run(
 ) -> RunAnswer
     ensures { λ r. ⌜ runAnswer (Run.run (now (form .entry)) (now (sheet .entry)) (length (now (items .entry))) (length (now (answers .entry)))) ≡ some (record { answer = r; items = now (items .exit); answers = now (answers .exit) }) ⌝ }
 {
-    runner::run(form, sheet, items, answers)
+    run::run(form, sheet, items, answers)
 }

@@ -7,89 +7,89 @@ ghost use Rattle.rules.specs.Calls.{callRemove, callPickWinner, callSaveConflic
 ghost use Rattle.rules.specs.Calls.{callConflict, callTakePositional, callOnlyOnce};
 ghost use Rattle.rules.specs.Calls.{callMatches, callTakeFlag, callTakeArg, callTakeCmd};
 ghost use Rattle.rules.specs.Calls.{callEval};
-ghost use Rattle.error.specs.Refusals.{refusalOf, refusedOf};
-ghost use Rattle.answers.specs.Answers.{answerOf, stateAnswerOf, plainAnswer};
-ghost use Rattle.answers.specs.Answers.{yesCode as doneCode, pickCode, scopeCode, scopeOrNone, conflictCode, operandCode, placeOrNone, takenCode};
-ghost use Rattle.item_calls.specs.Calls.{Gets};
-ghost use Rattle.in_place.specs.Joined.{joined};
-ghost use Rattle.item_search.specs.Records.{callFind};
-ghost use Rattle.node_call.specs.Node.{evaluatedAnswer};
-use answers::Answer;
-use answers::StateAnswer;
-use item_calls::Got;
-use item_search::ItemRecord;
-use node_call::NodeAnswer;
+ghost use Rattle.eval_error.specs.Refusals.{refusalOf, refusedOf};
+ghost use Rattle.call_answers.specs.Answers.{answerOf, stateAnswerOf, plainAnswer};
+ghost use Rattle.call_answers.specs.Answers.{yesCode as doneCode, pickCode, scopeCode, scopeOrNone, conflictCode, operandCode, placeOrNone, takenCode};
+ghost use Rattle.call_item.specs.Calls.{Gets};
+ghost use Rattle.call_lent.specs.Joined.{joined};
+ghost use Rattle.call_find.specs.Records.{callFind};
+ghost use Rattle.call_node.specs.Node.{evaluatedAnswer};
+use call_answers::Answer;
+use call_answers::StateAnswer;
+use call_find::ItemRecord;
+use call_item::Got;
 use rules::Refused;
 use rules::State;
+use run_fields::RunAnswer;
 
 #[no_mangle]
 pub extern "C" fn silverpoise_remove(s: State, place: usize) -> StateAnswer
     ensures { λ r. ⌜ stateAnswerOf doneCode (callRemove s place) ≡ some r ⌝ }
 {
-    state_calls::remove(s, place)
+    call_state::remove(s, place)
 }
 
 #[no_mangle]
 pub extern "C" fn silverpoise_pick_winner(s: State, t: State) -> Answer
     ensures { λ r. ⌜ answerOf pickCode (callPickWinner s t) ≡ some r ⌝ }
 {
-    state_calls::pick_winner(s, t)
+    call_state::pick_winner(s, t)
 }
 
 #[no_mangle]
 pub extern "C" fn silverpoise_save_conflicts(s: State, loser: State, winner: usize) -> StateAnswer
     ensures { λ r. ⌜ stateAnswerOf doneCode (callSaveConflicts s loser winner) ≡ some r ⌝ }
 {
-    state_calls::save_conflicts(s, loser, winner)
+    call_state::save_conflicts(s, loser, winner)
 }
 
 #[no_mangle]
 pub extern "C" fn silverpoise_set_scope(s: State, from: usize, to: usize) -> StateAnswer
     ensures { λ r. ⌜ stateAnswerOf doneCode (callSetScope s from to) ≡ some r ⌝ }
 {
-    state_calls::set_scope(s, from, to)
+    call_state::set_scope(s, from, to)
 }
 
 #[no_mangle]
 pub extern "C" fn silverpoise_adjacent_scope(s: State, original: State) -> Answer
     ensures { λ r. ⌜ answerOf scopeOrNone (callAdjacentScope s original) ≡ some r ⌝ }
 {
-    state_calls::adjacent_scope(s, original)
+    call_state::adjacent_scope(s, original)
 }
 
 #[no_mangle]
 pub extern "C" fn silverpoise_adjacently_available_from(s: State, from: usize) -> Answer
     ensures { λ r. ⌜ answerOf scopeCode (callAvailableFrom s from) ≡ some r ⌝ }
 {
-    state_calls::adjacently_available_from(s, from)
+    call_state::adjacently_available_from(s, from)
 }
 
 #[no_mangle]
 pub extern "C" fn silverpoise_can_catch(number: u32) -> bool
     ensures { λ r. ⌜ r ≡ canCatch (refuse number none) ⌝ }
 {
-    error::can_catch(number)
+    eval_error::can_catch(number)
 }
 
 #[no_mangle]
 pub extern "C" fn silverpoise_wrong_input(number: u32) -> bool
     ensures { λ r. ⌜ r ≡ wrongInput (refuse number none) ⌝ }
 {
-    error::wrong_input(number)
+    eval_error::wrong_input(number)
 }
 
 #[no_mangle]
 pub extern "C" fn silverpoise_combine_with(a: Refused, b: Refused) -> Refused
     ensures { λ r. ⌜ r ≡ refusedOf (combineWith (refusalOf a) (refusalOf b)) ⌝ }
 {
-    error::combine_with(a, b)
+    eval_error::combine_with(a, b)
 }
 
 #[no_mangle]
 pub extern "C" fn silverpoise_conflict(sheet: &[u8], items: &[u32], s: State) -> Answer
     ensures { λ r. ⌜ answerOf conflictCode (callConflict (now (sheet .entry)) (now (items .entry)) s) ≡ some r ⌝ }
 {
-    item_calls::conflict(sheet, items, s)
+    call_item::conflict(sheet, items, s)
 }
 
 #[no_mangle]
@@ -100,21 +100,21 @@ pub extern "C" fn silverpoise_take_positional_word(
 ) -> StateAnswer
     ensures { λ r. ⌜ stateAnswerOf operandCode (callTakePositional (now (sheet .entry)) (now (items .entry)) s) ≡ some r ⌝ }
 {
-    item_calls::take_positional_word(sheet, items, s)
+    call_item::take_positional_word(sheet, items, s)
 }
 
 #[no_mangle]
 pub extern "C" fn silverpoise_only_once(sheet: &[u8], items: &[u32], place: usize) -> Answer
     ensures { λ r. ⌜ plainAnswer placeOrNone (callOnlyOnce (now (sheet .entry)) (now (items .entry)) place) ≡ some r ⌝ }
 {
-    item_calls::only_once(sheet, items, place)
+    call_item::only_once(sheet, items, place)
 }
 
 #[no_mangle]
 pub extern "C" fn silverpoise_get(sheet: &[u8], items: &[u32], s: State, place: usize) -> Got
     ensures { λ r. ⌜ Gets (now (sheet .entry)) (now (items .entry)) s place r ⌝ }
 {
-    item_calls::get(sheet, items, s, place)
+    call_item::get(sheet, items, s, place)
 }
 
 #[no_mangle]
@@ -128,7 +128,7 @@ pub extern "C" fn silverpoise_matches_arg(
 ) -> Answer
     ensures { λ r. ⌜ answerOf doneCode (callMatches (now (form .entry)) (now (sheet .entry)) (now (items .entry)) s node place) ≡ some r ⌝ }
 {
-    form_calls::matches_arg(form, sheet, items, s, node, place)
+    call_form::matches_arg(form, sheet, items, s, node, place)
 }
 
 #[no_mangle]
@@ -141,7 +141,7 @@ pub extern "C" fn silverpoise_take_flag(
 ) -> StateAnswer
     ensures { λ r. ⌜ stateAnswerOf doneCode (callTakeFlag (now (form .entry)) (now (sheet .entry)) (now (items .entry)) s node) ≡ some r ⌝ }
 {
-    form_calls::take_flag(form, sheet, items, s, node)
+    call_form::take_flag(form, sheet, items, s, node)
 }
 
 #[no_mangle]
@@ -154,7 +154,7 @@ pub extern "C" fn silverpoise_take_arg(
 ) -> StateAnswer
     ensures { λ r. ⌜ stateAnswerOf takenCode (callTakeArg (now (form .entry)) (now (sheet .entry)) (now (items .entry)) s node) ≡ some r ⌝ }
 {
-    form_calls::take_arg(form, sheet, items, s, node)
+    call_form::take_arg(form, sheet, items, s, node)
 }
 
 #[no_mangle]
@@ -167,7 +167,7 @@ pub extern "C" fn silverpoise_take_cmd(
 ) -> StateAnswer
     ensures { λ r. ⌜ stateAnswerOf doneCode (callTakeCmd (now (form .entry)) (now (sheet .entry)) (now (items .entry)) s «record») ≡ some r ⌝ }
 {
-    form_calls::take_cmd(form, sheet, items, s, record)
+    call_form::take_cmd(form, sheet, items, s, record)
 }
 
 #[no_mangle]
@@ -178,17 +178,17 @@ pub extern "C" fn silverpoise_eval(
     answers: &mut [u32],
     s: State,
     node: usize,
-) -> NodeAnswer
+) -> RunAnswer
     ensures { λ r. ⌜ evaluatedAnswer (callEval (now (form .entry)) (now (sheet .entry)) (now (items .entry)) (now (answers .entry)) s node) ≡ some (record { answer = r; answers = now (answers .exit) }) ⌝ }
 {
-    node_call::eval(form, sheet, items, answers, s, node)
+    call_node::eval(form, sheet, items, answers, s, node)
 }
 
 #[no_mangle]
 pub extern "C" fn silverpoise_remove_in_place(s: &mut State, place: usize) -> Answer
     ensures { λ r. ⌜ stateAnswerOf doneCode (callRemove (now (s .entry)) place) ≡ some (joined r (now (s .exit))) ⌝ }
 {
-    in_place::remove(s, place)
+    call_lent::remove(s, place)
 }
 
 #[no_mangle]
@@ -201,7 +201,7 @@ pub extern "C" fn silverpoise_take_flag_in_place(
 ) -> Answer
     ensures { λ r. ⌜ stateAnswerOf doneCode (callTakeFlag (now (form .entry)) (now (sheet .entry)) (now (items .entry)) (now (s .entry)) node) ≡ some (joined r (now (s .exit))) ⌝ }
 {
-    in_place::take_flag(s, form, sheet, items, node)
+    call_lent::take_flag(s, form, sheet, items, node)
 }
 
 #[no_mangle]
@@ -214,5 +214,5 @@ pub extern "C" fn silverpoise_find(
 ) -> Answer
     ensures { λ r. ⌜ plainAnswer placeOrNone (callFind (now (form .entry)) (now (sheet .entry)) (now (items .entry)) s node) ≡ some r ⌝ }
 {
-    item_search::find(form, sheet, items, s, node)
+    call_find::find(form, sheet, items, s, node)
 }

@@ -1,8 +1,4 @@
+pub mod Words
+pub mod Calls
+pub mod Cases
 pub mod List
-pub mod Laws
-pub mod Utf8List
-pub mod CheckList
-pub mod SplitList
-pub mod RunList
-pub mod TextList
-pub mod Layer

@@ -1,19 +1,29 @@
--- A list: its first line says what made it, each other line is a case.
+-- A list: the command that made it, then the cases, seven parts each.
 use mathlib.Core.Path.{_≡_}
+use mathlib.Core.Bool.{true}
 use mathlib.Core.List.{List}
-use Prim.Native.Nat.{ℕ, _+_, _-_, _≤_}
-use lib.ListN.{length, take, drop}
-use Rattle.tokens.specs.Read.{First}
+use Prim.Native.Nat.{ℕ, _+_, _*_, _≤_}
+use Rattle.wire.specs.Wire.{numberAt, tableGood, entryOf}
+use Rattle.replay.specs.Words.{headOf}
+use Rattle.replay.specs.Cases.{AnswerTold}
 
--- from `at` on the text is n lines, and P holds of each; the last may lack its line feed
-pub data Lines (P : List ℕ → Type 0) (text : List ℕ) : ℕ → ℕ → Type 0 where
-  none : {at : ℕ} → length text ≤ at → Lines P text at 0
-  line : {at end n : ℕ} → First text at 10 end → P (take (end - at) (drop at text)) → Lines P text (end + 1) n → Lines P text at (n + 1)
+-- a table of n entries, of which seven are there from `at` on
+pub record HasCase (list : List ℕ) (n at : ℕ) : Type 0 where
+  pub good : tableGood 2 n list ≡ true
+  pub below : at + 7 ≤ n
 
--- P holds of every line but the first if no line differs
-pub record Replayed (P : List ℕ → Type 0) (text : List ℕ) (cases differ : ℕ) : Type 0 where
-  pub fewer : differ ≤ cases
-  pub within : cases ≤ length text
-  pub heading : ℕ
-  pub first : First text 0 10 heading
-  pub all : differ ≡ 0 → Lines P text (heading + 1) cases
+-- what the rules say of the case from entry `at` on is what it says
+abbrev pub CaseTold : List ℕ → ℕ → ℕ → Type 0
+CaseTold list n at =
+    AnswerTold
+    (headOf (entryOf 2 n list at))
+    (entryOf 2 n list (at + 1))
+    (entryOf 2 n list (at + 2))
+    (entryOf 2 n list (at + 3))
+    (entryOf 2 n list (at + 4))
+    (entryOf 2 n list (at + 5))
+    (entryOf 2 n list (at + 6))
+
+-- case k
+abbrev pub caseAt : List ℕ → ℕ → Type 0
+caseAt list k = CaseTold list (numberAt 2 list 0) (7 * k + 1)

@@ -15,7 +15,9 @@ use Rattle.utf8.specs.Utf8.{if_then_else_}
 use Rattle.rules.specs.Base.{null, all, contains, concatMap, isSome, _>>?_, slice, firstFault, numbers}
 use Rattle.rules.specs.Value.{text, number, Kind, BaseValue}
 use Rattle.rules.specs.Form.{Node, Name, Form, readForm, nameBytes, oneCharacter, typeGood, nameGood}
-use Rattle.rules.specs.Tree.{Named, Tree, Flag, Argument, Positional, Optional, Many, Some, Count, Last, Choice, Fallback, Guard, kindOf, hasRepeat, zeros, namesOf, shortOf, longOf, namedBy, namedOf, flagOf, argumentOf, positionOf, positionalOf, fitting, repeatOf, fallbackValue, fallbackOf, guardOf, childOf, caughtOf, choiceOf, treeOf}
+use Rattle.rules.specs.Tree.{Named, Tree, Flag, Argument, Positional, Optional, Many, Some, Count, Last, Choice, Fallback, Guard, kindOf, hasRepeat, zeros, namesOf, shortOf, longOf}
+use Rattle.rules.specs.Tree.{namedBy, namedOf, flagOf, argumentOf, positionOf, positionalOf, fitting, repeatOf, fallbackValue, fallbackOf, guardOf, childOf, caughtOf, choiceOf}
+use Rattle.rules.specs.Tree.{treeOf}
 use Rattle.rules.specs.Accept.{Checked, accepted, refusedAt, Accepted, lengthGood, treesFrom, usedOnce, treesAt, checkUse, checkRecords, checkForm}
 use Rattle.rules.specs.Demands.{All}
 use Rattle.rules.specs.Sound.{Sound, isNamed, isRead, wellBuilt}

@@ -22,12 +22,16 @@ use Rattle.rules.specs.Form.{Form, readForm}
 use Rattle.rules.specs.Tree.{Named, zeros, kindOf}
 use Rattle.rules.specs.Accept.{Checked, accepted, refusedAt, Accepted, checkForm}
 use Rattle.rules.specs.Split.{Item, Short, Long, ArgWord, Word, PosWord}
-use Rattle.rules.specs.State.{State, Scope, Found, position, matchShort, matchLong, sameName, before, onlyOnce, parsed, stateGood, emptyState, first, conflict, remove, setScope, adjacentScope}
+use Rattle.rules.specs.State.{State, Scope, Found, position, matchShort, matchLong, sameName, before, onlyOnce, parsed, stateGood, emptyState, first, conflict, remove, setScope}
+use Rattle.rules.specs.State.{adjacentScope}
 use Rattle.rules.specs.Take.{Took, took, Operand, isCommand, takeCommand, takeArg, takePositionalWord, takeCmd}
 use Rattle.rules.specs.Given.{roomIn}
 use Rattle.rules.specs.Run.{Line, parsedMark, padded, split}
-use Rattle.rules.specs.Calls.{callRemove, callPickWinner, callSaveConflicts, callSetScope, callAdjacentScope, callAvailableFrom, onItems, callGet, callConflict, operandOr20, callTakePositional, callOnlyOnce, onForm, keyOf, flagNames, argumentKey, commandName, callMatches, callTakeFlag, callTakeArg, callTakeCmd, callKind, callPortable, callText}
-use Rattle.rules.specs.Calls.{formIn, sheetIn, sliceIn, itemsFrom, trimmed, wholeRecords, itemsIn, fromRaw, toRaw, stateIn, asked, placeIn, scopeIn, handed, splitRefused, splitReport, callSplit, evaluatedWith, evaluated, unchanged, evalIn, callEval}
+use Rattle.rules.specs.Calls.{callRemove, callPickWinner, callSaveConflicts, callSetScope, callAdjacentScope, callAvailableFrom, onItems, callGet, callConflict, operandOr20}
+use Rattle.rules.specs.Calls.{callTakePositional, callOnlyOnce, onForm, keyOf, flagNames, argumentKey, commandName, callMatches, callTakeFlag, callTakeArg, callTakeCmd, callKind}
+use Rattle.rules.specs.Calls.{callPortable, callText}
+use Rattle.rules.specs.Calls.{formIn, sheetIn, sliceIn, itemsFrom, trimmed, wholeRecords, itemsIn, fromRaw, toRaw, stateIn, asked, placeIn, scopeIn, handed, splitRefused, splitReport}
+use Rattle.rules.specs.Calls.{callSplit, evaluatedWith, evaluated, unchanged, evalIn, callEval}
 use Rattle.rules.specs.declared.State.{State as Raw}
 use Rattle.rules.specs.Sound.{Good, Sound}
 use Rattle.rules.specs.Answered.{FormFault, badCounts, badName, badNode, badField, badUse, SheetFault, manyArguments, badSheet, AtFault, badForm, sheetAtFault, shortSlice, ItemsLeft}
@@ -289,7 +293,8 @@ once-first : (is : List Item) (i : ℕ) → eqb i 0 ≡ true → Answers [] (onl
 unfolding onlyOnce if_then_else_
 once-first is i e = rw e (answers none)
 
-once-later : (is : List Item) (i : ℕ) → eqb i 0 ≡ false → (l : List Item) → slice 0 i is ≡ some l → Answers [] (before i (getElem? is i >>? λ x. sameName x (reverse l))) → Answers [] (onlyOnce is i)
+once-later : (is : List Item) (i : ℕ) → eqb i 0 ≡ false → (l : List Item) → slice 0 i is ≡ some l → Answers []
+    (before i (getElem? is i >>? λ x. sameName x (reverse l))) → Answers [] (onlyOnce is i)
 unfolding onlyOnce if_then_else_ at _>>=_
 once-later is i e l h a = rw (e, h) a
 

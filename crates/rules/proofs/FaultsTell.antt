@@ -22,10 +22,12 @@ use Rattle.rules.specs.Eval.{ended}
 use Rattle.rules.specs.Run.{Line, tooMany, lineOf, refusedInput, Report, report, reportWith, split, runLine, run}
 use Rattle.rules.specs.Demands.{All}
 use Rattle.rules.specs.WellMade.{NameMade, NodesMade, CountsMade, WellMade, SheetMade}
-use Rattle.rules.specs.Answered.{FormFault, badCounts, badName, badNode, badField, badUse, SheetFault, manyArguments, badSheet, Splits, AtFault, badForm, sheetAtFault, shortSlice, manyItems, ambiguousLetter}
+use Rattle.rules.specs.Answered.{FormFault, badCounts, badName, badNode, badField, badUse, SheetFault, manyArguments, badSheet, Splits, AtFault, badForm, sheetAtFault, shortSlice}
+use Rattle.rules.specs.Answered.{manyItems, ambiguousLetter}
 use Rattle.rules.proofs.Acceptance.{All-at, good-no-fault, no-fault, numbers-all, if-true, if-false, lookup-inside, accepted-form}
 use Rattle.rules.proofs.Uses.{used-once}
-use Rattle.rules.proofs.WellMadeLaws.{length-counts, counts-length, name-made, each-good, node-count, trees-count, nodes-made, nodes-trees, fields-made, fields-is, first-number, trees-refused, lower-made, next-not-made, made-accepted}
+use Rattle.rules.proofs.WellMadeLaws.{length-counts, counts-length, name-made, each-good, node-count, trees-count, nodes-made, nodes-trees, fields-made, fields-is, first-number}
+use Rattle.rules.proofs.WellMadeLaws.{trees-refused, lower-made, next-not-made, made-accepted}
 use Rattle.rules.proofs.SheetLaws.{sheet-made, made-sheet}
 use Rattle.rules.proofs.InputFaults.{stopped, few-line}
 use Rattle.rules.proofs.GivenLaws.{run-form, run-sheet, run-short, run-cramped, run-goes}

@@ -1,17 +1,48 @@
--- How the tests before a run and a split end.
+-- How the tests of the input end.
 use mathlib.Core.List.{List, []}
 use mathlib.Core.Option.{Option, none}
-use mathlib.Core.Path.{_≡_}
+use mathlib.Core.Bool.{true}
+use mathlib.Core.Path.{_≡_, refl, sym, ap, _∙_}
 use Prim.Native.Nat.{ℕ, _≤_, _<_}
+use native.Mathlib.Omega.{arith}
+use lib.ListN.{length}
 use borrow.Author.Tests.{eq-eqb, ne-eqb, le-leb, lt-leb}
 use Rattle.utf8.specs.Utf8.{if_then_else_}
-use Rattle.rules.specs.Outcome.{ok, refused, _>>=_, refuse}
+use Rattle.rules.specs.Outcome.{Outcome, ok, refused, _>>=_, refuse}
 use Rattle.rules.specs.Sheet.{sheetFault}
-use Rattle.rules.specs.Accept.{accepted, refusedAt, Accepted, checkForm}
+use Rattle.rules.specs.Accept.{Checked, accepted, refusedAt, Accepted, lengthGood, checkForm}
+use Rattle.rules.specs.Codes.{checkCode}
 use Rattle.rules.specs.Given.{formIn, sheetIn, roomIn, inputIn}
 use Rattle.rules.specs.Run.{split, runLine, refusedInput, report, run}
 use Rattle.rules.specs.Calls.{splitRefused, splitReport, callSplit}
+use Rattle.rules.specs.declared.Refused.{Refused}
+use Rattle.rules.proofs.Acceptance.{accepted-length}
+use Rattle.rules.proofs.WellMadeLaws.{check-numbers, well-made}
 
+-- ---- the form check: number 0 is acceptance
+module _ (b : List ℕ) (r : Refused) (e : r ≡ checkCode (checkForm b)) (z : r .number ≡ 0) where
+  pub check-accepted : (a : Accepted) × (checkForm b ≡ accepted a)
+  check-accepted = go (checkForm b) refl
+    where
+      go : (c : Checked Accepted) → checkForm b ≡ c → (a : Accepted) × (checkForm b ≡ accepted a)
+      go (accepted a) h = (a, h)
+      go (refusedAt n k) h =
+          let m : r .number ≡ n = ap (λ (x : Refused). x .number) (e ∙ ap checkCode h) in
+          let least = check-numbers b n k h .0 in
+          absurd (omega arith)
+
+  pub check-length : lengthGood b ≡ true
+  check-length = let (a, h) = check-accepted in accepted-length b a h
+
+  pub check-eight : 8 ≤ length b
+  check-eight = let (a, h) = check-accepted in omega (arith, well-made b a h .counts .exact)
+
+-- how a call goes on
+pub form-passed : {A : Type 0} (b : List ℕ) (a : Accepted) (f : Accepted → Outcome A) → checkForm b ≡ accepted a → (formIn b >>= f) ≡ f a
+unfolding formIn _>>=_
+form-passed b a f h = rw (h, formIn)
+
+-- ---- the tests before a run and a split
 module _ (b s : List ℕ) (ni : ℕ) where
   -- 1 to 4
   module _ (n : ℕ) (k : Option ℕ) (form : checkForm b ≡ refusedAt n k) where

@@ -4,6 +4,8 @@ pub mod LinesHold
 pub mod Witnesses
 -- Codes
 pub mod CodeLaws
+-- Lists
+pub mod ContainsLaws
 -- What the proofs hand on
 pub mod Steps
 -- States and takes

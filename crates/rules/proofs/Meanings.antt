@@ -15,7 +15,8 @@ use Rattle.rules.specs.Tree.{Tree, zeros, fallbackValue}
 use Rattle.rules.specs.Accept.{Accepted, accepted, checkForm}
 use Rattle.rules.specs.Split.{Item}
 use Rattle.rules.specs.Demands.{All, Bytes, Means}
-use Rattle.rules.proofs.Acceptance.{if-some, bind-some, and-true, All-append, All-at, All-map, Made, flagMade, argumentMade, positionalMade, optionalMade, manyMade, someMade, countMade, lastMade, choiceMade, fallbackMade, guardMade, trees-all, fields-all, accepted-length, accepted-passed, accepted-form}
+use Rattle.rules.proofs.Acceptance.{if-some, bind-some, and-true, All-append, All-at, All-map, Made, flagMade, argumentMade, positionalMade, optionalMade, manyMade, someMade}
+use Rattle.rules.proofs.Acceptance.{countMade, lastMade, choiceMade, fallbackMade, guardMade, trees-all, fields-all, accepted-length, accepted-passed, accepted-form}
 use Rattle.rules.proofs.Formats.{Wide, NodeSmall, read-within}
 use Rattle.rules.proofs.Nodes.{Meaning}
 use Rattle.rules.proofs.EvalSound.{fallbacks}

@@ -13,12 +13,15 @@ use lib.ListN.{length}
 use Rattle.utf8.specs.Utf8.{if_then_else_}
 use Rattle.rules.specs.Base.{isSome, null, all, _>>?_}
 use Rattle.rules.specs.Outcome.{Spot, Outcome, ok, refused, fault, parseFlag559, takeArgument679, _>>=_, at, canCatch, refuse}
-use Rattle.rules.specs.Value.{Base, yesNo, text, number, Kind, one, item, BaseValue, isYes, isText, isNumber, Value, base, absent, present, nil, cons, baseNumber, sameBase, baseOf, isBase, hasKind, size, ofKind, basesOf}
+use Rattle.rules.specs.Value.{Base, yesNo, text, number, Kind, one, item, BaseValue, isYes, isText, isNumber, Value, base, absent, present, nil, cons, baseNumber, sameBase, baseOf}
+use Rattle.rules.specs.Value.{isBase, hasKind, size, ofKind, basesOf}
 use Rattle.rules.specs.Tree.{Named, Position, unrestricted, strict, nonStrict, Tree, Flag, Argument, Positional, Optional, Fallback, Guard, kindOf, hasRepeat, optionalKind, baseKind}
 use Rattle.rules.specs.Split.{Item}
 use Rattle.rules.specs.State.{State, parsed}
 use Rattle.rules.specs.Take.{Took, Taken, Operand}
-use Rattle.rules.specs.Eval.{Ran, ended, after, _then_, visit, leaf, refuseMissing, shownName, notFound, flagValue, evalFlag, unsigned, numberOf, digits, isDigit, parseText, argumentValue, evalArgument, wrongPosition, placedValue, positionalValue, evalPositional, fewer, swallowed, parseOption, evalOptional, evalFallback, guarded, evalGuard}
+use Rattle.rules.specs.Eval.{Ran, ended, after, _then_, visit, leaf, refuseMissing, shownName, notFound, flagValue, evalFlag, unsigned, numberOf, digits, isDigit, parseText}
+use Rattle.rules.specs.Eval.{argumentValue, evalArgument, wrongPosition, placedValue, positionalValue, evalPositional, fewer, swallowed, parseOption, evalOptional, evalFallback}
+use Rattle.rules.specs.Eval.{guarded, evalGuard}
 use Rattle.rules.specs.Demands.{All, Faultless}
 use Rattle.rules.specs.Sound.{Good, leaves, isNamed, isRead}
 use Rattle.rules.proofs.Acceptance.{All-append, if-some, and-true}

@@ -15,13 +15,16 @@ use Rattle.rules.specs.Base.{isSome, all}
 use Rattle.rules.specs.Outcome.{Outcome, ok, refused, _>>=_, at, refuse}
 use Rattle.rules.specs.Tree.{Named}
 use Rattle.rules.specs.Split.{Item, Short, Long, ArgWord, Word, PosWord}
-use Rattle.rules.specs.State.{State, Found, Picked, parsed, present, construct, inScope, presentAt, presentFrom, unused, get, findIn, find, first, used, remove, withCurrent, pickWinner, saveConflicts, countPresent, setScope, markGood, currentGood, stateGood}
+use Rattle.rules.specs.State.{State, Found, Picked, parsed, present, construct, inScope, presentAt, presentFrom, unused, get, findIn, find, first, used, remove, withCurrent}
+use Rattle.rules.specs.State.{pickWinner, saveConflicts, countPresent, setScope, markGood, currentGood, stateGood}
 use Rattle.rules.specs.Take.{Took, took, matchesArg, takeFlag, Taken, valueText, takeValue, takeArg, Operand, isOperand, operand, takePositionalWord}
 use Rattle.rules.specs.Eval.{won}
 use Rattle.rules.specs.Demands.{All, hasText}
 use Rattle.rules.specs.Sound.{Good}
 use Rattle.rules.proofs.Steps.{Step}
-use Rattle.rules.proofs.Places.{if-elim, left, right, at-below, present-below, mark-present, minus-below, write-below, set-same, set-other, set-kept, all-set, parsed-not, parsed-good, from-same, from-used, from-each, from-all, slice-below, count-from, replicate-present, all-replicate, conflicts-length, conflicts-present, conflicts-good, Differs, pick-case}
+use Rattle.rules.proofs.Places.{if-elim, left, right, at-below, present-below, mark-present, minus-below, write-below, set-same, set-other, set-kept, all-set, parsed-not}
+use Rattle.rules.proofs.Places.{parsed-good, from-same, from-used, from-each, from-all, slice-below, count-from, replicate-present, all-replicate, conflicts-length}
+use Rattle.rules.proofs.Places.{conflicts-present, conflicts-good, Differs, pick-case}
 
 -- ---- steps
 

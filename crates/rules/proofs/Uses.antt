@@ -17,7 +17,8 @@ use Rattle.rules.specs.Tree.{Tree}
 use Rattle.rules.specs.Accept.{Accepted, accepted, checkForm, treesAt, childrenOf, uses, usedOnce, leafCount}
 use Rattle.rules.specs.Demands.{All}
 use Rattle.rules.specs.Sound.{leaves, allLeaves}
-use Rattle.rules.proofs.Acceptance.{Made, flagMade, argumentMade, positionalMade, optionalMade, manyMade, someMade, countMade, lastMade, choiceMade, fallbackMade, guardMade, Child, TreesAt, trees-made, trees-length, fields-step, no-fault, lookup-inside, All-append, Passed, accepted-passed}
+use Rattle.rules.proofs.Acceptance.{Made, flagMade, argumentMade, positionalMade, optionalMade, manyMade, someMade, countMade, lastMade, choiceMade, fallbackMade, guardMade, Child}
+use Rattle.rules.proofs.Acceptance.{TreesAt, trees-made, trees-length, fields-step, no-fault, lookup-inside, All-append, Passed, accepted-passed}
 
 -- ---- sums over lists of numbers
 unfoldable pub sumOver : (ℕ → ℕ) → List ℕ → ℕ

@@ -5,7 +5,8 @@ use mathlib.Core.Path.{_≡_}
 use Prim.Native.Nat.{ℕ, _+_, _*_, _≤_}
 use native.Mathlib.Omega.{arith}
 use lib.ListN.{length, length-append}
-use Rattle.rules.specs.Value.{Base, Kind, one, optional, list, listOfOptional, optionalList, Value, base, absent, present, nil, cons, isBase, isOptional, isList, hasKind, size, words, elements}
+use Rattle.rules.specs.Value.{Base, Kind, one, optional, list, listOfOptional, optionalList, Value, base, absent, present, nil, cons, isBase, isOptional, isList, hasKind, size, words}
+use Rattle.rules.specs.Value.{elements}
 use Rattle.rules.specs.Value.{ofKind}
 use Rattle.rules.proofs.Steps.{inner}
 

@@ -13,14 +13,22 @@ use lib.Seq.{length-take-le}
 use borrow.Author.Tests.{eq-eqb, le-leb, lt-leb, eqb-true, eqb-false, leb-true, leb-false}
 use Rattle.utf8.specs.Utf8.{if_then_else_, wellFormed}
 use Rattle.rules.specs.Base.{null, all, contains, occurrences, numbers, isSome, _>>?_, slice, firstFault}
-use Rattle.rules.specs.Value.{Base, yesNo, text, number, sameBase, baseNumber, Kind, one, optional, list, listOfOptional, optionalList, name, BaseValue, isYes, isText, isNumber, baseOf}
-use Rattle.rules.specs.Form.{Node, Name, Form, nodeCount, fieldCount, nameCount, areaLength, countsGood, nodesAt, namesAt, areaAt, formLength, readForm, nameBytes, oneCharacter, typeGood, nameGood}
-use Rattle.rules.specs.Tree.{Named, Tree, Flag, Argument, Positional, Optional, Many, Some, Count, Last, Choice, Fallback, Guard, optionalKind, listKind, countKind, lastKind, shapeOf, innerBase, sameKind, choiceKind, baseKind, kindOf, hasRepeat, zeros, namesOf, namedBy, namedOf, flagOf, argumentOf, positionOf, positionalOf, fitting, repeatOf, fallbackValue, fallbackOf, guardOf, childOf, caughtOf, choiceOf, treeOf}
+use Rattle.rules.specs.Value.{Base, yesNo, text, number, sameBase, baseNumber, Kind, one, optional, list, listOfOptional, optionalList, name, BaseValue, isYes, isText, isNumber}
+use Rattle.rules.specs.Value.{baseOf}
+use Rattle.rules.specs.Form.{Node, Name, Form, nodeCount, fieldCount, nameCount, areaLength, countsGood, nodesAt, namesAt, areaAt, formLength, readForm, nameBytes, oneCharacter}
+use Rattle.rules.specs.Form.{typeGood, nameGood}
+use Rattle.rules.specs.Tree.{Named, Tree, Flag, Argument, Positional, Optional, Many, Some, Count, Last, Choice, Fallback, Guard, optionalKind, listKind, countKind, lastKind, shapeOf}
+use Rattle.rules.specs.Tree.{innerBase, sameKind, choiceKind, baseKind, kindOf, hasRepeat, zeros, namesOf, namedBy, namedOf, flagOf, argumentOf, positionOf, positionalOf, fitting}
+use Rattle.rules.specs.Tree.{repeatOf, fallbackValue, fallbackOf, guardOf, childOf, caughtOf, choiceOf, treeOf}
 use Rattle.rules.specs.Accept.{Checked, accepted, refusedAt, Accepted, lengthGood, treesFrom, uses, usedOnce, treesAt, checkUse, checkRecords, checkForm}
 use Rattle.rules.specs.Demands.{All}
-use Rattle.rules.specs.WellMade.{NameMade, NamesMade, Unused, FallbackMade, NodeMade, flagRow, argumentRow, positionalRow, optionalRow, listRow, countRow, lastRow, choiceRow, fallbackRow, guardRow, NodesMade, CountsMade, WellMade}
+use Rattle.rules.specs.WellMade.{NameMade, NamesMade, Unused, FallbackMade, NodeMade, flagRow, argumentRow, positionalRow, optionalRow, listRow, countRow, lastRow, choiceRow}
+use Rattle.rules.specs.WellMade.{fallbackRow, guardRow, NodesMade, CountsMade, WellMade}
 use Rattle.rules.specs.Answered.{FormFault, badCounts, badName, badNode, badField, badUse}
-use Rattle.rules.proofs.Acceptance.{refused-not, accepted-same, lookup-inside, if-some, branch, zeros-unused, if-true, if-false, bind-is, both, unused-zeros, lookup-some, lookup-snoc, All-map, good-no-fault, numbers-length, numbers-all, numbers-each, bind-some, and-true, Made, flagMade, argumentMade, positionalMade, optionalMade, manyMade, someMade, countMade, lastMade, choiceMade, fallbackMade, guardMade, TreeAt, TreesAt, trees-made, trees-length, no-fault, is-some, names-some, NameGood, short-one, accepted-length, accepted-passed}
+use Rattle.rules.proofs.Acceptance.{refused-not, accepted-same, lookup-inside, if-some, branch, zeros-unused, if-true, if-false, bind-is, both, unused-zeros, lookup-some}
+use Rattle.rules.proofs.Acceptance.{lookup-snoc, All-map, good-no-fault, numbers-length, numbers-all, numbers-each, bind-some, and-true, Made, flagMade, argumentMade, positionalMade}
+use Rattle.rules.proofs.Acceptance.{optionalMade, manyMade, someMade, countMade, lastMade, choiceMade, fallbackMade, guardMade, TreeAt, TreesAt, trees-made, trees-length, no-fault}
+use Rattle.rules.proofs.Acceptance.{is-some, names-some, NameGood, short-one, accepted-length, accepted-passed}
 use Rattle.rules.proofs.Uses.{fields-inside, used-once}
 
 -- ---- counts and length

@@ -8,7 +8,8 @@ use Prim.Native.Nat.{ℕ, suc, _+_, _≤_}
 use native.Mathlib.Omega.{arith}
 use lib.ListN.{length, getD, drop}
 use Rattle.utf8.specs.Utf8.{if_then_else_}
-use Rattle.rules.specs.Value.{Base, yesNo, text, number, Kind, one, optional, list, listOfOptional, optionalList, item, name, BaseValue, isYes, isText, isNumber, Value, base, absent, present, nil, cons, baseNumber, sameBase, baseOf, isBase, isOptional, isList, hasKind, word, size, words, elements, answerWords, ofKind, basesOf}
+use Rattle.rules.specs.Value.{Base, yesNo, text, number, Kind, one, optional, list, listOfOptional, optionalList, item, name, BaseValue, isYes, isText, isNumber, Value, base, absent}
+use Rattle.rules.specs.Value.{present, nil, cons, baseNumber, sameBase, baseOf, isBase, isOptional, isList, hasKind, word, size, words, elements, answerWords, ofKind, basesOf}
 use Rattle.rules.specs.Form.{Name}
 use Rattle.rules.specs.Tree.{Tree, kindOf}
 use Rattle.rules.specs.Split.{Item}

@@ -13,7 +13,8 @@ use Rattle.rules.specs.Form.{nameBytes, portable}
 use Rattle.rules.specs.Tree.{Named, Tree, Flag, Argument, Positional, Optional, Many, Some, Count, Last, Choice, Fallback, Guard, zeros, kindOf}
 use Rattle.rules.specs.Accept.{Accepted}
 use Rattle.rules.specs.Split.{Item, Short, Long, ArgWord, Word, PosWord, ItemRecord}
-use Rattle.rules.specs.State.{State, emptyState, parsed, stateGood, get, remove, Conflict, conflict, Picked, pickWinner, saveConflicts, Scope, setScope, adjacentScope, adjacentlyAvailableFrom, onlyOnce}
+use Rattle.rules.specs.State.{State, emptyState, parsed, stateGood, get, remove, Conflict, conflict, Picked, pickWinner, saveConflicts, Scope, setScope, adjacentScope}
+use Rattle.rules.specs.State.{adjacentlyAvailableFrom, onlyOnce}
 use Rattle.rules.specs.Take.{Took, took, Taken, Operand, matchesArg, textOf, takeFlag, takeArg, takePositionalWord, takeCmd}
 use Rattle.rules.specs.Eval.{Ran, eval}
 use Rattle.rules.specs.Given.{inputIn}

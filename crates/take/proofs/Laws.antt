@@ -25,24 +25,24 @@ use Rattle.rules.proofs.Places.{left}
 use Rattle.rules.proofs.StepLaws.{current-good}
 use Rattle.rules.proofs.CodeLaws.{place-next}
 use Rattle.rules.specs.Codes.{placeOf}
-use Rattle.arg.specs.declared.Part.{Part}
-use Rattle.arg.specs.declared.Item.{Item}
-use Rattle.arg.specs.declared.Item.the-variants.{ArgWord, Word}
-use Rattle.arg.proofs.Item as T
-use Rattle.arg.specs.Items.{recordAt, itemOf}
-use Rattle.state.specs.declared.Numbers.{Numbers}
-use Rattle.state.specs.Lent.{stateOf, Fine, Removed, firstOr}
-use Rattle.state.proofs.Laws.{fine-long, fine-unused, mark-at}
-use Rattle.state.proofs.Marks.{first-hit, first-none}
-use Rattle.named.specs.Items.{Table, partBytes, operandKind}
-use Rattle.named.specs.Search.{HasItem, HasItems, seek, Sought, Passed}
-use Rattle.named.proofs.Items.{operand-said}
-use Rattle.named.proofs.Search.{Hits, nothing-found, something-found, sought-all}
-use Rattle.known.specs.Known.{Says}
+use Rattle.split_arg.specs.declared.Part.{Part}
+use Rattle.split_arg.specs.declared.Item.{Item}
+use Rattle.split_arg.specs.declared.Item.the-variants.{ArgWord, Word}
+use Rattle.split_arg.proofs.Item as T
+use Rattle.split_arg.specs.Items.{recordAt, itemOf}
+use Rattle.state_marks.specs.declared.Numbers.{Numbers}
+use Rattle.state_marks.specs.Lent.{stateOf, Fine, Removed, firstOr}
+use Rattle.state_marks.proofs.Laws.{fine-long, fine-unused, mark-at}
+use Rattle.state_marks.proofs.Marks.{first-hit, first-none}
+use Rattle.take_search.specs.Items.{Table, partBytes, operandKind}
+use Rattle.take_search.specs.Search.{HasItem, HasItems, seek, Sought, Passed}
+use Rattle.take_search.proofs.Items.{operand-said}
+use Rattle.take_search.proofs.Search.{Hits, nothing-found, something-found, sought-all}
+use Rattle.take_table.specs.Known.{TableTells}
 use Rattle.take.specs.declared.Argument.{Argument}
 use Rattle.take.specs.declared.Value.the-variants.{Missing, Taken as Value·Taken}
 use Rattle.take.specs.declared.Operand.the-variants.{Missing as Operand·Missing, Taken as Operand·Taken}
-use Rattle.take.specs.Takes.{Ready, Skips, Items, setCurrent, refusedAt, freeBelow, textPart, strictItem, Left, UsesBoth, TakesFlag, TakesArg, TakesPositional, TakesCmd}
+use Rattle.take.specs.Takes.{CanTake, Skips, Items, setCurrent, refusedAt, freeBelow, textPart, strictItem, LeftState, UsesBoth, TakesFlag, TakesArg, TakesPositional, TakesCmd}
 use Rattle.take.proofs.Texts.{agrees, word-value, arg-word-value, no-value}
 
 -- ---- pieces
@@ -57,9 +57,9 @@ pub free-beyond : (m : List ℕ) (end i : ℕ) → end ≤ i → false ≡ freeB
 unfolding freeBelow
 free-beyond m end i h = rw (le-ltb i end h)
 
-pub free-test : (m : List ℕ) (end i : ℕ) → i < end → not (eqb (getD m i 0) 1) ≡ freeBelow m end i
-unfolding freeBelow present parsed
-free-test m end i h = rw (lt-ltb i end h)
+pub free-test : (m : List ℕ) (end i : ℕ) → i < end → (x : Bool) → x ≡ present (getD m i 0) → x ≡ freeBelow m end i
+unfolding freeBelow
+free-test m end i h x e = rw (lt-ltb i end h) e
 
 pub free-inside : (m : List ℕ) (end i : ℕ) (f : Bool) → f ≡ freeBelow m end i → not f ≡ false → i < end
 unfolding freeBelow
@@ -114,10 +114,10 @@ module _ (m : List ℕ) (p : Numbers) (f : Fine m p) where
     };
   }
 
-  pub left-same : Left m p m p
+  pub left-same : LeftState m p m p
   left-same = record { count = refl; long = refl; fine = f }
 
-pub left-removed : {mark : ℕ} {m : List ℕ} {p : Numbers} {i : ℕ} {m′ : List ℕ} {q : Numbers} → Removed mark m p i m′ q → Left m p m′ q
+pub left-removed : {mark : ℕ} {m : List ℕ} {p : Numbers} {i : ℕ} {m′ : List ℕ} {q : Numbers} → Removed mark m p i m′ q → LeftState m p m′ q
 left-removed r = record { count = r .count; long = r .long; fine = r .fine }
 
 -- ---- key and value
@@ -151,7 +151,7 @@ skip-none area words test m p fine f e = record {
 
 -- ---- a take over items
 
-module _ (mark : ℕ) (area words m : List ℕ) (p : Numbers) (g : Ready area words m p mark) (a e : ℕ) (start : a ≡ p .start) (end : e ≡ p .end) where
+module _ (mark : ℕ) (area words m : List ℕ) (p : Numbers) (g : CanTake area words m p mark) (a e : ℕ) (start : a ≡ p .start) (end : e ≡ p .end) where
   pub ready-order : a ≤ e
   ready-order = omega (arith, g .fine .order)
 
@@ -225,8 +225,8 @@ module _ (mark : ℕ) (area words m : List ℕ) (p : Numbers) (g : Ready area wo
 
   -- a search by the table of `known`
   pub known-sought : (table : List ℕ) (node from r : ℕ)
-      → ((area words : List ℕ) (test : rules.Item → Bool) → Says table e node area words test → Sought area words test m from e r)
-      → (test : rules.Item → Bool) → Says table (p .end) node area words test → Skips area words test m p from
+      → ((area words : List ℕ) (test : rules.Item → Bool) → TableTells table e node area words test → Sought area words test m from e r)
+      → (test : rules.Item → Bool) → TableTells table (p .end) node area words test → Skips area words test m p from
       → Sought area words test m (p .start) (p .end) r
   known-sought table node from r found test says skips =
       scope-sought test r (skip-sought test from skips r (found area words test (rw end says)))
@@ -400,9 +400,9 @@ module _ (mark : ℕ) (area words m : List ℕ) (p : Numbers) (g : Ready area wo
 
 -- ---- the records
 
-module _ (mark : ℕ) (words m : List ℕ) (p : Numbers) (g : (area : List ℕ) × Ready area words m p mark) (a e : ℕ) (start : a ≡ p .start) (end : e ≡ p .end) where
+module _ (mark : ℕ) (words m : List ℕ) (p : Numbers) (g : (area : List ℕ) × CanTake area words m p mark) (a e : ℕ) (start : a ≡ p .start) (end : e ≡ p .end) where
   -- the same state, over another area
-  ready-of : (area : List ℕ) (is : List rules.Item) → Items area words p is → Ready area words m p mark
+  ready-of : (area : List ℕ) (is : List rules.Item) → Items area words p is → CanTake area words m p mark
   ready-of area is t = record { items = is; table = t .0; same = t .1; fine = g .1 .fine; told = g .1 .told }
 
   -- whether an item is an operand does not depend on the area
@@ -445,9 +445,9 @@ module _ (mark : ℕ) (words m : List ℕ) (p : Numbers) (g : (area : List ℕ) 
       left = record { count = d .count ∙ ap (λ (x : Numbers). x .count) set; long = d .long; fine = d .fine };
     }
 
-module _ (mark : ℕ) (area words m : List ℕ) (p : Numbers) (g : Ready area words m p mark) (a e : ℕ) (start : a ≡ p .start) (end : e ≡ p .end)
+module _ (mark : ℕ) (area words m : List ℕ) (p : Numbers) (g : CanTake area words m p mark) (a e : ℕ) (start : a ≡ p .start) (end : e ≡ p .end)
     (r : ℕ) (first-is : r ≡ firstOr e (presentFrom m (e - a) a)) (word : List ℕ) where
-  left-none : Left m p m (setCurrent 0 p)
+  left-none : LeftState m p m (setCurrent 0 p)
   left-none = record { count = refl; long = refl; fine = none-fine m p (g .fine) }
 
   pub cmd-missing : e ≤ r → (q : Numbers) → q ≡ setCurrent 0 p → TakesCmd mark area words word m p m (record { found = false; numbers = q })

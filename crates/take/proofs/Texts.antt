@@ -19,14 +19,14 @@ use Rattle.rules.specs.Calls.{itemFrom}
 use Rattle.rules.specs.Sheet.{sheetArea}
 use Rattle.rules.specs.Split as rules
 use Rattle.rules.specs.Take.{valueText, textOf, isPosWord, commandText, isCommand}
-use Rattle.arg.specs.declared.Part.{Part}
-use Rattle.arg.specs.declared.Item.{Item}
-use Rattle.arg.specs.declared.Item.the-variants.{Short, Long, ArgWord, Word, PosWord}
-use Rattle.arg.specs.Items.{recordAt, partAt, itemOf}
-use Rattle.arg.proofs.Item as T
-use Rattle.named.specs.Items.{partBytes, HasPart, operandKind}
-use Rattle.named.specs.Search.{HasItem}
-use Rattle.named.proofs.Items.{is-short, is-long, is-arg-word, is-word, is-pos-word}
+use Rattle.split_arg.specs.declared.Part.{Part}
+use Rattle.split_arg.specs.declared.Item.{Item}
+use Rattle.split_arg.specs.declared.Item.the-variants.{Short, Long, ArgWord, Word, PosWord}
+use Rattle.split_arg.specs.Items.{recordAt, partAt, itemOf}
+use Rattle.split_arg.proofs.Item as T
+use Rattle.take_search.specs.Items.{partBytes, HasPart, operandKind}
+use Rattle.take_search.specs.Search.{HasItem}
+use Rattle.take_search.proofs.Items.{is-short, is-long, is-arg-word, is-word, is-pos-word}
 use Rattle.take.specs.Takes.{textPart, strictItem, comparedItem}
 
 -- what the rules' item has of the code's

@@ -11,13 +11,13 @@ use Rattle.rules.specs.Tree.{Named}
 use Rattle.rules.specs.Split as rules
 use Rattle.rules.specs.State.{present, parsed, remove, withCurrent}
 use Rattle.rules.specs.Take.{Took, took, Taken, Operand as RulesOperand, takeFlag, takeArg, takePositionalWord, takeCmd}
-use Rattle.arg.specs.declared.Part.{Part}
-use Rattle.arg.specs.declared.Item.{Item}
-use Rattle.arg.specs.declared.Item.the-variants.{Short, Long, ArgWord, Word, PosWord}
-use Rattle.state.specs.declared.Numbers.{Numbers}
-use Rattle.state.specs.Lent.{stateOf, Fine}
-use Rattle.named.specs.Items.{Table, partBytes}
-use Rattle.named.specs.Search.{Passed}
+use Rattle.split_arg.specs.declared.Part.{Part}
+use Rattle.split_arg.specs.declared.Item.{Item}
+use Rattle.split_arg.specs.declared.Item.the-variants.{Short, Long, ArgWord, Word, PosWord}
+use Rattle.state_marks.specs.declared.Numbers.{Numbers}
+use Rattle.state_marks.specs.Lent.{stateOf, Fine}
+use Rattle.take_search.specs.Items.{Table, partBytes}
+use Rattle.take_search.specs.Search.{Passed}
 use Rattle.take.specs.declared.Flag.{Flag}
 use Rattle.take.specs.declared.Value.{Value}
 use Rattle.take.specs.declared.Value.the-variants.{Missing, Taken as Value·Taken, NoArgument}
@@ -27,7 +27,7 @@ use Rattle.take.specs.declared.Operand.the-variants.{Missing as Operand�
 use Rattle.take.specs.declared.Positional.{Positional}
 
 -- ---- what a take asks for: a state over the items of the words, and a parsed mark
-pub record Ready (area words m : List ℕ) (p : Numbers) (mark : ℕ) : Type 0 where
+pub record CanTake (area words m : List ℕ) (p : Numbers) (mark : ℕ) : Type 0 where
   pub items : List rules.Item
   pub table : Table area words items
   pub same : length items ≡ p .count
@@ -41,7 +41,7 @@ pub record Skips (area words : List ℕ) (test : rules.Item → Bool) (m : List 
   pub passed : Passed area words test m (p .start) from
 
 -- a table of `known` for the places in scope, and a node that it may have
-pub record Reaches (table : List ℕ) (p : Numbers) (node : ℕ) : Type 0 where
+pub record HasBits (table : List ℕ) (p : Numbers) (node : ℕ) : Type 0 where
   pub low : node < 64
   pub long : 257 ≤ length table
   pub few : p .end ≤ 256
@@ -78,7 +78,7 @@ comparedItem (Word t) = true
 comparedItem (PosWord t) = false
 
 -- ---- what is left: as many marks, and a good state over as many items
-pub record Left (m : List ℕ) (p : Numbers) (m′ : List ℕ) (q : Numbers) : Type 0 where
+pub record LeftState (m : List ℕ) (p : Numbers) (m′ : List ℕ) (q : Numbers) : Type 0 where
   pub count : q .count ≡ p .count
   pub long : length m′ ≡ length m
   pub fine : Fine m′ q
@@ -86,7 +86,7 @@ pub record Left (m : List ℕ) (p : Numbers) (m′ : List ℕ) (q : Numbers) : T
 -- key and value are used, one after the other
 pub record UsesBoth (mark : ℕ) (m : List ℕ) (p : Numbers) (key : ℕ) (m′ : List ℕ) (q : Numbers) : Type 0 where
   pub same : (remove mark (withCurrent (some (suc key)) (stateOf m p)) key >>= λ u. remove mark u (suc key)) ≡ ok (stateOf m′ q)
-  pub left : Left m p m′ q
+  pub left : LeftState m p m′ q
 
 -- ---- answers
 abbrev pub valueOf : List ℕ → List ℕ → Numbers → Value → Outcome (Took (Option Taken))
@@ -99,10 +99,10 @@ abbrev pub refusedAt : ℕ → Numbers → Argument
 refusedAt key p = record { value = NoArgument key; numbers = p }
 
 -- refused, nothing is changed
-abbrev pub Unchanged : List ℕ → Numbers → List ℕ → Numbers → Value → Type 0
-Unchanged m p m′ q Missing = Unit {0}
-Unchanged m p m′ q (Value·Taken i t) = Unit {0}
-Unchanged m p m′ q (NoArgument i) = (m′ ≡ m) × (q ≡ p)
+abbrev pub ValueUnchanged : List ℕ → Numbers → List ℕ → Numbers → Value → Type 0
+ValueUnchanged m p m′ q Missing = Unit {0}
+ValueUnchanged m p m′ q (Value·Taken i t) = Unit {0}
+ValueUnchanged m p m′ q (NoArgument i) = (m′ ≡ m) × (q ≡ p)
 
 abbrev pub operandOf : List ℕ → List ℕ → Numbers → Operand → Outcome (Took (Option RulesOperand))
 operandOf area m p Operand·Missing = took none (stateOf m p)
@@ -116,20 +116,20 @@ Items area words p is = Table area words is × (length is ≡ p .count)
 pub record TakesFlag (mark : ℕ) (area words : List ℕ) (n : Named) (m : List ℕ) (p : Numbers) (m′ : List ℕ) (r : Flag) : Type 0 where
   pub same : (is : List rules.Item) → Items area words p is
       → takeFlag mark is n (stateOf m p) ≡ took (r .found) (stateOf m′ (r .numbers))
-  pub left : Left m p m′ (r .numbers)
+  pub left : LeftState m p m′ (r .numbers)
 
 pub record TakesArg (mark : ℕ) (area words : List ℕ) (n : Named) (adjacent : Bool) (m : List ℕ) (p : Numbers) (m′ : List ℕ) (r : Argument) : Type 0 where
   pub same : (is : List rules.Item) → Items area words p is
       → takeArg mark is n adjacent (stateOf m p) ≡ valueOf area m′ (r .numbers) (r .value)
-  pub unchanged : Unchanged m p m′ (r .numbers) (r .value)
-  pub left : Left m p m′ (r .numbers)
+  pub unchanged : ValueUnchanged m p m′ (r .numbers) (r .value)
+  pub left : LeftState m p m′ (r .numbers)
 
 pub record TakesPositional (mark : ℕ) (area words m : List ℕ) (p : Numbers) (m′ : List ℕ) (r : Positional) : Type 0 where
   pub same : (is : List rules.Item) → Items area words p is
       → takePositionalWord mark is (stateOf m p) ≡ operandOf area m′ (r .numbers) (r .operand)
-  pub left : Left m p m′ (r .numbers)
+  pub left : LeftState m p m′ (r .numbers)
 
 pub record TakesCmd (mark : ℕ) (area words word m : List ℕ) (p : Numbers) (m′ : List ℕ) (r : Flag) : Type 0 where
   pub same : (is : List rules.Item) → Items area words p is
       → takeCmd mark is word (stateOf m p) ≡ took (r .found) (stateOf m′ (r .numbers))
-  pub left : Left m p m′ (r .numbers)
+  pub left : LeftState m p m′ (r .numbers)

@@ -12,16 +12,19 @@ ghost use Rattle.rules.specs.Split.{Item as RulesItem};
 ghost use Rattle.rules.specs.State.{parsed};
 ghost use Rattle.rules.specs.Take.{isCommand, isOperand, matchesArg};
 ghost use Rattle.rules.specs.Calls.{itemFrom};
-ghost use Rattle.arg.specs.Items.{recordAt, itemOf};
-ghost use Rattle.state.specs.Lent.{Fine};
-ghost use Rattle.named.specs.Codes.{namedAt};
-ghost use Rattle.named.specs.Items.{operandKind};
-ghost use Rattle.named.specs.Search.{HasNames, HasItem, Sought};
-ghost use Rattle.known.specs.Known.{Says};
-ghost use Rattle.take.specs.Takes.{Ready, Skips, Reaches, setCurrent, refusedAt, freeBelow, textPart, strictItem, comparedItem, UsesBoth, TakesFlag, TakesArg, TakesPositional, TakesCmd};
-use arg::Item;
-use arg::Part;
-use state::Numbers;
+ghost use Rattle.split_arg.specs.Items.{recordAt, itemOf};
+ghost use Rattle.state_marks.specs.Lent.{Fine};
+ghost use Rattle.form_codes.specs.Codes.{namedAt};
+ghost use Rattle.take_search.specs.Items.{operandKind};
+ghost use Rattle.take_search.specs.Search.{HasNames, HasItem, Sought};
+ghost use Rattle.take_table.specs.Known.{TableTells};
+ghost use Rattle.take.specs.Takes.{CanTake, Skips, HasBits, setCurrent, refusedAt, freeBelow, textPart, strictItem, comparedItem, UsesBoth, TakesFlag, TakesArg, TakesPositional, TakesCmd};
+use split_arg::Item;
+use split_arg::Part;
+use state_marks::Numbers;
+use state_marks::is_present;
+use take_search::Names;
+use wire::wide;
 
 // Whether it was taken.
 pub struct Flag {
@@ -52,12 +55,6 @@ pub struct Positional {
     pub numbers: Numbers,
 }
 
-fn wide(x: u32) -> usize
-    ensures { λ r. ⌜ r ≡ x ⌝ }
-{
-    x as usize
-}
-
 fn set_current(p: Numbers, current: u32) -> Numbers
     ensures { λ r. ⌜ r ≡ setCurrent current p ⌝ }
 {
@@ -78,7 +75,7 @@ fn is_free(marks: &[u16], i: usize, end: usize) -> bool
     if end <= i {
         return false;
     }
-    marks[i] != 1
+    is_present(marks[i])
 }
 
 fn text_of(item: Item) -> Part
@@ -109,17 +106,17 @@ fn is_command(sheet: &[u8], items: &[u32], i: usize, word: &[u8]) -> bool
     requires { ⌜ HasItem (now sheet) (now items) i ⌝ }
     ensures { λ r. ⌜ ((x : RulesItem) → itemFrom (sheetArea (now (sheet .entry))) (recordAt (now (items .entry)) i) ≡ some x → r ≡ isCommand (now (word .entry)) (some (record { place = i; item = x }))) ⌝ }
 {
-    let item = arg::read_item(items, i);
+    let item = split_arg::read_item(items, i);
     if !is_compared(item) {
         return false;
     }
-    named::same_bytes(named::part_bytes(sheet, text_of(item)), word)
+    take_search::same_bytes(take_search::part_bytes(sheet, text_of(item)), word)
 }
 
 // A flag for which a search found `place`, or the end of the scope.
 fn use_flag(marks: &mut [u16; 256], p: Numbers, place: usize, mark: u16) -> Flag
     requires { ⌜ Fine (now marks) p × (parsed mark ≡ true) ⌝ }
-    ensures { λ r. ⌜ ((area words : List ℕ) (n : Named) → Ready area words (now (marks .entry)) p mark → Sought area words (matchesArg n false) (now (marks .entry)) (p .start) (p .end) place → TakesFlag mark area words n (now (marks .entry)) p (now (marks .exit)) r) ⌝ }
+    ensures { λ r. ⌜ ((area words : List ℕ) (n : Named) → CanTake area words (now (marks .entry)) p mark → Sought area words (matchesArg n false) (now (marks .entry)) (p .start) (p .end) place → TakesFlag mark area words n (now (marks .entry)) p (now (marks .exit)) r) ⌝ }
 {
     if wide(p.end) <= place {
         return Flag {
@@ -127,7 +124,7 @@ fn use_flag(marks: &mut [u16; 256], p: Numbers, place: usize, mark: u16) -> Flag
             numbers: p,
         };
     }
-    let left = state::remove(marks, p, place, mark);
+    let left = state_marks::remove(marks, p, place, mark);
     Flag {
         found: true,
         numbers: left,
@@ -146,23 +143,17 @@ pub fn take_flag(
     count: usize,
     mark: u16,
 ) -> Flag
-    requires { ⌜ HasNames (now form) (now codes) first count × (sheetFault (now sheet) ≡ 0) × Ready (sheetArea (now sheet)) (now items) (now marks) p mark ⌝ }
+    requires { ⌜ HasNames (now form) (now codes) first count × (sheetFault (now sheet) ≡ 0) × CanTake (sheetArea (now sheet)) (now items) (now marks) p mark ⌝ }
     ensures { λ r. ⌜ TakesFlag mark (sheetArea (now (sheet .entry))) (now (items .entry)) (namedAt (now (form .entry)) first count) (now (marks .entry)) p (now (marks .exit)) r ⌝ }
 {
     let start = wide(p.start);
     let end = wide(p.end);
-    let place = named::find_named(
-        form,
-        codes,
-        sheet,
-        items,
-        marks,
-        start,
-        end,
+    let names = Names {
         first,
         count,
-        false,
-    );
+        adjacent: false,
+    };
+    let place = take_search::find_named(form, codes, sheet, items, marks, start, end, names);
     use_flag(marks, p, place, mark)
 }
 
@@ -175,10 +166,10 @@ pub fn take_flag_known(
     node: usize,
     mark: u16,
 ) -> Flag
-    requires { ⌜ Fine (now marks) p × (parsed mark ≡ true) × Reaches (now known) p node × (from ≤ p .end) ⌝ }
-    ensures { λ r. ⌜ ((area words : List ℕ) (n : Named) → Ready area words (now (marks .entry)) p mark → Says (now (known .entry)) (p .end) node area words (matchesArg n false) → Skips area words (matchesArg n false) (now (marks .entry)) p from → TakesFlag mark area words n (now (marks .entry)) p (now (marks .exit)) r) ⌝ }
+    requires { ⌜ Fine (now marks) p × (parsed mark ≡ true) × HasBits (now known) p node × (from ≤ p .end) ⌝ }
+    ensures { λ r. ⌜ ((area words : List ℕ) (n : Named) → CanTake area words (now (marks .entry)) p mark → TableTells (now (known .entry)) (p .end) node area words (matchesArg n false) → Skips area words (matchesArg n false) (now (marks .entry)) p from → TakesFlag mark area words n (now (marks .entry)) p (now (marks .exit)) r) ⌝ }
 {
-    let place = known::find(known, marks, node, from, wide(p.end));
+    let place = take_table::find(known, marks, node, from, wide(p.end));
     use_flag(marks, p, place, mark)
 }
 
@@ -189,8 +180,8 @@ fn use_both(marks: &mut [u16; 256], p: Numbers, key: usize, mark: u16) -> Number
 {
     let value = key + 1;
     let at_value = set_current(p, value as u32 + 1);
-    let left = state::remove(marks, at_value, key, mark);
-    state::remove(marks, left, value, mark)
+    let left = state_marks::remove(marks, at_value, key, mark);
+    state_marks::remove(marks, left, value, mark)
 }
 
 // Refusal 22 at the key, with the state as it was.
@@ -211,8 +202,8 @@ fn use_argument(
     key: usize,
     mark: u16,
 ) -> Argument
-    requires { ⌜ ((area : List ℕ) × Ready area (now items) (now marks) p mark) ⌝ }
-    ensures { λ r. ⌜ ((area : List ℕ) (n : Named) (adjacent : Bool) → Ready area (now (items .entry)) (now (marks .entry)) p mark → Sought area (now (items .entry)) (matchesArg n adjacent) (now (marks .entry)) (p .start) (p .end) key → TakesArg mark area (now (items .entry)) n adjacent (now (marks .entry)) p (now (marks .exit)) r) ⌝ }
+    requires { ⌜ ((area : List ℕ) × CanTake area (now items) (now marks) p mark) ⌝ }
+    ensures { λ r. ⌜ ((area : List ℕ) (n : Named) (adjacent : Bool) → CanTake area (now (items .entry)) (now (marks .entry)) p mark → Sought area (now (items .entry)) (matchesArg n adjacent) (now (marks .entry)) (p .start) (p .end) key → TakesArg mark area (now (items .entry)) n adjacent (now (marks .entry)) p (now (marks .exit)) r) ⌝ }
 {
     let end = wide(p.end);
     if end <= key {
@@ -224,7 +215,7 @@ fn use_argument(
     if !is_free(marks, key + 1, end) {
         return no_argument(p, key);
     }
-    let item = arg::read_item(items, key + 1);
+    let item = split_arg::read_item(items, key + 1);
     let (Item::Word(t) | Item::ArgWord(t)) = item else {
         return no_argument(p, key);
     };
@@ -243,28 +234,15 @@ pub fn take_arg(
     items: &[u32],
     marks: &mut [u16; 256],
     p: Numbers,
-    first: usize,
-    count: usize,
-    adjacent: bool,
+    names: Names,
     mark: u16,
 ) -> Argument
-    requires { ⌜ HasNames (now form) (now codes) first count × (sheetFault (now sheet) ≡ 0) × Ready (sheetArea (now sheet)) (now items) (now marks) p mark ⌝ }
-    ensures { λ r. ⌜ TakesArg mark (sheetArea (now (sheet .entry))) (now (items .entry)) (namedAt (now (form .entry)) first count) adjacent (now (marks .entry)) p (now (marks .exit)) r ⌝ }
+    requires { ⌜ HasNames (now form) (now codes) (names .first) (names .count) × (sheetFault (now sheet) ≡ 0) × CanTake (sheetArea (now sheet)) (now items) (now marks) p mark ⌝ }
+    ensures { λ r. ⌜ TakesArg mark (sheetArea (now (sheet .entry))) (now (items .entry)) (namedAt (now (form .entry)) (names .first) (names .count)) (names .adjacent) (now (marks .entry)) p (now (marks .exit)) r ⌝ }
 {
     let start = wide(p.start);
     let end = wide(p.end);
-    let key = named::find_named(
-        form,
-        codes,
-        sheet,
-        items,
-        marks,
-        start,
-        end,
-        first,
-        count,
-        adjacent,
-    );
+    let key = take_search::find_named(form, codes, sheet, items, marks, start, end, names);
     use_argument(items, marks, p, key, mark)
 }
 
@@ -278,10 +256,10 @@ pub fn take_arg_known(
     node: usize,
     mark: u16,
 ) -> Argument
-    requires { ⌜ ((area : List ℕ) × Ready area (now items) (now marks) p mark) × Reaches (now known) p node × (from ≤ p .end) ⌝ }
-    ensures { λ r. ⌜ ((area : List ℕ) (n : Named) (adjacent : Bool) → Ready area (now (items .entry)) (now (marks .entry)) p mark → Says (now (known .entry)) (p .end) node area (now (items .entry)) (matchesArg n adjacent) → Skips area (now (items .entry)) (matchesArg n adjacent) (now (marks .entry)) p from → TakesArg mark area (now (items .entry)) n adjacent (now (marks .entry)) p (now (marks .exit)) r) ⌝ }
+    requires { ⌜ ((area : List ℕ) × CanTake area (now items) (now marks) p mark) × HasBits (now known) p node × (from ≤ p .end) ⌝ }
+    ensures { λ r. ⌜ ((area : List ℕ) (n : Named) (adjacent : Bool) → CanTake area (now (items .entry)) (now (marks .entry)) p mark → TableTells (now (known .entry)) (p .end) node area (now (items .entry)) (matchesArg n adjacent) → Skips area (now (items .entry)) (matchesArg n adjacent) (now (marks .entry)) p from → TakesArg mark area (now (items .entry)) n adjacent (now (marks .entry)) p (now (marks .exit)) r) ⌝ }
 {
-    let key = known::find(known, marks, node, from, wide(p.end));
+    let key = take_table::find(known, marks, node, from, wide(p.end));
     use_argument(items, marks, p, key, mark)
 }
 
@@ -311,7 +289,7 @@ pub fn take_positional_word(
     p: Numbers,
     mark: u16,
 ) -> Positional
-    requires { ⌜ ((area : List ℕ) × Ready area (now items) (now marks) p mark) ⌝ }
+    requires { ⌜ ((area : List ℕ) × CanTake area (now items) (now marks) p mark) ⌝ }
     ensures { λ r. ⌜ ((area : List ℕ) → TakesPositional mark area (now (items .entry)) (now (marks .entry)) p (now (marks .exit)) r) ⌝ }
 {
     let start = wide(p.start);
@@ -325,11 +303,11 @@ pub fn take_positional_word_from(
     from: usize,
     mark: u16,
 ) -> Positional
-    requires { ⌜ ((area : List ℕ) × Ready area (now items) (now marks) p mark × Skips area (now items) isOperand (now marks) p from) ⌝ }
+    requires { ⌜ ((area : List ℕ) × CanTake area (now items) (now marks) p mark × Skips area (now items) isOperand (now marks) p from) ⌝ }
     ensures { λ r. ⌜ ((area : List ℕ) → TakesPositional mark area (now (items .entry)) (now (marks .entry)) p (now (marks .exit)) r) ⌝ }
 {
     let end = wide(p.end);
-    let place = named::find_operand(items, marks, from, end);
+    let place = take_search::find_operand(items, marks, from, end);
     if end <= place {
         return Positional {
             operand: Operand::Missing,
@@ -337,7 +315,7 @@ pub fn take_positional_word_from(
         };
     }
     let here = set_current(p, place as u32 + 1);
-    let left = state::remove(marks, here, place, mark);
+    let left = state_marks::remove(marks, here, place, mark);
     Positional {
         operand: Operand::Taken(place, is_strict(items, place), text_at(items, place)),
         numbers: left,
@@ -353,15 +331,15 @@ pub fn take_cmd(
     word: &[u8],
     mark: u16,
 ) -> Flag
-    requires { ⌜ (sheetFault (now sheet) ≡ 0) × Ready (sheetArea (now sheet)) (now items) (now marks) p mark ⌝ }
+    requires { ⌜ (sheetFault (now sheet) ≡ 0) × CanTake (sheetArea (now sheet)) (now items) (now marks) p mark ⌝ }
     ensures { λ r. ⌜ TakesCmd mark (sheetArea (now (sheet .entry))) (now (items .entry)) (now (word .entry)) (now (marks .entry)) p (now (marks .exit)) r ⌝ }
 {
     let start = wide(p.start);
     let end = wide(p.end);
-    let place = state::first_present(marks, start, end);
+    let place = state_marks::first_present(marks, start, end);
     if place < end {
         if is_command(sheet, items, place, word) {
-            let left = state::remove(marks, p, place, mark);
+            let left = state_marks::remove(marks, p, place, mark);
             return Flag {
                 found: true,
                 numbers: set_current(left, place as u32 + 1),

@@ -5,18 +5,25 @@ ghost use lib.ListN.{length, replicate};
 ghost use lib.Seq.{sets};
 ghost use Rattle.wire.specs.Wire.{numberAt, Width, offset, areaStart, tableGood, entryOf, HasEntry};
 
-fn wide(x: u8) -> u32
+fn byte(x: u8) -> u32
     ensures { λ r. ⌜ r ≡ x ⌝ }
 {
     x as u32
+}
+
+// A number of 32 bits as a place in a slice.
+pub fn wide(x: u32) -> usize
+    ensures { λ r. ⌜ r ≡ x ⌝ }
+{
+    x as usize
 }
 
 pub fn u16_at(b: &[u8], i: usize) -> u32
     requires { ⌜ i + 2 ≤ length (now b) ⌝ }
     ensures { λ r. ⌜ r ≡ numberAt 2 (now (b .entry)) i ⌝ }
 {
-    let low = wide(b[i]);
-    let high = wide(b[i + 1]);
+    let low = byte(b[i]);
+    let high = byte(b[i + 1]);
     low + 256 * high
 }
 

@@ -3,114 +3,16 @@
 use line::cases::{self, Rng};
 use line::forged::{self, Call, Lent, State};
 use line::format::*;
+use proved::{Answer, StateAnswer};
 
-use super::{split::split, Compared};
+use super::Compared;
 use crate::lists::hex;
 #[cfg(live)]
 use super::split::raw;
 #[cfg(live)]
 use bpaf::doc::harness::{self, Held};
-
-/// A place is itself plus 1, or 0 for none.
-#[repr(C)]
-#[derive(Clone, Copy, Debug, Default, PartialEq, Eq)]
-pub struct Answer {
-    pub number: u32,
-    pub place: u32,
-    pub found: u32,
-    pub first: u32,
-    pub second: u32,
-}
-
-#[repr(C)]
-#[derive(Clone, Copy)]
-struct StateAnswer {
-    answer: Answer,
-    state: State,
-}
-
-#[repr(C)]
-#[derive(Clone, Copy)]
-struct Got {
-    number: u32,
-    place: u32,
-    item: [u32; 7],
-}
-
 #[cfg(live)]
-#[repr(C)]
-#[derive(Clone, Copy, Debug, PartialEq, Eq)]
-struct Refused {
-    number: u32,
-    place: u32,
-}
-
-#[link(name = "exports_calls", kind = "static")]
-extern "C" {
-    fn silverpoise_remove(state: State, place: usize) -> StateAnswer;
-    fn silverpoise_pick_winner(state: State, other: State) -> Answer;
-    fn silverpoise_save_conflicts(state: State, loser: State, winner: usize) -> StateAnswer;
-    fn silverpoise_set_scope(state: State, from: usize, to: usize) -> StateAnswer;
-    fn silverpoise_adjacent_scope(state: State, original: State) -> Answer;
-    fn silverpoise_adjacently_available_from(state: State, from: usize) -> Answer;
-    fn silverpoise_get(sheet: *const u8, n: usize, items: *const u32, m: usize, state: State, place: usize) -> Got;
-    fn silverpoise_conflict(sheet: *const u8, n: usize, items: *const u32, m: usize, state: State) -> Answer;
-    fn silverpoise_take_positional_word(
-        sheet: *const u8,
-        n: usize,
-        items: *const u32,
-        m: usize,
-        state: State,
-    ) -> StateAnswer;
-    fn silverpoise_only_once(sheet: *const u8, n: usize, items: *const u32, m: usize, place: usize) -> Answer;
-    fn silverpoise_matches_arg(
-        form: *const u8,
-        k: usize,
-        sheet: *const u8,
-        n: usize,
-        items: *const u32,
-        m: usize,
-        state: State,
-        node: usize,
-        place: usize,
-    ) -> Answer;
-    fn silverpoise_take_flag(
-        form: *const u8,
-        k: usize,
-        sheet: *const u8,
-        n: usize,
-        items: *const u32,
-        m: usize,
-        state: State,
-        node: usize,
-    ) -> StateAnswer;
-    fn silverpoise_take_arg(
-        form: *const u8,
-        k: usize,
-        sheet: *const u8,
-        n: usize,
-        items: *const u32,
-        m: usize,
-        state: State,
-        node: usize,
-    ) -> StateAnswer;
-    fn silverpoise_take_cmd(
-        form: *const u8,
-        k: usize,
-        sheet: *const u8,
-        n: usize,
-        items: *const u32,
-        m: usize,
-        state: State,
-        record: usize,
-    ) -> StateAnswer;
-    #[cfg(live)]
-    fn silverpoise_can_catch(number: u32) -> bool;
-    #[cfg(live)]
-    fn silverpoise_wrong_input(number: u32) -> bool;
-    #[cfg(live)]
-    fn silverpoise_combine_with(first: Refused, second: Refused) -> Refused;
-}
+use proved::{code, Refused};
 
 /// What a call said: its answer, the state it left, and the record of `get`.
 #[derive(Clone, Debug, PartialEq, Eq)]
@@ -121,42 +23,37 @@ pub struct Said {
 }
 
 impl Said {
-    fn new(answer: Answer, state: State) -> Said {
+    pub fn new(answer: Answer, state: State) -> Said {
         Said { answer, state, record: [0; 7] }
     }
 }
 
 /// One call of the proved code.
 pub fn ours(lent: &Lent, call: &Call) -> Said {
-    let (form, k) = (lent.form.as_ptr(), lent.form.len());
-    let (sheet, n) = (lent.sheet.as_ptr(), lent.sheet.len());
-    let (items, m) = (lent.items.as_ptr(), lent.items.len());
     let s = *lent.state;
     let read = |answer: Answer| Said::new(answer, s);
     let changed = |a: StateAnswer| Said::new(a.answer, a.state);
-    unsafe {
-        match *call {
-            Call::Remove(place) => changed(silverpoise_remove(s, place)),
-            Call::PickWinner(t) => read(silverpoise_pick_winner(s, t)),
-            Call::SaveConflicts(t, winner) => changed(silverpoise_save_conflicts(s, t, winner)),
-            Call::SetScope(from, to) => changed(silverpoise_set_scope(s, from, to)),
-            Call::AdjacentScope(t) => read(silverpoise_adjacent_scope(s, t)),
-            Call::AvailableFrom(from) => read(silverpoise_adjacently_available_from(s, from)),
-            Call::Get(place) => {
-                let got = silverpoise_get(sheet, n, items, m, s, place);
-                let found = u32::from(got.item != [0; 7]);
-                let answer = Answer { number: got.number, place: got.place, found, ..Answer::default() };
-                Said { answer, state: s, record: got.item }
-            }
-            Call::Conflict => read(silverpoise_conflict(sheet, n, items, m, s)),
-            Call::TakePositional => changed(silverpoise_take_positional_word(sheet, n, items, m, s)),
-            Call::OnlyOnce(place) => read(silverpoise_only_once(sheet, n, items, m, place)),
-            Call::Matches(node, place) => read(silverpoise_matches_arg(form, k, sheet, n, items, m, s, node, place)),
-            Call::TakeFlag(node) => changed(silverpoise_take_flag(form, k, sheet, n, items, m, s, node)),
-            Call::TakeArg(node) => changed(silverpoise_take_arg(form, k, sheet, n, items, m, s, node)),
-            Call::TakeCmd(record) => changed(silverpoise_take_cmd(form, k, sheet, n, items, m, s, record)),
-            Call::Eval(..) | Call::Text(_) => unreachable!("not among the calls on used places"),
+    match *call {
+        Call::Remove(place) => changed(proved::remove(s, place)),
+        Call::PickWinner(t) => read(proved::pick_winner(s, t)),
+        Call::SaveConflicts(t, winner) => changed(proved::save_conflicts(s, t, winner)),
+        Call::SetScope(from, to) => changed(proved::set_scope(s, from, to)),
+        Call::AdjacentScope(t) => read(proved::adjacent_scope(s, t)),
+        Call::AvailableFrom(from) => read(proved::adjacently_available_from(s, from)),
+        Call::Get(place) => {
+            let got = proved::get(lent, place);
+            let found = u32::from(got.item != [0; 7]);
+            let answer = Answer { number: got.number, place: got.place, found, ..Answer::default() };
+            Said { answer, state: s, record: got.item }
         }
+        Call::Conflict => read(proved::conflict(lent)),
+        Call::TakePositional => changed(proved::take_positional_word(lent)),
+        Call::OnlyOnce(place) => read(proved::only_once(lent, place)),
+        Call::Matches(node, place) => read(proved::matches_arg(lent, node, place)),
+        Call::TakeFlag(node) => changed(proved::take_flag(lent, node)),
+        Call::TakeArg(node) => changed(proved::take_arg(lent, node)),
+        Call::TakeCmd(record) => changed(proved::take_cmd(lent, record)),
+        Call::Eval(..) | Call::Text(_) => unreachable!("not among the calls on used places"),
     }
 }
 
@@ -165,39 +62,36 @@ fn yes(found: bool) -> Answer {
 }
 
 #[cfg(live)]
-fn code(place: Option<usize>) -> u32 {
-    place.map_or(0, |p| p as u32 + 1)
+fn pair(first: usize, second: usize) -> Answer {
+    Answer { first: first as u32, second: second as u32, ..yes(true) }
+}
+
+/// A call that only changes the state.
+#[cfg(live)]
+fn change(held: &mut Held, second: &Held, call: &Call) -> Answer {
+    match *call {
+        Call::Remove(place) => held.remove(place),
+        Call::SaveConflicts(_, winner) => held.save_conflicts(second, winner),
+        Call::SetScope(from, to) => held.set_scope(from..to),
+        _ => unreachable!("a call that says something"),
+    }
+    yes(true)
 }
 
 /// One call of the real bpaf. `second` is the other state of a call on two.
 #[cfg(live)]
 fn theirs(held: &mut Held, second: &Held, form: &Form, records: &[[u32; 7]], call: &Call) -> Said {
-    let pair = |found, first: usize, second: usize| {
-        Answer { first: first as u32, second: second as u32, ..yes(found) }
-    };
-    let refused = |r: Refusal| Answer { number: r.number, place: code(r.place), ..Answer::default() };
     let mut record = [0; 7];
     let answer = match *call {
-        Call::Remove(place) => {
-            held.remove(place);
-            yes(true)
-        }
+        Call::Remove(_) | Call::SaveConflicts(..) | Call::SetScope(..) => change(held, second, call),
         Call::PickWinner(_) => {
             let (first, place) = held.pick_winner(second);
             Answer { first: code(place), ..yes(first) }
         }
-        Call::SaveConflicts(_, winner) => {
-            held.save_conflicts(second, winner);
-            yes(true)
-        }
-        Call::SetScope(from, to) => {
-            held.set_scope(from..to);
-            yes(true)
-        }
-        Call::AdjacentScope(_) => held.adjacent_scope(second).map_or(yes(false), |s| pair(true, s.start, s.end)),
+        Call::AdjacentScope(_) => held.adjacent_scope(second).map_or(yes(false), |s| pair(s.start, s.end)),
         Call::AvailableFrom(from) => {
             let scope = held.adjacently_available_from(from);
-            pair(true, scope.start, scope.end)
+            pair(scope.start, scope.end)
         }
         Call::Get(place) => {
             let found = held.get(place);
@@ -206,16 +100,14 @@ fn theirs(held: &mut Held, second: &Held, form: &Form, records: &[[u32; 7]], cal
             }
             yes(found)
         }
-        Call::Conflict => held.conflict().map_or(yes(false), |(place, winner)| pair(true, place, winner)),
-        Call::TakePositional => held
-            .take_positional_word()
-            .map_or_else(refused, |(place, strict)| pair(true, place, usize::from(strict))),
-        Call::OnlyOnce(place) => held.only_once(place).map_or(yes(false), |p| pair(true, p, 0)),
+        Call::Conflict => held.conflict().map_or(yes(false), |(place, winner)| pair(place, winner)),
+        Call::TakePositional => {
+            held.take_positional_word().map_or_else(Answer::from, |(place, strict)| pair(place, usize::from(strict)))
+        }
+        Call::OnlyOnce(place) => held.only_once(place).map_or(yes(false), |p| pair(p, 0)),
         Call::Matches(node, place) => yes(held.matches_arg(form, node, place).expect("a place that is there")),
         Call::TakeFlag(node) => yes(held.take_flag(form, node)),
-        Call::TakeArg(node) => {
-            held.take_arg(form, node).map_or_else(refused, |v| v.map_or(yes(false), |p| pair(true, p, 0)))
-        }
+        Call::TakeArg(node) => held.take_arg(form, node).map_or_else(Answer::from, |v| v.map_or(yes(false), |p| pair(p, 0))),
         Call::TakeCmd(record) => yes(held.take_cmd(form, record)),
         Call::Eval(..) | Call::Text(_) => unreachable!("not among the calls on used places"),
     };
@@ -250,7 +142,7 @@ pub fn start(rng: &mut Rng, spare: usize) -> (Vec<u8>, Vec<u8>, Vec<u32>, State)
         let case = cases::well_made(rng);
         let small = Sheet::check(&case.sheet).is_ok_and(|s| s.arguments.len() <= 40);
         let mut items = vec![0; forged::ITEM_WORDS + spare];
-        let ended = split(&case.form, &case.sheet, &mut items);
+        let ended = proved::split(&case.form, &case.sheet, &mut items);
         if small && ended.number == 0 {
             return (case.form, case.sheet, items, ended.state);
         }
@@ -349,17 +241,16 @@ fn on_refusals() -> Compared {
         .map(|n| if [20, 21].contains(&n) { Refusal::new(n) } else { Refusal::at(n, 3 + n as usize) })
         .filter(|r| harness::can_catch(*r).is_some())
         .collect();
-    let handed = |r: Refusal| Refused { number: r.number, place: code(r.place) };
     for a in &all {
         let n = || a.number.to_string();
         compared.cases += 2;
-        compared.same("can_catch", &n, Some(unsafe { silverpoise_can_catch(a.number) }), harness::can_catch(*a));
-        compared.same("wrong_input", &n, Some(unsafe { silverpoise_wrong_input(a.number) }), harness::wrong_input(*a));
+        compared.same("can_catch", &n, Some(proved::can_catch(a.number)), harness::can_catch(*a));
+        compared.same("wrong_input", &n, Some(proved::wrong_input(a.number)), harness::wrong_input(*a));
         for b in &all {
             compared.cases += 1;
-            let combined = unsafe { silverpoise_combine_with(handed(*a), handed(*b)) };
+            let combined = proved::combine_with(Refused::from(*a), Refused::from(*b));
             let two = || format!("{} {}", a.number, b.number);
-            compared.same("combine_with", &two, Some(combined), harness::combine_with(*a, *b).map(handed));
+            compared.same("combine_with", &two, Some(combined), harness::combine_with(*a, *b).map(Refused::from));
         }
     }
     compared
@@ -457,7 +348,6 @@ impl Forgery {
 pub fn compare_forged(seed: u64, count: u64) -> Compared {
     let mut rng = Rng::new(seed);
     let mut compared = Compared::default();
-    let place = |p: Option<usize>| p.map_or(0, |p| p as u32 + 1);
     while compared.cases < count {
         let forgery = Forgery::new(&mut rng);
         let lent = forgery.lent();
@@ -465,7 +355,7 @@ pub fn compare_forged(seed: u64, count: u64) -> Compared {
             let call = forgery.call(&mut rng, 3);
             let said = ours(&lent, &call);
             let expected = match forged::refusal(&lent, &call) {
-                Some(r) => Said::new(Answer { number: r.number, place: place(r.place), ..yes(false) }, *lent.state),
+                Some(r) => Said::new(Answer::from(r), *lent.state),
                 None if [0, 20, 22].contains(&said.answer.number) => said.clone(),
                 None => Said::new(yes(true), *lent.state),
             };

@@ -1,56 +1,14 @@
 //! The form check, the sheet check, kinds and the portable mark against the reading of them in `line::format`.
 
 use line::{cases, cases::Case, cases::Rng, format::*};
+use proved::{form_check, kind, portable, sheet_check, Refused, Told};
 
 use super::Compared;
 use crate::lists::hex;
 
-/// A place is itself plus 1, or 0 for none.
-#[repr(C)]
-#[derive(Clone, Copy, Debug, PartialEq, Eq)]
-pub struct Refused {
-    pub number: u32,
-    pub place: u32,
-}
-
-#[repr(C)]
-#[derive(Clone, Copy, Debug, PartialEq, Eq)]
-struct Told {
-    number: u32,
-    place: u32,
-    answer: u32,
-}
-
-#[link(name = "exports", kind = "static")]
-extern "C" {
-    fn silverpoise_form_check(form: *const u8, length: usize) -> Refused;
-    fn silverpoise_sheet_check(sheet: *const u8, length: usize) -> Refused;
-    fn silverpoise_kind(form: *const u8, length: usize, node: usize) -> Told;
-    fn silverpoise_portable(form: *const u8, length: usize) -> Told;
-}
-
-pub fn form_check(form: &[u8]) -> Refused {
-    unsafe { silverpoise_form_check(form.as_ptr(), form.len()) }
-}
-
-pub fn sheet_check(sheet: &[u8]) -> Refused {
-    unsafe { silverpoise_sheet_check(sheet.as_ptr(), sheet.len()) }
-}
-
-fn kind(form: &[u8], node: usize) -> Told {
-    unsafe { silverpoise_kind(form.as_ptr(), form.len(), node) }
-}
-
-fn portable(form: &[u8]) -> Told {
-    unsafe { silverpoise_portable(form.as_ptr(), form.len()) }
-}
-
 /// The refusal of a check as the library hands it out.
-pub fn refused<T>(checked: &Result<T, Refusal>) -> Refused {
-    match checked {
-        Ok(_) => Refused { number: 0, place: 0 },
-        Err(r) => Refused { number: r.number, place: r.place.map_or(0, |p| p as u32 + 1) },
-    }
+fn refused<T>(checked: &Result<T, Refusal>) -> Refused {
+    checked.as_ref().err().copied().unwrap_or(Refusal::new(0)).into()
 }
 
 /// 1 yes/no, 2 text, 3 number; 3 more for an optional, 6 for a list, 9 for a list of optionals, 12 for an optional list.

@@ -3,64 +3,20 @@
 use line::cases::Rng;
 use line::forged::{self, records, Call, Lent, State};
 use line::format::*;
+use proved::Answer;
 
-use super::calls::{self, Answer};
-use super::Compared;
+use super::{calls, Compared};
 use crate::lists::hex;
-
-#[link(name = "exports_calls", kind = "static")]
-extern "C" {
-    fn silverpoise_remove_in_place(state: *mut State, place: usize) -> Answer;
-    fn silverpoise_take_flag_in_place(
-        state: *mut State,
-        form: *const u8,
-        k: usize,
-        sheet: *const u8,
-        n: usize,
-        items: *const u32,
-        m: usize,
-        node: usize,
-    ) -> Answer;
-    fn silverpoise_find(
-        form: *const u8,
-        k: usize,
-        sheet: *const u8,
-        n: usize,
-        items: *const [u32; 7],
-        count: usize,
-        state: State,
-        node: usize,
-    ) -> Answer;
-}
 
 /// `remove` or `take_flag` on a copy of the state that is lent: the answer, and the state that it left.
 fn in_place(lent: &Lent, call: &Call) -> (Answer, State) {
-    let (f, s, i) = (lent.form, lent.sheet, lent.items);
     let mut state = *lent.state;
-    let answer = unsafe {
-        match *call {
-            Call::Remove(place) => silverpoise_remove_in_place(&mut state, place),
-            Call::TakeFlag(node) => silverpoise_take_flag_in_place(
-                &mut state,
-                f.as_ptr(),
-                f.len(),
-                s.as_ptr(),
-                s.len(),
-                i.as_ptr(),
-                i.len(),
-                node,
-            ),
-            _ => unreachable!("not on a lent state"),
-        }
+    let answer = match *call {
+        Call::Remove(place) => proved::remove_in_place(&mut state, place),
+        Call::TakeFlag(node) => proved::take_flag_in_place(&mut state, lent, node),
+        _ => unreachable!("not on a lent state"),
     };
     (answer, state)
-}
-
-fn find(lent: &Lent, items: &[[u32; 7]], node: usize) -> Answer {
-    let (f, s) = (lent.form, lent.sheet);
-    unsafe {
-        silverpoise_find(f.as_ptr(), f.len(), s.as_ptr(), s.len(), items.as_ptr(), items.len(), *lent.state, node)
-    }
 }
 
 impl Compared {
@@ -75,7 +31,7 @@ impl Compared {
 
     pub fn found(&mut self, lent: &Lent, items: &[[u32; 7]], node: usize, theirs: Answer) {
         self.cases += 1;
-        let ours = find(lent, items, node);
+        let ours = proved::find(lent, items, node);
         self.answered(ours.number);
         let input = || format!("node {node} on {} {} {items:?} {:?}", hex(lent.form), hex(lent.sheet), lent.state);
         self.same("find", &input, ours, theirs);
@@ -107,7 +63,7 @@ pub fn sought(lent: &Lent, items: &[[u32; 7]], node: usize) -> Answer {
     let whole = Lent { items: &words, ..*lent };
     let refused = forged::refusal(&whole, &Call::Matches(node, 0)).filter(|r| r.number != 28 || !named(&whole, node));
     match refused {
-        Some(r) => Answer { number: r.number, place: r.place.map_or(0, |p| p as u32 + 1), ..Answer::default() },
+        Some(r) => Answer::from(r),
         None => by_number(&whole, records(&words).len(), node),
     }
 }

@@ -1,6 +1,4 @@
-//! The proved code, linked from its static library, beside the Rust that it must equal, in one process.
-//!
-//! A slice is two arguments here, a pointer and a count; declared as one it would pass wrongly where one register is left.
+//! The proved code beside the Rust that it must equal, in one process.
 
 mod calls;
 mod checks;
@@ -39,6 +37,19 @@ impl Compared {
             }
         }
     }
+
+    /// Every word of a slice.
+    fn words(&mut self, what: &str, input: &dyn Fn() -> String, ours: &[u32], theirs: &[u32]) {
+        if ours != theirs {
+            let at = ours.iter().zip(theirs).position(|(a, b)| a != b).unwrap_or(0);
+            self.same(what, &|| format!("{} at word {at}", input()), ours[at], theirs[at]);
+        }
+    }
+}
+
+/// A slice filled with a pattern, so that an untouched word shows.
+fn pattern(length: usize) -> Vec<u32> {
+    (0..length as u32).map(|k| 0xdead_0000 ^ k).collect()
 }
 
 /// A layer by name, with a seed and a count of random cases; none if this build has no such layer.

@@ -3,93 +3,25 @@
 use line::cases::Rng;
 use line::forged::{self, records, Call, Lent, State, ANSWER_WORDS, ITEM_WORDS};
 use line::format::*;
+use proved::{code, Refused, RunAnswer};
 
-use super::{calls, split, Compared};
+use super::{calls, pattern, split, Compared};
 use crate::lists::hex;
 #[cfg(live)]
-use super::split::{raw_view, EMPTY};
+use super::split::{accepted, raw_view, EMPTY};
 #[cfg(live)]
 use bpaf::doc::harness::{self, Wanted};
 #[cfg(live)]
 use line::{cases, cases::Case};
 
-#[repr(C)]
-#[derive(Clone, Copy, Debug, PartialEq, Eq)]
-pub struct RunAnswer {
-    pub number: u32,
-    pub place: u32,
-    pub tries: u32,
-    pub words: u32,
-    pub state: State,
-}
-
-/// `source` is 0 for the sheet and 1 for the form.
-#[repr(C)]
-#[derive(Clone, Copy, Debug, PartialEq, Eq)]
-struct TextPart {
-    number: u32,
-    place: u32,
-    source: u32,
-    offset: u32,
-    length: u32,
-}
-
-#[link(name = "exports", kind = "static")]
-#[link(name = "exports_calls", kind = "static")]
-extern "C" {
-    fn silverpoise_run(
-        form: *const u8,
-        form_length: usize,
-        sheet: *const u8,
-        sheet_length: usize,
-        items: *mut u32,
-        items_length: usize,
-        answers: *mut u32,
-        answers_length: usize,
-    ) -> RunAnswer;
-    fn silverpoise_eval(
-        form: *const u8,
-        form_length: usize,
-        sheet: *const u8,
-        sheet_length: usize,
-        items: *const u32,
-        items_length: usize,
-        answers: *mut u32,
-        answers_length: usize,
-        state: State,
-        node: usize,
-    ) -> RunAnswer;
-    fn silverpoise_text(
-        form: *const u8,
-        form_length: usize,
-        sheet: *const u8,
-        sheet_length: usize,
-        items: *const u32,
-        items_length: usize,
-        word: u32,
-    ) -> TextPart;
-}
-
-pub fn run(form: &[u8], sheet: &[u8], items: &mut [u32], answers: &mut [u32]) -> RunAnswer {
-    let (i, a) = ((items.as_mut_ptr(), items.len()), (answers.as_mut_ptr(), answers.len()));
-    unsafe { silverpoise_run(form.as_ptr(), form.len(), sheet.as_ptr(), sheet.len(), i.0, i.1, a.0, a.1) }
-}
-
-pub fn eval(lent: &Lent, answers: &mut [u32], node: usize) -> RunAnswer {
-    let (f, s, i) = (lent.form, lent.sheet, lent.items);
-    let a = (answers.as_mut_ptr(), answers.len());
-    unsafe { silverpoise_eval(f.as_ptr(), f.len(), s.as_ptr(), s.len(), i.as_ptr(), i.len(), a.0, a.1, *lent.state, node) }
-}
-
-/// The part that holds a text, or the refusal with its place plus 1.
-pub fn text<'a>(lent: &Lent<'a>, word: u32) -> Result<&'a [u8], (u32, u32)> {
-    let (f, s, i) = (lent.form, lent.sheet, lent.items);
-    let t = unsafe { silverpoise_text(f.as_ptr(), f.len(), s.as_ptr(), s.len(), i.as_ptr(), i.len(), word) };
+/// The part that holds a text, or the refusal.
+pub fn text<'a>(lent: &Lent<'a>, word: u32) -> Result<&'a [u8], Refused> {
+    let t = proved::text(lent, word);
     if t.number != 0 {
         assert_eq!((t.source, t.offset, t.length), (0, 0, 0), "refused, the part is empty");
-        return Err((t.number, t.place));
+        return Err(Refused { number: t.number, place: t.place });
     }
-    let from = if t.source == 0 { s } else { f };
+    let from = if t.source == 0 { lent.sheet } else { lent.form };
     Ok(&from[t.offset as usize..][..t.length as usize])
 }
 
@@ -127,7 +59,7 @@ pub fn show(form: &str) -> bool {
     let kinds = form.kinds().expect("a form of the notation is accepted");
     let (form_bytes, sheet) = (form.write(), Sheet { arguments: arguments.clone() }.write());
     let (mut items, mut answers) = (vec![0; ITEM_WORDS], vec![0; ANSWER_WORDS]);
-    let ended = run(&form_bytes, &sheet, &mut items, &mut answers);
+    let ended = proved::run(&form_bytes, &sheet, &mut items, &mut answers);
     split::show_items(&items, &arguments.concat());
     if ended.number != 0 {
         let place = if ended.place == 0 { String::new() } else { format!(" at {}", ended.place - 1) };
@@ -143,46 +75,28 @@ pub fn show(form: &str) -> bool {
     true
 }
 
-/// A slice filled with a pattern, so that an untouched word shows.
-fn pattern(length: usize) -> Vec<u32> {
-    (0..length as u32).map(|k| 0xdead_0000 ^ k).collect()
-}
-
-impl Compared {
-    /// Every word of a slice.
-    fn words(&mut self, what: &str, input: &dyn Fn() -> String, ours: &[u32], theirs: &[u32]) {
-        if ours != theirs {
-            let at = ours.iter().zip(theirs).position(|(a, b)| a != b).unwrap_or(0);
-            self.same(what, &|| format!("{} at word {at}", input()), ours[at], theirs[at]);
-        }
-    }
-}
-
 /// The words, then 0 up to the length.
+#[cfg(live)]
 pub fn padded(words: &[u32], length: usize) -> Vec<u32> {
     let mut all = vec![0; length];
     all[..words.len()].copy_from_slice(words);
     all
 }
 
+/// An answer as the library hands it over, all but its words.
+fn handed(a: &Answer, state: State) -> RunAnswer {
+    RunAnswer { number: a.number, place: code(a.place), tries: a.tries as u32, words: a.words.len() as u32, state }
+}
+
 /// What a run must leave: its answer, the items and the answer words.
 #[cfg(live)]
 fn expected(case: &Case, item_words: usize, answer_words: usize) -> (RunAnswer, Vec<u32>, Vec<u32>) {
-    let checked = Form::check(&case.form).and_then(|f| Sheet::check(&case.sheet).map(|s| (f, s)));
-    let short = item_words < ITEM_WORDS || answer_words < ANSWER_WORDS;
-    let slices = checked.and_then(|both| if short { Err(Refusal::new(7)) } else { Ok(both) });
-    let code = |place: Option<usize>| place.map_or(0, |p| p as u32 + 1);
-    match slices {
-        Err(r) => {
-            let answer = RunAnswer { number: r.number, place: code(r.place), tries: 0, words: 0, state: EMPTY };
-            (answer, vec![0; item_words], vec![0; answer_words])
-        }
+    match accepted(case, item_words < ITEM_WORDS || answer_words < ANSWER_WORDS) {
+        Err(r) => (handed(&Answer::refused(r, 0), EMPTY), vec![0; item_words], vec![0; answer_words]),
         Ok((form, sheet)) => {
             let ran = harness::run(&form, &sheet, Wanted { items: true, ..Wanted::default() });
-            let a = &ran.answer;
-            let (tries, words) = (a.tries as u32, a.words.len() as u32);
-            let answer = RunAnswer { number: a.number, place: code(a.place), tries, words, state: raw_view(&ran.state) };
-            (answer, padded(&ran.records.concat(), item_words), padded(&a.words, answer_words))
+            let answer = handed(&ran.answer, raw_view(&ran.state));
+            (answer, padded(&ran.records.concat(), item_words), padded(&ran.answer.words, answer_words))
         }
     }
 }
@@ -207,7 +121,7 @@ impl Compared {
     fn run(&mut self, case: &Case, lengths: (usize, usize)) {
         self.cases += 1;
         let (mut items, mut answers) = (pattern(lengths.0), pattern(lengths.1));
-        let ours = run(&case.form, &case.sheet, &mut items, &mut answers);
+        let ours = proved::run(&case.form, &case.sheet, &mut items, &mut answers);
         self.answered(ours.number);
         let (theirs, item_words, answer_words) = expected(case, lengths.0, lengths.1);
         let input = || format!("{} {} {lengths:?}", hex(&case.form), hex(&case.sheet));
@@ -254,17 +168,13 @@ pub fn compare_eval(seed: u64, count: u64) -> Compared {
             let lent = Lent { form: &walk.form_bytes, sheet: &walk.sheet_bytes, items: &walk.items, state: &given };
             let length = ANSWER_WORDS + rng.below(3);
             let mut answers = pattern(length);
-            let ours = eval(&lent, &mut answers, node);
+            let ours = proved::eval(&lent, &mut answers, node);
             let (theirs, state) = walk.eval(node);
-            let theirs_words = padded(&theirs.words, length);
-            let place = theirs.place.map_or(0, |p| p as u32 + 1);
-            let words = theirs.words.len() as u32;
-            let expected = RunAnswer { number: theirs.number, place, tries: theirs.tries as u32, words, state };
             let input = || format!("node {node} on {} {} {given:?}", hex(&walk.form_bytes), hex(&walk.sheet_bytes));
             compared.cases += 1;
             compared.answered(ours.number);
-            compared.same("eval", &input, ours, expected);
-            compared.words("eval answers", &input, &answers, &theirs_words);
+            compared.same("eval", &input, ours, handed(&theirs, state));
+            compared.words("eval answers", &input, &answers, &padded(&theirs.words, length));
         }
     }
     compared
@@ -291,13 +201,12 @@ pub fn compare_forged(seed: u64, count: u64) -> Compared {
         let length = [0, ANSWER_WORDS - 1, ANSWER_WORDS, ANSWER_WORDS + 3][rng.below(4).max(rng.below(4))];
         let node = rng.below(forgery.nodes + 2);
         let mut answers = pattern(length);
-        let ours = eval(&lent, &mut answers, node);
+        let ours = proved::eval(&lent, &mut answers, node);
         compared.cases += 2;
         compared.answered(ours.number);
         match forged::refusal(&lent, &Call::Eval(node, length)) {
             Some(r) => {
-                let place = r.place.map_or(0, |p| p as u32 + 1);
-                let theirs = RunAnswer { number: r.number, place, tries: 0, words: 0, state: *lent.state };
+                let theirs = handed(&Answer::refused(r, 0), *lent.state);
                 compared.same("eval", &|| format!("node {node} on {}", input()), ours, theirs);
                 compared.words("eval answers", &input, &answers, &pattern(length));
             }
@@ -305,7 +214,7 @@ pub fn compare_forged(seed: u64, count: u64) -> Compared {
         }
         let word = if rng.chance(1, 3) { 256 + rng.below(6) } else { rng.below(lent.state.count.min(300) as usize + 2) } as u32;
         let theirs = match forged::refusal(&lent, &Call::Text(word)) {
-            Some(r) => Err((r.number, r.place.map_or(0, |p| p as u32 + 1))),
+            Some(r) => Err(Refused::from(r)),
             None => Ok(text_of(&lent, word)),
         };
         compared.same("text", &|| format!("word {word} on {}", input()), text(&lent, word).map(<[u8]>::to_vec), theirs);

@@ -2,42 +2,18 @@
 
 use std::os::unix::ffi::OsStringExt;
 
-use line::{forged::records, forged::State, format::*, notation};
+use line::{forged::records, forged::ITEM_WORDS, format::*, notation};
 
 #[cfg(live)]
-use super::{checks::refused, Compared};
+use super::{pattern, run::padded, Compared};
 #[cfg(live)]
 use crate::lists::hex;
 #[cfg(live)]
 use bpaf::doc::harness::{Held, View};
 #[cfg(live)]
-use line::{cases, cases::Case, cases::Rng};
-
-#[repr(C)]
-#[derive(Clone, Copy, Debug, PartialEq, Eq)]
-pub struct Splitting {
-    pub number: u32,
-    pub place: u32,
-    pub state: State,
-}
-
-#[link(name = "exports", kind = "static")]
-extern "C" {
-    fn silverpoise_split(
-        form: *const u8,
-        form_length: usize,
-        sheet: *const u8,
-        sheet_length: usize,
-        items: *mut u32,
-        items_length: usize,
-    ) -> Splitting;
-}
-
-pub fn split(form: &[u8], sheet: &[u8], items: &mut [u32]) -> Splitting {
-    unsafe {
-        silverpoise_split(form.as_ptr(), form.len(), sheet.as_ptr(), sheet.len(), items.as_mut_ptr(), items.len())
-    }
-}
+use line::{cases, cases::Case, cases::Rng, forged::State};
+#[cfg(live)]
+use proved::{code, SplitAnswer};
 
 /// The bytes of a part of the sheet's area, as text.
 fn part(area: &[u8], offset: u32, length: u32) -> String {
@@ -77,8 +53,8 @@ pub fn show_items(items: &[u32], area: &[u8]) {
 pub fn show(form: &str) -> bool {
     let Some((form, arguments)) = given(form) else { return false };
     let area = arguments.concat();
-    let mut items = vec![0; 1792];
-    let ended = split(&form.write(), &Sheet { arguments }.write(), &mut items);
+    let mut items = vec![0; ITEM_WORDS];
+    let ended = proved::split(&form.write(), &Sheet { arguments }.write(), &mut items);
     show_items(&items, &area);
     match ended.number {
         0 => println!("{} of {} remain", ended.state.remaining, ended.state.count),
@@ -102,7 +78,7 @@ pub fn raw_view(view: &View) -> State {
         marks,
         count: view.marks.len() as u32,
         remaining: view.remaining as u32,
-        current: view.current.map_or(0, |p| p as u32 + 1),
+        current: code(view.current),
         start: view.scope.start as u32,
         end: view.scope.end as u32,
     }
@@ -111,23 +87,25 @@ pub fn raw_view(view: &View) -> State {
 #[cfg(live)]
 pub const EMPTY: State = State { marks: [0; 256], count: 0, remaining: 0, current: 0, start: 0, end: 0 };
 
+/// Form and sheet of a case, or the refusal of one of them or of a slice that is too short.
+#[cfg(live)]
+pub fn accepted(case: &Case, short: bool) -> Result<(Form, Sheet), Refusal> {
+    let both = Form::check(&case.form).and_then(|f| Sheet::check(&case.sheet).map(|s| (f, s)))?;
+    if short { Err(Refusal::new(7)) } else { Ok(both) }
+}
+
 /// What a split must leave: number and place, the state, and every word of the item slice.
 #[cfg(live)]
-fn expected(case: &Case, length: usize) -> (Splitting, Vec<u32>) {
-    let mut items = vec![0; length];
-    let checked = Form::check(&case.form).and_then(|f| Sheet::check(&case.sheet).map(|s| (f, s)));
-    let slices = checked.and_then(|both| if length < 1792 { Err(Refusal::new(7)) } else { Ok(both) });
-    let (form, sheet) = match slices {
-        Ok(both) => both,
-        Err(r) => {
-            let r = refused::<()>(&Err(r));
-            return (Splitting { number: r.number, place: r.place, state: EMPTY }, items);
+fn expected(case: &Case, length: usize) -> (SplitAnswer, Vec<u32>) {
+    match accepted(case, length < ITEM_WORDS) {
+        Err(r) => (SplitAnswer { number: r.number, place: code(r.place), state: EMPTY }, vec![0; length]),
+        Ok((form, sheet)) => {
+            let (held, records, refusal) = Held::split(&form, &sheet);
+            let r = refusal.unwrap_or(Refusal::new(0));
+            let answer = SplitAnswer { number: r.number, place: code(r.place), state: raw(&held) };
+            (answer, padded(&records.concat(), length))
         }
-    };
-    let (held, records, refusal) = Held::split(&form, &sheet);
-    let r = refused(&refusal.map_or(Ok(()), Err));
-    records.iter().flatten().zip(&mut items).for_each(|(word, slot)| *slot = *word);
-    (Splitting { number: r.number, place: r.place, state: raw(&held) }, items)
+    }
 }
 
 #[cfg(live)]
@@ -135,16 +113,13 @@ impl Compared {
     /// The slice is filled with a pattern before the call.
     fn split(&mut self, case: &Case, length: usize) {
         self.cases += 1;
-        let mut items: Vec<u32> = (0..length as u32).map(|k| 0xdead_0000 ^ k).collect();
+        let mut items = pattern(length);
         let (form, sheet) = (&case.form, &case.sheet);
-        let ours = split(form, sheet, &mut items);
+        let ours = proved::split(form, sheet, &mut items);
         let (theirs, words) = expected(case, length);
         let input = || format!("{} {} {length}", hex(form), hex(sheet));
         self.same("split", &input, ours, theirs);
-        if items != words {
-            let at = items.iter().zip(&words).position(|(a, b)| a != b).unwrap_or(0);
-            self.same("split items", &|| format!("{} at word {at}", input()), items[at], words[at]);
-        }
+        self.words("split items", &input, &items, &words);
     }
 }
 
@@ -153,9 +128,9 @@ impl Compared {
 fn length(k: u64) -> usize {
     match k % 48 {
         0 => 0,
-        16 => 1791,
-        k if k % 3 == 0 => 1792 + (k as usize % 11) * 7,
-        _ => 1792,
+        16 => ITEM_WORDS - 1,
+        k if k % 3 == 0 => ITEM_WORDS + (k as usize % 11) * 7,
+        _ => ITEM_WORDS,
     }
 }
 

@@ -4,8 +4,9 @@
 use line::cases::Rng;
 use line::forged::{self, records, Call, Lent, State, ANSWER_WORDS, ITEM_WORDS};
 use line::format::*;
+use proved::Answer;
 
-use super::calls::{self, Answer, Said};
+use super::calls::{self, Said};
 use super::{lent, run, Compared};
 use crate::lists::hex;
 
@@ -111,15 +112,15 @@ fn ours(lent: &Lent, call: &Call) -> Told {
     match *call {
         Call::Eval(node, length) => {
             let mut answers = vec![u32::MAX; length];
-            let r = run::eval(lent, &mut answers, node);
+            let r = proved::eval(lent, &mut answers, node);
             let answer = Answer { number: r.number, place: r.place, found: r.words, first: r.tries, second: 0 };
-            (Said { answer, state: r.state, record: [0; 7] }, answers)
+            (Said::new(answer, r.state), answers)
         }
         Call::Text(word) => match run::text(lent, word) {
             Ok(text) => (refused(lent, Refusal::new(0)), text.iter().map(|b| u32::from(*b)).collect()),
-            Err((number, place)) => {
-                let answer = Answer { number, place, ..Answer::default() };
-                (Said { answer, state: *lent.state, record: [0; 7] }, Vec::new())
+            Err(r) => {
+                let answer = Answer { number: r.number, place: r.place, ..Answer::default() };
+                (Said::new(answer, *lent.state), Vec::new())
             }
         },
         _ => (calls::ours(lent, call), Vec::new()),
@@ -127,8 +128,7 @@ fn ours(lent: &Lent, call: &Call) -> Told {
 }
 
 fn refused(lent: &Lent, r: Refusal) -> Said {
-    let answer = Answer { number: r.number, place: r.place.map_or(0, |p| p as u32 + 1), ..Answer::default() };
-    Said { answer, state: *lent.state, record: [0; 7] }
+    Said::new(Answer::from(r), *lent.state)
 }
 
 /// The second reading: the refusal, and nothing changed; the texts and the earlier places themselves; else, where the table
@@ -143,7 +143,7 @@ fn theirs(lent: &Lent, call: &Call) -> Told {
         Call::OnlyOnce(place) => {
             let area = Sheet::check(lent.sheet).expect("a sheet").arguments.concat();
             let answer = only_once(&table, &area, place);
-            (Said { answer, ..refused(lent, Refusal::new(0)) }, Vec::new())
+            (Said::new(answer, *lent.state), Vec::new())
         }
         Call::Text(word) => {
             let text = run::text_of(lent, word).into_iter().map(u32::from).collect();

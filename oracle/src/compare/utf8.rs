@@ -1,31 +1,10 @@
 //! UTF-8 against `str::from_utf8`.
 
 use line::cases::Rng;
+use proved::{utf8_decode, utf8_valid, Decoding};
 
 use super::Compared;
 use crate::lists::first_character;
-
-#[repr(C)]
-#[derive(Clone, Copy, Debug, PartialEq, Eq)]
-struct Decoding {
-    found: bool,
-    character: u32,
-    size: u32,
-}
-
-#[link(name = "exports", kind = "static")]
-extern "C" {
-    fn silverpoise_utf8_valid(s: *const u8, length: usize) -> bool;
-    fn silverpoise_utf8_decode(s: *const u8, length: usize, at: usize) -> Decoding;
-}
-
-fn valid(s: &[u8]) -> bool {
-    unsafe { silverpoise_utf8_valid(s.as_ptr(), s.len()) }
-}
-
-fn decode(s: &[u8], at: usize) -> Decoding {
-    unsafe { silverpoise_utf8_decode(s.as_ptr(), s.len(), at) }
-}
 
 /// What the standard library says of the character at a place.
 fn expected(s: &[u8], at: usize) -> Decoding {
@@ -34,11 +13,10 @@ fn expected(s: &[u8], at: usize) -> Decoding {
     Decoding { found: character.is_some(), character: code, size }
 }
 
-/// Whether bytes are valid, their first character and its size, in the words of a list.
-pub fn listed(bytes: &[u8]) -> String {
-    let first = decode(bytes, 0);
-    let character = if first.found { first.character.to_string() } else { "-".to_string() };
-    format!("{} {character} {}", u8::from(valid(bytes)), first.size)
+/// Whether bytes are valid; whether there is a first character, its value and its size.
+pub fn listed(bytes: &[u8]) -> [u32; 4] {
+    let first = utf8_decode(bytes, 0);
+    [u32::from(utf8_valid(bytes)), u32::from(first.found), first.character, first.size]
 }
 
 /// Each of this program's own arguments: its characters, or the byte where it stops being UTF-8.
@@ -47,14 +25,14 @@ pub fn show_arguments() -> bool {
         let bytes = argument.as_encoded_bytes();
         let (mut at, mut shown) = (0, String::new());
         loop {
-            let decoding = decode(bytes, at);
+            let decoding = utf8_decode(bytes, at);
             if !decoding.found {
                 break;
             }
             shown.push_str(&format!(" U+{:04X}", decoding.character));
             at += decoding.size as usize;
         }
-        match valid(bytes) {
+        match utf8_valid(bytes) {
             true => println!("utf-8{shown}"),
             false => println!("not utf-8 at byte {at}:{shown}"),
         }
@@ -66,9 +44,9 @@ impl Compared {
     fn utf8(&mut self, s: &[u8], places: std::ops::RangeInclusive<usize>) {
         self.cases += 1;
         let input = || format!("{s:02x?}");
-        self.same("utf8 valid", &input, valid(s), std::str::from_utf8(s).is_ok());
+        self.same("utf8 valid", &input, utf8_valid(s), std::str::from_utf8(s).is_ok());
         for at in places {
-            self.same("utf8 decode", &input, decode(s, at), expected(s, at));
+            self.same("utf8 decode", &input, utf8_decode(s, at), expected(s, at));
         }
     }
 }

@@ -4,11 +4,11 @@ use std::{ffi::OsString, hint::black_box, time::Duration};
 
 use bpaf::{long, positional, short, Parser};
 use line::{cases, format::Form};
+use proved::form_check;
 
 use crate::{
     benchmarks::{counted_or_word, fallbacks, left_choice, letter, many_of_choice, words, Benchmark, Both},
     clock, fields,
-    ours::form_check,
     plot::{Panel, Work},
     table::{thousands, timed, Cost},
 };

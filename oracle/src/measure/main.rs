@@ -2,6 +2,8 @@
 //! Built by oracle/measure with plain release flags. Everything it prints is Markdown for docs/PERFORMANCE.md.
 
 mod benchmarks;
+#[cfg(beside)]
+mod beside;
 mod clock;
 mod counts;
 mod growth;
@@ -20,6 +22,7 @@ const USAGE: &str = "\
 measure all PLOT        everything below; the plot is written to the file
 measure same            both sides of every benchmark give the same answer
 measure lines           time and instructions of every benchmark
+measure beside OLD.a    time of every benchmark by another build of the proved code too
 measure others          other readers on lines of one form
 measure growth PLOT     growth of the cost
 measure stack           the deepest use of the stack
@@ -78,6 +81,17 @@ fn lines() -> bool {
     true
 }
 
+#[cfg(beside)]
+fn beside() -> bool {
+    beside::print()
+}
+
+/// Only a build that was told of another has it linked.
+#[cfg(not(beside))]
+fn beside() -> bool {
+    false
+}
+
 fn others() -> bool {
     println!("{OTHERS}");
     others::print();
@@ -115,6 +129,7 @@ fn main() -> ExitCode {
         ["all", file] => lines() & others() & growth(file) & stack() & slowest(),
         ["same"] => same(),
         ["lines"] => lines(),
+        ["beside", _] => beside(),
         ["others"] => others(),
         ["growth", file] => growth(file),
         ["stack"] => stack(),

@@ -4,12 +4,13 @@ use std::{ffi::OsString, hint::black_box, os::unix::ffi::OsStringExt};
 
 use bpaf::{construct, long, parsers::NamedArg, positional, short, Parser};
 use line::{cases, cases::Rng, format::*, notation};
+use proved::{Refused, RunAnswer};
 
 use crate::{
     benchmarks::left_choice,
     clock::processor_time,
     fields,
-    ours::{RunAnswer, Slices},
+    ours::Slices,
     parsers::{kept, Fields},
 };
 
@@ -213,8 +214,8 @@ fn row(input: &Input) -> f64 {
     let bpaf = input.fields.as_ref().map_or("-".to_string(), |fields| {
         let mut answer = Ok(());
         let took = milliseconds(|| answer = fields.read(black_box(&line)));
-        let answer = answer.map_or_else(|r| (r.number, r.place.map_or(0, |p| p as u32 + 1)), |_| (0, 0));
-        assert_eq!((ran.number, ran.place), answer, "{}: our answer and bpaf's", input.name);
+        let answer = Refused::from(answer.err().unwrap_or(Refusal::new(0)));
+        assert_eq!(Refused { number: ran.number, place: ran.place }, answer, "{}: our answer and bpaf's", input.name);
         format!("{took:.2}")
     });
     println!("| {} | {ours:.2} | {bpaf} | {} |", input.name, ran.tries);

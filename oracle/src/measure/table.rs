@@ -6,7 +6,6 @@ use crate::{
     benchmarks::{groups, wear, Benchmark, Group, GOAL_WITHOUT_CLEARING},
     clock,
     counts::{self, Counts},
-    ours,
 };
 
 const BUDGET: Duration = Duration::from_millis(320);
@@ -182,7 +181,7 @@ fn print_parts() {
         BUDGET,
         [
             &mut || {
-                black_box(ours::form_check(black_box(&benchmark.form)));
+                black_box(proved::form_check(black_box(&benchmark.form)));
             },
             &mut || cleared.clear(),
             &mut || {

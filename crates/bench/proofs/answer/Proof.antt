@@ -27,19 +27,51 @@ size-requires : tie.Need-size-requires
 size-requires c κs = search needs
 
 array-share-prefix-answers : tie.Need-array-share-prefix-answers
-array-share-prefix-answers c = few-words _ _ _ _ _ (c .before .before .before .before .before .before .before .before .before .before .before .before .form-part .ensures) (c .before .before .before .before .before .before .before .before .before .before .before .sheet-part .ensures) (search needs) (search needs) _ _ _ (c .before .before .before .before .before .before .before .before .run .ensures) (search needs) _ (c .before .size .ensures)
+array-share-prefix-answers c = few-words _ _ _ _ _
+    (c .before .before .before .before .before .before .before .before .before .before .before .before .form-part .ensures)
+    (c .before .before .before .before .before .before .before .before .before .before .before .sheet-part .ensures) (search needs) (search needs) _
+    _ _ (c .before .before .before .before .before .before .before .before .run .ensures) (search needs) _ (c .before .size .ensures)
 
 slice-aggregate-append-words : tie.Need-slice-aggregate-append-words
-slice-aggregate-append-words c = share-length _ _ _ _ _ (c .before .before .before .before .before .before .before .before .before .before .before .before .before .form-part .ensures) (c .before .before .before .before .before .before .before .before .before .before .before .before .sheet-part .ensures) (search needs) (search needs) _ _ _ (c .before .before .before .before .before .before .before .before .before .run .ensures) (search needs) _ (c .before .before .size .ensures)
+slice-aggregate-append-words c = share-length _ _ _ _ _
+    (c .before .before .before .before .before .before .before .before .before .before .before .before .before .form-part .ensures)
+    (c .before .before .before .before .before .before .before .before .before .before .before .before .sheet-part .ensures) (search needs)
+    (search needs) _ _ _ (c .before .before .before .before .before .before .before .before .before .run .ensures) (search needs) _
+    (c .before .before .size .ensures)
 
 append-words-requires : tie.Need-append-words-requires
-append-words-requires c κs = omega (arith, c .before .before .before .before .before .first-line .ensures .1, words-most _ _ _ _ _ (c .before .before .before .before .before .before .before .before .before .before .before .before .before .form-part .ensures) (c .before .before .before .before .before .before .before .before .before .before .before .before .sheet-part .ensures) (search needs) (search needs) _ _ _ (c .before .before .before .before .before .before .before .before .before .run .ensures) (search needs) _ (c .before .before .size .ensures))
+append-words-requires
+    c
+    κs
+    =
+    omega (
+      arith,
+      c .before .before .before .before .before .first-line .ensures .1,
+      words-most _ _ _ _ _
+          (c .before .before .before .before .before .before .before .before .before .before .before .before .before .form-part .ensures)
+          (c .before .before .before .before .before .before .before .before .before .before .before .before .sheet-part .ensures) (search needs)
+          (search needs) _ _ _ (c .before .before .before .before .before .before .before .before .before .run .ensures) (search needs) _
+          (c .before .before .size .ensures),
+    )
 
 same-length : tie.Need-same-length
 same-length c = search needs
 
 returns : tie.Need-returns
-returns c = bench-appends _ _ _ _ _ (c .before .before .before .before .before .before .before .before .before .before .before .before .before .before .before .before .form-part .ensures) (c .before .before .before .before .before .before .before .before .before .before .before .before .before .before .before .sheet-part .ensures) (search needs) (search needs) _ _ _ (c .before .before .before .before .before .before .before .before .before .before .before .before .run .ensures) _ _ _ (c .before .before .before .before .before .before .before .before .first-line .ensures .0) _ (c .before .before .before .before .before .size .ensures) _ _ (c .before .before .append-words .ensures)
+returns c =
+    bench-appends _ _ _ _ _
+    (c .before .before .before .before .before .before .before .before .before .before .before .before .before .before .before .before .form-part .ensures)
+    (c .before .before .before .before .before .before .before .before .before .before .before .before .before .before .before .sheet-part .ensures)
+    (search needs)
+    (search needs)
+    _ _ _
+    (c .before .before .before .before .before .before .before .before .before .before .before .before .run .ensures)
+    _ _ _
+    (c .before .before .before .before .before .before .before .before .first-line .ensures .0)
+    _
+    (c .before .before .before .before .before .size .ensures)
+    _ _
+    (c .before .before .append-words .ensures)
 
 pub answer-spec : {M : Type 1} → statement M
 answer-spec =

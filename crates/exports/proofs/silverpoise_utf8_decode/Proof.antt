@@ -16,13 +16,20 @@ enum-known-d c = search needs
 
 cast-t7 : tie.Need-cast-t7
 cast-t7 c =
-    omega (arith, character _ _ _ _ (sym (c .before .before .before .decode-at .ensures) ∙ c .before .d .given .1))
+    let by-d = c .before in
+    let d = by-d .d in
+    let decode-at = by-d .before .before .decode-at in
+    omega (arith, character _ _ _ _ (sym (decode-at .ensures) ∙ d .given .1))
 
 enum-told : tie.Need-enum-told
 enum-told c = search needs
 
 returns : tie.Need-returns
-returns c = ap decoding (sym (c .before .d .given .1) ∙ c .before .before .before .decode-at .ensures)
+returns c =
+    let by-d = c .before in
+    let d = by-d .d in
+    let decode-at = by-d .before .before .decode-at in
+    ap decoding (sym (d .given .1) ∙ decode-at .ensures)
 
 returns-2 : tie.Need-returns-2
 returns-2 c = ap decoding (sym (c .enum-told .given .1) ∙ c .before .before .decode-at .ensures)

@@ -36,17 +36,17 @@ use denote.Triple.Walked.{says, Stays, gave-ref, stay-none, walkOf, AllGo, goes-
 use denote.Exit.{yes}
 use Rattle.rules.specs.declared.State.{State}
 use Rattle.rules.specs.Calls.{callRemove}
-use Rattle.answers.specs.declared.Answer.{Answer}
-use Rattle.answers.specs.Answers.{yesCode, stateAnswerOf}
-use Rattle.in_place.specs.Joined.{joined}
+use Rattle.call_answers.specs.declared.Answer.{Answer}
+use Rattle.call_answers.specs.Answers.{yesCode, stateAnswerOf}
+use Rattle.call_lent.specs.Joined.{joined}
 use Rattle.rules.proofs.State as TS
 use Rattle.rules.proofs.State.Laws as TS′
-use Rattle.answers.proofs.Answer as TA
-use Rattle.answers.proofs.Answer.Laws as TA′
-use Rattle.in_place.proofs.remove as callee
-use Rattle.in_place.proofs.remove.Symbol as callee-def
-use Rattle.in_place.proofs.remove.Symbol.{name as #in-place·remove}
-use Rattle.in_place.proofs.remove.Met as callee-thm
+use Rattle.call_answers.proofs.Answer as TA
+use Rattle.call_answers.proofs.Answer.Laws as TA′
+use Rattle.call_lent.proofs.remove as callee
+use Rattle.call_lent.proofs.remove.Symbol as callee-def
+use Rattle.call_lent.proofs.remove.Symbol.{name as #call-lent·remove}
+use Rattle.call_lent.proofs.remove.Met as callee-thm
 use Rattle.exports_calls.proofs.silverpoise_remove_in_place.Key.{name as #exports·silverpoise-remove-in-place}
 use Rattle.exports_calls.proofs.silverpoise_remove_in_place as exported
 use Rattle.exports_calls.proofs.silverpoise_remove_in_place.Statement as stated
@@ -69,7 +69,8 @@ module _ {M : Type 1} (𝓤 : URA M) (H : Heap 𝓤) (A : Atoms 𝓤) (at-mem : 
   abbrev Callee : Contract 𝓤
   Callee = tripleOf 𝓤 H A callee.signature (callee.spec 𝓤 H A at-mem run)
 
-module _ {M : Type 1} (𝓤 : URA M) (H : Heap 𝓤) (A : Atoms 𝓤) (W : Given 𝓤 H A) (at-mem : Memory → SProp 𝓤) (run : Routine → Fun 𝓤) (κ : Lft) (q : Share) (b o : ℕ) (γ : GName) (h : State) (n : ℕ) (gn : n < 2 ^ 64) where
+module _ {M : Type 1} (𝓤 : URA M) (H : Heap 𝓤) (A : Atoms 𝓤) (W : Given 𝓤 H A) (at-mem : Memory → SProp 𝓤) (run : Routine → Fun 𝓤) (κ : Lft)
+    (q : Share) (b o : ℕ) (γ : GName) (h : State) (n : ℕ) (gn : n < 2 ^ 64) where
   abbrev l : RefT State
   l = record { ptr = (b, o); name = γ; now = h }
 
@@ -101,17 +102,42 @@ module _ {M : Type 1} (𝓤 : URA M) (H : Heap 𝓤) (A : Atoms 𝓤) (W : Given
   goes-callee : ent 𝓤 (⋆ 𝓤 H A (Tokens ∷ Owns ∷ [])) (Callee 𝓤 H A at-mem run .pre to-callee)
   goes-callee = qed W (Tokens ∷ Owns ∷ []) ∵ join ! $ frame ! $ done !
 
-  module _ (C : Calls 𝓤 H) (Λ : Loops 𝓤 H) (fm : FmC 𝓤 H (W .laws) C) (known : Triple 𝓤 (C #in-place·remove) (Callee 𝓤 H A at-mem run)) where
+  module _ (C : Calls 𝓤 H) (Λ : Loops 𝓤 H) (fm : FmC 𝓤 H (W .laws) C) (known : Triple 𝓤 (C #call-lent·remove) (Callee 𝓤 H A at-mem run)) where
     walk : ent 𝓤 (onEntry 𝓤 H A exported.signature (κ, tt) (q, tt) x at) (WpFn 𝓤 H C Λ code.function (vptr b o ∷ vint w64 n ∷ []) Post)
     walk =
         qed W (Tokens ∷ Owns ∷ []) ∵ enter ! C Λ code.function (vptr b o ∷ vint w64 n ∷ []) _ $
-        alloc1 ! (λ l₀. alloc1 ! (λ l₁. alloc1 ! (λ l₂. alloc1 ! (λ l₃. alloc0 ! $ params1 ! $ pass1 ! (init ! 4 refl (tt, tt)) $ pass1 ! (init ! 2 refl (tt, record { fits = gn })) $ pass0 ! $
+        alloc1
+        !
+        (λ
+        l₀.
+        alloc1
+        !
+        (λ
+        l₁.
+        alloc1
+        !
+        (λ
+        l₂.
+        alloc1 ! (λ l₃. alloc0 ! $ params1 ! $ pass1 ! (init ! 4 refl (tt, tt)) $ pass1 ! (init ! 2 refl (tt, record { fits = gn })) $ pass0 ! $
         -- [room for _3; …; _2; …; _1; …; room for _0; …; the tokens; what the parameters own]
         assigns ! (addr ! (from ! (hop ! (look ! 4 refl) (stop !)))) (from ! (stop !)) (init ! 0 refl (tt, tt)) $
         move ! (8 ∷ 9 ∷ []) $ use2 W (raw (Callee 𝓤 H A at-mem run .pre to-callee)) goes-callee $
-        calls-at ! fm (Callee 𝓤 H A at-mem run) known to-callee (and-then ! (load ! (from ! (stop !)) (look ! 1 refl)) (and-then ! (load ! (from ! (stop !)) (look ! 3 refl)) (no-more !))) (λ v.
-        use1 W (later (some (λ (a : Answer). (Tokens ⊛ ‵ (TA.the-row .own a (v ∷ []))) ⊛ some (λ (ws : Lasts callee.ended (κ, tt) x). ‵ (lasts callee.ended (κ, tt) x ws) ⊛ raw (fact 𝓤 (Done h n a (ws .0))))))) (id⊢ 𝓤 _) $ await ! tt $ pick ! (λ a.
-        split ! $ move ! (1 ∷ []) $ pick ! (λ ws. split ! $ move ! (1 ∷ []) $ heard ! (Done h n a (ws .0)) (λ e. fsplit ! $ move ! (1 ∷ []) $ drop ! $ move ! (1 ∷ []) $ split ! $ move ! (1 ∷ []) $
+        calls-at ! fm (Callee 𝓤 H A at-mem run) known to-callee
+        (and-then ! (load ! (from ! (stop !)) (look ! 1 refl)) (and-then ! (load ! (from ! (stop !)) (look ! 3 refl)) (no-more !))) (λ v.
+        use1
+        W
+        (later
+        (some
+        (λ (a : Answer). (Tokens ⊛ ‵ (TA.the-row .own a (v ∷ []))) ⊛ some
+        (λ (ws : Lasts callee.ended (κ, tt) x). ‵ (lasts callee.ended (κ, tt) x ws) ⊛ raw (fact 𝓤 (Done h n a (ws .0))))))) (id⊢ 𝓤 _) $ await !
+        tt $ pick ! (λ a.
+        split
+        !
+        $
+        move
+        !
+        (1 ∷ []) $ pick ! (λ ws. split ! $ move ! (1 ∷ []) $ heard ! (Done h n a (ws .0))
+        (λ e. fsplit ! $ move ! (1 ∷ []) $ drop ! $ move ! (1 ∷ []) $ split ! $ move ! (1 ∷ []) $
         peeks ! TA.the-row (Is TA.the-row) (shows 𝓤 H A TA.the-row) a (v ∷ []) (λ is. drop ! $
         -- [the tokens; the last state; _3; …; _2; …; _1; …; room for _0; …]
         land ! (from ! (stop !)) (init ! 8 refl (LL.lawful TA.the-type TA′.the-laws 𝓤 H A W .typed a _ is .0)) $
@@ -120,7 +146,8 @@ module _ {M : Type 1} (𝓤 : URA M) (H : Heap 𝓤) (A : Atoms 𝓤) (W : Given
         keep ! (0 ∷ 1 ∷ []) $ by ! (exits a (ws .0) v e is))))))))))
 
 module _ {M : Type 1} (𝓤 : URA M) (H : Heap 𝓤) (A : Atoms 𝓤) (W : Given 𝓤 H A) (at-mem : Memory → SProp 𝓤) (run : Routine → Fun 𝓤) where
-  exported-walks : (C : Calls 𝓤 H) (Λ : Loops 𝓤 H) → FmC 𝓤 H (W .laws) C → Triple 𝓤 (C #in-place·remove) (Callee 𝓤 H A at-mem run) → Walks 𝓤 H A exported.ended stayed (WpFn 𝓤 H C Λ code.function) (exported.clauses 𝓤 H A at-mem run)
+  exported-walks : (C : Calls 𝓤 H) (Λ : Loops 𝓤 H) → FmC 𝓤 H (W .laws) C → Triple 𝓤 (C #call-lent·remove) (Callee 𝓤 H A at-mem run) → Walks 𝓤 H A
+      exported.ended stayed (WpFn 𝓤 H C Λ code.function) (exported.clauses 𝓤 H A at-mem run)
   exported-walks C Λ fm known = walked 𝓤 H A exported.ended stayed (exported.clauses 𝓤 H A at-mem run) (WpFn 𝓤 H C Λ code.function)
       (λ κs. (ptr-vals, (uint-vals w64, tt))) (λ κs. (mut-tells (named 0) (κs .0) S, (uint-tells w64, tt)))
       (λ κs qs bounds a _ are. via 𝓤 _ (fst∗ 𝓤 _ (emp 𝓤))
@@ -129,9 +156,11 @@ module _ {M : Type 1} (𝓤 : URA M) (H : Heap 𝓤) (A : Atoms 𝓤) (W : Given
   goes : AllGo 𝓤 H A W 1 (exported.signature .params) (exported.ended .kept) stayed
   goes = (goes-gave-ref 𝓤 H A W 1 0 tt (plain (λ _. S)), (goes-none 𝓤 H A W 1 (λ _. usize) yes (λ κs x f. refl), tt))
 
-exported-meets : {M : Type 1} (𝓤 : URA M) (H : Heap 𝓤) (A : Atoms 𝓤) (W : Given 𝓤 H A) (at-mem : Memory → SProp 𝓤) (run : Routine → Fun 𝓤) (𝓣 : Tables 𝓤 H) → Triple 𝓤 (𝓣 .C #in-place·remove) (Callee 𝓤 H A at-mem run)
+exported-meets : {M : Type 1} (𝓤 : URA M) (H : Heap 𝓤) (A : Atoms 𝓤) (W : Given 𝓤 H A) (at-mem : Memory → SProp 𝓤) (run : Routine → Fun 𝓤)
+    (𝓣 : Tables 𝓤 H) → Triple 𝓤 (𝓣 .C #call-lent·remove) (Callee 𝓤 H A at-mem run)
     → Meets 𝓤 H A exported.signature (WpFn 𝓤 H (𝓣 .C) (𝓣 .Λ) code.function) (exported.spec 𝓤 H A at-mem run)
-exported-meets 𝓤 H A W at-mem run 𝓣 known = walk-meets 𝓤 H A exported.ended stayed W (goes 𝓤 H A W at-mem run) (exported.clauses 𝓤 H A at-mem run) (WpFn 𝓤 H (𝓣 .C) (𝓣 .Λ) code.function) (WpFn-mono 𝓤 H (W .laws) 𝓣 code.function)
+exported-meets 𝓤 H A W at-mem run 𝓣 known = walk-meets 𝓤 H A exported.ended stayed W (goes 𝓤 H A W at-mem run) (exported.clauses 𝓤 H A at-mem run)
+    (WpFn 𝓤 H (𝓣 .C) (𝓣 .Λ) code.function) (WpFn-mono 𝓤 H (W .laws) 𝓣 code.function)
     (exported-walks 𝓤 H A W at-mem run (𝓣 .C) (𝓣 .Λ) (fmOf 𝓤 H (W .laws) 𝓣) known)
 
 pub silverpoise-remove-in-place-spec : {M : Type 1} → stated.statement M
@@ -140,4 +169,4 @@ silverpoise-remove-in-place-spec 𝓤 H 𝓜 𝓖 𝓡 =
     entered 𝓤 H (tripleOf 𝓤 H (𝓖 .A) exported.signature (exported.spec 𝓤 H (𝓖 .A) (𝓜 .mem) (𝓡 .run)))
     (tables 𝓤 H 𝓜 𝓡 code.env .C) (tables 𝓤 H 𝓜 𝓡 code.env .Λ) #exports·silverpoise-remove-in-place code.function (code.unfolded 𝓤 H 𝓜 𝓡)
     (exported-meets 𝓤 H (𝓖 .A) (givenOf 𝓤 H 𝓜 𝓖) (𝓜 .mem) (𝓡 .run) (tablesOf 𝓤 H 𝓜 (tables 𝓤 H 𝓜 𝓡 code.env))
-    (cited 𝓤 H (Callee 𝓤 H (𝓖 .A) (𝓜 .mem) (𝓡 .run)) 𝓜 𝓡 code.env #in-place·remove callee-def.routine code.calls-in-place·remove (callee-thm.met 𝓤 H 𝓜 𝓖 𝓡)))
+    (cited 𝓤 H (Callee 𝓤 H (𝓖 .A) (𝓜 .mem) (𝓡 .run)) 𝓜 𝓡 code.env #call-lent·remove callee-def.routine code.calls-call-lent·remove (callee-thm.met 𝓤 H 𝓜 𝓖 𝓡)))

@@ -39,17 +39,17 @@ use denote.Triple.Walked.{says, Stays, gave-ref, stay-none, stay-none-slice, wal
 use denote.Exit.{yes}
 use Rattle.rules.specs.declared.State.{State}
 use Rattle.rules.specs.Calls.{callTakeFlag}
-use Rattle.answers.specs.declared.Answer.{Answer}
-use Rattle.answers.specs.Answers.{yesCode, stateAnswerOf}
-use Rattle.in_place.specs.Joined.{joined}
+use Rattle.call_answers.specs.declared.Answer.{Answer}
+use Rattle.call_answers.specs.Answers.{yesCode, stateAnswerOf}
+use Rattle.call_lent.specs.Joined.{joined}
 use Rattle.rules.proofs.State as TS
 use Rattle.rules.proofs.State.Laws as TS′
-use Rattle.answers.proofs.Answer as TA
-use Rattle.answers.proofs.Answer.Laws as TA′
-use Rattle.in_place.proofs.take_flag as callee
-use Rattle.in_place.proofs.take_flag.Symbol as callee-def
-use Rattle.in_place.proofs.take_flag.Symbol.{name as #in-place·take-flag}
-use Rattle.in_place.proofs.take_flag.Met as callee-thm
+use Rattle.call_answers.proofs.Answer as TA
+use Rattle.call_answers.proofs.Answer.Laws as TA′
+use Rattle.call_lent.proofs.take_flag as callee
+use Rattle.call_lent.proofs.take_flag.Symbol as callee-def
+use Rattle.call_lent.proofs.take_flag.Symbol.{name as #call-lent·take-flag}
+use Rattle.call_lent.proofs.take_flag.Met as callee-thm
 use Rattle.exports_calls.proofs.silverpoise_take_flag_in_place.Key.{name as #exports·silverpoise-take-flag-in-place}
 use Rattle.exports_calls.proofs.silverpoise_take_flag_in_place as exported
 use Rattle.exports_calls.proofs.silverpoise_take_flag_in_place.Statement as stated
@@ -68,8 +68,14 @@ abbrev valOf : Bytes → Val
 valOf l = sliceVal (l .ptr) (length (l .now))
 
 abbrev stayed : Stays (exported.ended .signature .params) (exported.ended .kept)
-stayed =
-    (gave-ref (0 ∷ []) tt (plain (λ _. S)), (stay-none-slice (1 ∷ []) tt (plain (λ _. u8)) yes, (stay-none-slice (2 ∷ []) tt (plain (λ _. u8)) yes, (stay-none-slice (3 ∷ []) tt (plain (λ _. u32)) yes, (stay-none (λ _. usize) yes, tt)))))
+stayed = (
+  gave-ref
+      (0 ∷ []) tt (plain (λ _. S)),
+  (
+    stay-none-slice (1 ∷ []) tt (plain (λ _. u8)) yes,
+    (stay-none-slice (2 ∷ []) tt (plain (λ _. u8)) yes, (stay-none-slice (3 ∷ []) tt (plain (λ _. u32)) yes, (stay-none (λ _. usize) yes, tt))),
+  ),
+)
 
 -- what the callee says of its answer and of the state that it leaves
 abbrev Done : List ℕ → List ℕ → List ℕ → State → ℕ → Answer → State → Type 0
@@ -79,7 +85,8 @@ module _ {M : Type 1} (𝓤 : URA M) (H : Heap 𝓤) (A : Atoms 𝓤) (at-mem : 
   abbrev Callee : Contract 𝓤
   Callee = tripleOf 𝓤 H A callee.signature (callee.spec 𝓤 H A at-mem run)
 
-module _ {M : Type 1} (𝓤 : URA M) (H : Heap 𝓤) (A : Atoms 𝓤) (W : Given 𝓤 H A) (at-mem : Memory → SProp 𝓤) (run : Routine → Fun 𝓤) (κ κ₁ κ₂ κ₃ : Lft) (bounds : AllOutlive 4 (exported.signature .outlives) (κ, (κ₁, (κ₂, (κ₃, tt))))) (q q₁ q₂ q₃ : Share)
+module _ {M : Type 1} (𝓤 : URA M) (H : Heap 𝓤) (A : Atoms 𝓤) (W : Given 𝓤 H A) (at-mem : Memory → SProp 𝓤) (run : Routine → Fun 𝓤) (κ κ₁ κ₂ κ₃ : Lft)
+    (bounds : AllOutlive 4 (exported.signature .outlives) (κ, (κ₁, (κ₂, (κ₃, tt))))) (q q₁ q₂ q₃ : Share)
     (b o : ℕ) (γ : GName) (h : State) (b₁ o₁ : ℕ) (γ₁ : GName) (y₁ : List ℕ) (b₂ o₂ : ℕ) (γ₂ : GName) (y₂ : List ℕ) (b₃ o₃ : ℕ) (γ₃ : GName) (y₃ : List ℕ) (n : ℕ)
     (g₁ : Room u8 (length y₁)) (g₂ : Room u8 (length y₂)) (g₃ : Room u32 (length y₃)) (gn : n < 2 ^ 64) where
   abbrev f : Bytes
@@ -115,11 +122,18 @@ module _ {M : Type 1} (𝓤 : URA M) (H : Heap 𝓤) (A : Atoms 𝓤) (W : Given
   abbrev Owns : Item 𝓤
   Owns = ‵ (owns (MutRef (named 0) κ S ∷ ShrSlice (named 1) κ₁ u8 ∷ ShrSlice (named 2) κ₂ u8 ∷ ShrSlice (named 3) κ₃ u32 ∷ usize ∷ []) x at)
 
-  exits : (a : Answer) (w : State) (v : Val) → Done y₁ y₂ y₃ h n a w → Is TA.the-row a (v ∷ []) → ent 𝓤 (⋆ 𝓤 H A (Tokens ∷ ‵ (fres γ (S .coded .code w)) ∷ ‵ Own₁ ∷ ‵ Own₂ ∷ ‵ Own₃ ∷ [])) (Post v)
+  exits : (a : Answer) (w : State) (v : Val) → Done y₁ y₂ y₃ h n a w → Is TA.the-row a (v ∷ []) → ent 𝓤
+      (⋆ 𝓤 H A (Tokens ∷ ‵ (fres γ (S .coded .code w)) ∷ ‵ Own₁ ∷ ‵ Own₂ ∷ ‵ Own₃ ∷ [])) (Post v)
   exits a w v e is =
       qed W (Tokens ∷ ‵ (fres γ (S .coded .code w)) ∷ ‵ Own₁ ∷ ‵ Own₂ ∷ ‵ Own₃ ∷ []) ∵
-      suffices ! _ (ends-at 𝓤 H A exported.ended stayed (exported.clauses 𝓤 H A at-mem run) W (((κ, (κ₁, (κ₂, (κ₃, tt)))), (q, (q₁, (q₂, (q₃, tt)))), bounds, x, at), tt) v a (w, (tt, (tt, (tt, (tt, tt))))) (tt, (tt, (tt, (tt, (tt, tt)))))) $ says ! e $ frame ! $
-      nothing ! $ owned ! usize (Is usize) (uint-makes 𝓤 H A W w64) n _ (refl, gn) $ fjoin ! $ move ! (4 ∷ 0 ∷ []) $ fjoin ! $ move ! (3 ∷ 0 ∷ []) $ fjoin ! $ move ! (2 ∷ 0 ∷ []) $ fjoin ! $ move ! (1 ∷ 0 ∷ []) $ fjoin ! $
+      suffices
+      !
+      _
+      (ends-at 𝓤 H A exported.ended stayed (exported.clauses 𝓤 H A at-mem run) W
+      (((κ, (κ₁, (κ₂, (κ₃, tt)))), (q, (q₁, (q₂, (q₃, tt)))), bounds, x, at), tt) v a (w, (tt, (tt, (tt, (tt, tt)))))
+      (tt, (tt, (tt, (tt, (tt, tt)))))) $ says ! e $ frame ! $
+      nothing ! $ owned ! usize (Is usize) (uint-makes 𝓤 H A W w64) n _ (refl, gn) $ fjoin ! $ move ! (4 ∷ 0 ∷ []) $ fjoin ! $ move ! (3 ∷ 0 ∷ []) $
+      fjoin ! $ move ! (2 ∷ 0 ∷ []) $ fjoin ! $ move ! (1 ∷ 0 ∷ []) $ fjoin ! $
       owned ! TA.the-row (Is TA.the-row) (LL.makes TA.the-type TA′.the-plain 𝓤 H A) a _ is $ move ! (1 ∷ 0 ∷ []) $ done !
 
   abbrev to-callee : Callee 𝓤 H A at-mem run .Ghost
@@ -128,12 +142,14 @@ module _ {M : Type 1} (𝓤 : URA M) (H : Heap 𝓤) (A : Atoms 𝓤) (W : Given
   goes-callee : ent 𝓤 (⋆ 𝓤 H A (Tokens ∷ Owns ∷ [])) (Callee 𝓤 H A at-mem run .pre to-callee)
   goes-callee = qed W (Tokens ∷ Owns ∷ []) ∵ join ! $ frame ! $ done !
 
-  module _ (C : Calls 𝓤 H) (Λ : Loops 𝓤 H) (fm : FmC 𝓤 H (W .laws) C) (known : Triple 𝓤 (C #in-place·take-flag) (Callee 𝓤 H A at-mem run)) where
-    walk : ent 𝓤 (onEntry 𝓤 H A exported.signature (κ, (κ₁, (κ₂, (κ₃, tt)))) (q, (q₁, (q₂, (q₃, tt)))) x at) (WpFn 𝓤 H C Λ code.function (vptr b o ∷ valOf f ∷ valOf s ∷ valOf i ∷ vint w64 n ∷ []) Post)
+  module _ (C : Calls 𝓤 H) (Λ : Loops 𝓤 H) (fm : FmC 𝓤 H (W .laws) C) (known : Triple 𝓤 (C #call-lent·take-flag) (Callee 𝓤 H A at-mem run)) where
+    walk : ent 𝓤 (onEntry 𝓤 H A exported.signature (κ, (κ₁, (κ₂, (κ₃, tt)))) (q, (q₁, (q₂, (q₃, tt)))) x at)
+        (WpFn 𝓤 H C Λ code.function (vptr b o ∷ valOf f ∷ valOf s ∷ valOf i ∷ vint w64 n ∷ []) Post)
     walk =
         qed W (Tokens ∷ Owns ∷ []) ∵ enter ! C Λ code.function (vptr b o ∷ valOf f ∷ valOf s ∷ valOf i ∷ vint w64 n ∷ []) _ $
         alloc1 ! (λ l₀. alloc1 ! (λ l₁. alloc1 ! (λ l₂. alloc1 ! (λ l₃. alloc1 ! (λ l₄. alloc1 ! (λ l₅. alloc1 ! (λ l₆. alloc0 ! $ params1 ! $ pass1 ! (init ! 10 refl (tt, tt)) $
-        pass1 ! (init ! 8 refl (tt, (tt, (record { fits = g₁ .0 }, tt)))) $ pass1 ! (init ! 6 refl (tt, (tt, (record { fits = g₂ .0 }, tt)))) $ pass1 ! (init ! 4 refl (tt, (tt, (record { fits = g₃ .0 }, tt)))) $
+        pass1 ! (init ! 8 refl (tt, (tt, (record { fits = g₁ .0 }, tt)))) $ pass1 ! (init ! 6 refl (tt, (tt, (record { fits = g₂ .0 }, tt)))) $ pass1
+        ! (init ! 4 refl (tt, (tt, (record { fits = g₃ .0 }, tt)))) $
         pass1 ! (init ! 2 refl (tt, record { fits = gn })) $ pass0 ! $
         -- [room for _6; …; _5; …; _4; …; _3; …; _2; …; _1; …; room for _0; …; the tokens; what the parameters own]
         assigns ! (addr ! (from ! (hop ! (look ! 10 refl) (stop !)))) (from ! (stop !)) (init ! 0 refl (tt, tt)) $
@@ -145,32 +161,71 @@ module _ {M : Type 1} (𝓤 : URA M) (H : Heap 𝓤) (A : Atoms 𝓤) (W : Given
         move ! (18 ∷ 0 ∷ []) $ use2 W (raw (Callee 𝓤 H A at-mem run .pre to-callee)) goes-callee $
         -- [what the callee asks; Own₃; Own₂; Own₁; _6; …; _5; …; _4; …; _3; …; _2; …; _1; …; room for _0; …]
         calls-at ! fm (Callee 𝓤 H A at-mem run) known to-callee
-        (and-then ! (load ! (from ! (stop !)) (look ! 4 refl)) (and-then ! (load ! (from ! (stop !)) (look ! 12 refl)) (and-then ! (load ! (from ! (stop !)) (look ! 10 refl)) (and-then ! (load ! (from ! (stop !)) (look ! 8 refl)) (and-then ! (load ! (from ! (stop !)) (look ! 6 refl)) (no-more !)))))) (λ v.
-        use1 W (later (some (λ (a : Answer). (Tokens ⊛ ‵ (TA.the-row .own a (v ∷ []))) ⊛ some (λ (ws : Lasts callee.ended (κ, (κ₁, (κ₂, (κ₃, tt)))) x). ‵ (lasts callee.ended (κ, (κ₁, (κ₂, (κ₃, tt)))) x ws) ⊛ raw (fact 𝓤 (Done y₁ y₂ y₃ h n a (ws .0))))))) (id⊢ 𝓤 _) $ await ! tt $ pick ! (λ a.
-        split ! $ move ! (1 ∷ []) $ pick ! (λ ws. split ! $ move ! (1 ∷ []) $ heard ! (Done y₁ y₂ y₃ h n a (ws .0)) (λ e. fsplit ! $ move ! (1 ∷ []) $ drop ! $ move ! (1 ∷ []) $ split ! $ move ! (1 ∷ []) $
+        (and-then ! (load ! (from ! (stop !)) (look ! 4 refl))
+        (and-then ! (load ! (from ! (stop !)) (look ! 12 refl))
+        (and-then ! (load ! (from ! (stop !)) (look ! 10 refl))
+        (and-then ! (load ! (from ! (stop !)) (look ! 8 refl)) (and-then ! (load ! (from ! (stop !)) (look ! 6 refl)) (no-more !)))))) (λ v.
+        use1
+        W
+        (later
+        (some
+        (λ (a : Answer). (Tokens ⊛ ‵ (TA.the-row .own a (v ∷ []))) ⊛ some
+        (λ (ws : Lasts callee.ended (κ, (κ₁, (κ₂, (κ₃, tt)))) x). ‵ (lasts callee.ended (κ, (κ₁, (κ₂, (κ₃, tt)))) x ws) ⊛ raw
+        (fact 𝓤 (Done y₁ y₂ y₃ h n a (ws .0))))))) (id⊢ 𝓤 _) $ await ! tt $ pick ! (λ a.
+        split
+        !
+        $
+        move
+        !
+        (1 ∷ []) $ pick ! (λ ws. split ! $ move ! (1 ∷ []) $ heard ! (Done y₁ y₂ y₃ h n a (ws .0))
+        (λ e. fsplit ! $ move ! (1 ∷ []) $ drop ! $ move ! (1 ∷ []) $ split ! $ move ! (1 ∷ []) $
         peeks ! TA.the-row (Is TA.the-row) (shows 𝓤 H A TA.the-row) a (v ∷ []) (λ is. drop ! $
         -- [the tokens; the last state; Own₃; Own₂; Own₁; _6; …; _5; …; _4; …; _3; …; _2; …; _1; …; room for _0; …]
         land ! (from ! (stop !)) (init ! 17 refl (LL.lawful TA.the-type TA′.the-laws 𝓤 H A W .typed a _ is .0)) $
         returns ! (look ! 17 refl) $ forget ! 5 refl $ forget ! 7 refl $ forget ! 9 refl $ forget ! 11 refl $ forget ! 13 refl $ forget ! 15 refl $ forget ! 17 refl $
-        move ! (17 ∷ 18 ∷ []) $ free1 ! $ move ! (15 ∷ 16 ∷ []) $ free1 ! $ move ! (13 ∷ 14 ∷ []) $ free1 ! $ move ! (11 ∷ 12 ∷ []) $ free1 ! $ move ! (9 ∷ 10 ∷ []) $ free1 ! $ move ! (7 ∷ 8 ∷ []) $ free1 ! $ move ! (5 ∷ 6 ∷ []) $ free1 ! $ free0 ! $
+        move ! (17 ∷ 18 ∷ []) $ free1 ! $ move ! (15 ∷ 16 ∷ []) $ free1 ! $ move ! (13 ∷ 14 ∷ []) $ free1 ! $ move ! (11 ∷ 12 ∷ []) $ free1 ! $ move
+        ! (9 ∷ 10 ∷ []) $ free1 ! $ move ! (7 ∷ 8 ∷ []) $ free1 ! $ move ! (5 ∷ 6 ∷ []) $ free1 ! $ free0 ! $
         keep ! (0 ∷ 1 ∷ 4 ∷ 3 ∷ 2 ∷ []) $ by ! (exits a (ws .0) v e is)))))))))))))
 
 module _ {M : Type 1} (𝓤 : URA M) (H : Heap 𝓤) (A : Atoms 𝓤) (W : Given 𝓤 H A) (at-mem : Memory → SProp 𝓤) (run : Routine → Fun 𝓤) where
-  exported-walks : (C : Calls 𝓤 H) (Λ : Loops 𝓤 H) → FmC 𝓤 H (W .laws) C → Triple 𝓤 (C #in-place·take-flag) (Callee 𝓤 H A at-mem run) → Walks 𝓤 H A exported.ended stayed (WpFn 𝓤 H C Λ code.function) (exported.clauses 𝓤 H A at-mem run)
+  exported-walks : (C : Calls 𝓤 H) (Λ : Loops 𝓤 H) → FmC 𝓤 H (W .laws) C → Triple 𝓤 (C #call-lent·take-flag) (Callee 𝓤 H A at-mem run) → Walks 𝓤 H A
+      exported.ended stayed (WpFn 𝓤 H C Λ code.function) (exported.clauses 𝓤 H A at-mem run)
   exported-walks C Λ fm known = walked 𝓤 H A exported.ended stayed (exported.clauses 𝓤 H A at-mem run) (WpFn 𝓤 H C Λ code.function)
       (λ κs. (ptr-vals, (slice-vals, (slice-vals, (slice-vals, (uint-vals w64, tt))))))
-      (λ κs. (mut-tells (named 0) (κs .0) S, (shr-slice-tells (named 1) (κs .1 .0) u8, (shr-slice-tells (named 2) (κs .1 .1 .0) u8, (shr-slice-tells (named 3) (κs .1 .1 .1 .0) u32, (uint-tells w64, tt))))))
+      (λ
+      κs. (
+        mut-tells
+            (named 0) (κs .0) S,
+        (
+          shr-slice-tells (named 1) (κs .1 .0) u8,
+          (shr-slice-tells (named 2) (κs .1 .1 .0) u8, (shr-slice-tells (named 3) (κs .1 .1 .1 .0) u32, (uint-tells w64, tt))),
+        ),
+      ))
       (λ κs qs bounds a _ are. via 𝓤 _ (fst∗ 𝓤 _ (emp 𝓤))
-      (walk 𝓤 H A W at-mem run (κs .0) (κs .1 .0) (κs .1 .1 .0) (κs .1 .1 .1 .0) bounds (qs .0) (qs .1 .0) (qs .1 .1 .0) (qs .1 .1 .1 .0) (a .0 .ptr .0) (a .0 .ptr .1) (a .0 .name) (a .0 .now)
-      (a .1 .0 .ptr .0) (a .1 .0 .ptr .1) (a .1 .0 .name) (a .1 .0 .now) (a .1 .1 .0 .ptr .0) (a .1 .1 .0 .ptr .1) (a .1 .1 .0 .name) (a .1 .1 .0 .now) (a .1 .1 .1 .0 .ptr .0) (a .1 .1 .1 .0 .ptr .1) (a .1 .1 .1 .0 .name) (a .1 .1 .1 .0 .now) (a .1 .1 .1 .1 .0)
+      (walk 𝓤 H A W at-mem run (κs .0) (κs .1 .0) (κs .1 .1 .0) (κs .1 .1 .1 .0) bounds (qs .0) (qs .1 .0) (qs .1 .1 .0) (qs .1 .1 .1 .0)
+      (a .0 .ptr .0) (a .0 .ptr .1) (a .0 .name) (a .0 .now)
+      (a .1 .0 .ptr .0) (a .1 .0 .ptr .1) (a .1 .0 .name) (a .1 .0 .now) (a .1 .1 .0 .ptr .0) (a .1 .1 .0 .ptr .1) (a .1 .1 .0 .name)
+      (a .1 .1 .0 .now) (a .1 .1 .1 .0 .ptr .0) (a .1 .1 .1 .0 .ptr .1) (a .1 .1 .1 .0 .name) (a .1 .1 .1 .0 .now) (a .1 .1 .1 .1 .0)
       (are .1 .0 .0 .1) (are .1 .1 .0 .0 .1) (are .1 .1 .1 .0 .0 .1) (are .1 .1 .1 .1 .0 .1) C Λ fm known))
 
   goes : AllGo 𝓤 H A W 4 (exported.signature .params) (exported.ended .kept) stayed
-  goes = (goes-gave-ref 𝓤 H A W 4 0 tt (plain (λ _. S)), (goes-none-slice 𝓤 H A W 4 (1 ∷ []) tt (plain (λ _. u8)) yes, (goes-none-slice 𝓤 H A W 4 (2 ∷ []) tt (plain (λ _. u8)) yes, (goes-none-slice 𝓤 H A W 4 (3 ∷ []) tt (plain (λ _. u32)) yes, (goes-none 𝓤 H A W 4 (λ _. usize) yes (λ κs x f. refl), tt)))))
+  goes
+      = (
+        goes-gave-ref 𝓤 H A W 4 0 tt (plain (λ _. S)),
+        (
+          goes-none-slice 𝓤 H A W 4 (1 ∷ []) tt (plain (λ _. u8)) yes,
+          (
+            goes-none-slice 𝓤 H A W 4 (2 ∷ []) tt (plain (λ _. u8)) yes,
+            (goes-none-slice 𝓤 H A W 4 (3 ∷ []) tt (plain (λ _. u32)) yes, (goes-none 𝓤 H A W 4 (λ _. usize) yes (λ κs x f. refl), tt)),
+          ),
+        ),
+      )
 
-exported-meets : {M : Type 1} (𝓤 : URA M) (H : Heap 𝓤) (A : Atoms 𝓤) (W : Given 𝓤 H A) (at-mem : Memory → SProp 𝓤) (run : Routine → Fun 𝓤) (𝓣 : Tables 𝓤 H) → Triple 𝓤 (𝓣 .C #in-place·take-flag) (Callee 𝓤 H A at-mem run)
+exported-meets : {M : Type 1} (𝓤 : URA M) (H : Heap 𝓤) (A : Atoms 𝓤) (W : Given 𝓤 H A) (at-mem : Memory → SProp 𝓤) (run : Routine → Fun 𝓤)
+    (𝓣 : Tables 𝓤 H) → Triple 𝓤 (𝓣 .C #call-lent·take-flag) (Callee 𝓤 H A at-mem run)
     → Meets 𝓤 H A exported.signature (WpFn 𝓤 H (𝓣 .C) (𝓣 .Λ) code.function) (exported.spec 𝓤 H A at-mem run)
-exported-meets 𝓤 H A W at-mem run 𝓣 known = walk-meets 𝓤 H A exported.ended stayed W (goes 𝓤 H A W at-mem run) (exported.clauses 𝓤 H A at-mem run) (WpFn 𝓤 H (𝓣 .C) (𝓣 .Λ) code.function) (WpFn-mono 𝓤 H (W .laws) 𝓣 code.function)
+exported-meets 𝓤 H A W at-mem run 𝓣 known = walk-meets 𝓤 H A exported.ended stayed W (goes 𝓤 H A W at-mem run) (exported.clauses 𝓤 H A at-mem run)
+    (WpFn 𝓤 H (𝓣 .C) (𝓣 .Λ) code.function) (WpFn-mono 𝓤 H (W .laws) 𝓣 code.function)
     (exported-walks 𝓤 H A W at-mem run (𝓣 .C) (𝓣 .Λ) (fmOf 𝓤 H (W .laws) 𝓣) known)
 
 pub silverpoise-take-flag-in-place-spec : {M : Type 1} → stated.statement M
@@ -179,4 +234,4 @@ silverpoise-take-flag-in-place-spec 𝓤 H 𝓜 𝓖 𝓡 =
     entered 𝓤 H (tripleOf 𝓤 H (𝓖 .A) exported.signature (exported.spec 𝓤 H (𝓖 .A) (𝓜 .mem) (𝓡 .run)))
     (tables 𝓤 H 𝓜 𝓡 code.env .C) (tables 𝓤 H 𝓜 𝓡 code.env .Λ) #exports·silverpoise-take-flag-in-place code.function (code.unfolded 𝓤 H 𝓜 𝓡)
     (exported-meets 𝓤 H (𝓖 .A) (givenOf 𝓤 H 𝓜 𝓖) (𝓜 .mem) (𝓡 .run) (tablesOf 𝓤 H 𝓜 (tables 𝓤 H 𝓜 𝓡 code.env))
-    (cited 𝓤 H (Callee 𝓤 H (𝓖 .A) (𝓜 .mem) (𝓡 .run)) 𝓜 𝓡 code.env #in-place·take-flag callee-def.routine code.calls-in-place·take-flag (callee-thm.met 𝓤 H 𝓜 𝓖 𝓡)))
+    (cited 𝓤 H (Callee 𝓤 H (𝓖 .A) (𝓜 .mem) (𝓡 .run)) 𝓜 𝓡 code.env #call-lent·take-flag callee-def.routine code.calls-call-lent·take-flag (callee-thm.met 𝓤 H 𝓜 𝓖 𝓡)))

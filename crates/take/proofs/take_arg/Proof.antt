@@ -14,16 +14,28 @@ wide-requires-2 c κs = search needs
 
 find-named-requires : tie.Need-find-named-requires
 find-named-requires c κs =
-    let h = c .before .before .before .before .before .before .before .before .pre in
-    (h .0, ready-items _ _ _ _ _ (h .2) _ _ refl (c .before .before .wide2 .ensures) _ refl (h .1) _ (omega (arith, c .before .before .before .wide .ensures, h .2 .fine .order)))
+    let by-wide2 = c .before .before in
+    let wide2 = by-wide2 .wide2 in
+    let by-wide = by-wide2 .before in
+    let wide = by-wide .wide in
+    let pre = by-wide .before .before .before .before .before .pre in
+    let h = pre in
+    (h .0, ready-items _ _ _ _ _ (h .2) _ _ refl (wide2 .ensures) _ refl (h .1) _ (omega (arith, wide .ensures, h .2 .fine .order)))
 
 use-argument-requires : tie.Need-use-argument-requires
 use-argument-requires c κs = search needs
 
 returns : tie.Need-returns
 returns c =
-    let h = c .before .before .before .before .before .before .before .before .before .before .before .pre in
-    c .use-argument .ensures _ _ _ (h .2) (scope-sought _ _ _ _ _ (h .2) _ _ (c .before .before .before .before .before .before .wide .ensures) (c .before .before .before .before .before .wide2 .ensures) _ _ (c .before .before .find-named .ensures))
+    let by-find-named = c .before .before in
+    let find-named = by-find-named .find-named in
+    let by-wide2 = by-find-named .before .before .before in
+    let wide2 = by-wide2 .wide2 in
+    let by-wide = by-wide2 .before in
+    let wide = by-wide .wide in
+    let pre = by-wide .before .before .before .before .before .pre in
+    let h = pre in
+    c .use-argument .ensures _ _ _ (h .2) (scope-sought _ _ _ _ _ (h .2) _ _ (wide .ensures) (wide2 .ensures) _ _ (find-named .ensures))
 
 pub take-arg-spec : {M : Type 1} → statement M
 take-arg-spec =

@@ -16,7 +16,13 @@ use-argument-requires c κs = search needs
 
 returns : tie.Need-returns
 returns c area n adjacent g says skips =
-    c .use-argument .ensures area n adjacent g (known-sought _ area _ _ _ g _ _ refl (c .before .before .before .wide .ensures) (c .before .before .before .before .before .before .before .before .args .known .now) (c .before .before .before .before .before .before .before .before .args .node) _ _ (c .before .before .find .ensures) _ says skips)
+    let by-find = c .before .before in
+    let find = by-find .find in
+    let by-wide = by-find .before in
+    let wide = by-wide .wide in
+    let args = by-wide .before .before .before .before .before .args in
+    c .use-argument .ensures area n adjacent g
+    (known-sought _ area _ _ _ g _ _ refl (wide .ensures) (args .known .now) (args .node) _ _ (find .ensures) _ says skips)
 
 pub take-arg-known-spec : {M : Type 1} → statement M
 take-arg-known-spec = tie.close (tie.spec wide-requires find-requires use-argument-requires returns)

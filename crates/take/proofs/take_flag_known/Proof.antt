@@ -16,7 +16,13 @@ use-flag-requires c κs = search needs
 
 returns : tie.Need-returns
 returns c area words n g says skips =
-    c .use-flag .ensures area words n g (known-sought _ area words _ _ g _ _ refl (c .before .before .before .wide .ensures) (c .before .before .before .before .before .before .before .args .known .now) (c .before .before .before .before .before .before .before .args .node) _ _ (c .before .before .find .ensures) _ says skips)
+    let by-find = c .before .before in
+    let find = by-find .find in
+    let by-wide = by-find .before in
+    let wide = by-wide .wide in
+    let args = by-wide .before .before .before .before .args in
+    c .use-flag .ensures
+    area words n g (known-sought _ area words _ _ g _ _ refl (wide .ensures) (args .known .now) (args .node) _ _ (find .ensures) _ says skips)
 
 pub take-flag-known-spec : {M : Type 1} → statement M
 take-flag-known-spec = tie.close (tie.spec wide-requires find-requires use-flag-requires returns)

@@ -8,7 +8,11 @@ wide-requires : tie.Need-wide-requires
 wide-requires c κs = search needs
 
 take-positional-word-from-requires : tie.Need-take-positional-word-from-requires
-take-positional-word-from-requires c κs = (c .before .before .before .pre .0, c .before .before .before .pre .1, skip-none _ _ _ _ _ (c .before .before .before .pre .1 .fine) _ (c .before .wide .ensures))
+take-positional-word-from-requires c κs =
+    let by-wide = c .before in
+    let wide = by-wide .wide in
+    let pre = by-wide .before .before .pre in
+    (pre .0, pre .1, skip-none _ _ _ _ _ (pre .1 .fine) _ (wide .ensures))
 
 returns : tie.Need-returns
 returns c = search needs

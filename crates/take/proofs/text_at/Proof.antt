@@ -29,7 +29,9 @@ shared-slice-read-t12 : tie.Need-shared-slice-read-t12
 shared-slice-read-t12 c = search needs
 
 returns : tie.Need-returns
-returns c = text-read (c .before .before .args .items .now) (c .before .before .args .i)
+returns c =
+    let args = c .before .before .args in
+    text-read (args .items .now) (args .i)
 
 pub text-at-spec : {M : Type 1} → statement M
 text-at-spec =

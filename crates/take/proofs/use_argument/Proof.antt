@@ -2,7 +2,7 @@
 use mathlib.Core.Path.{refl, sym, _∙_, ap}
 use mathlib.Core.Logic.{⊎-elim}
 use borrow.Author.Needs.{needs}
-use Rattle.arg.specs.declared.Item.the-variants.{ArgWord, Word}
+use Rattle.split_arg.specs.declared.Item.the-variants.{ArgWord, Word}
 use Rattle.take.proofs.Laws.{ready-room, ready-below, free-inside, sought-scope, arg-missing, no-place, no-word, word-taken, arg-word-taken}
 use Rattle.take.proofs.use_argument.Statement.{statement}
 use Rattle.take.proofs.use_argument.Tie as tie
@@ -25,14 +25,27 @@ no-argument-requires c κs = search needs
 
 returns-2 : tie.Need-returns-2
 returns-2 c area n adjacent g sought =
-    no-place _ area _ _ _ g _ _ refl (c .before .before .before .before .before .before .wide .ensures) n adjacent _ (sought-scope _ area _ _ _ g _ _ refl (c .before .before .before .before .before .before .wide .ensures) _ _ sought) (c .before .before .before .before .before .if1 .left) _ (c .before .before .is-free .ensures) (c .before .if2 .taken) _ (c .no-argument .ensures)
+    let by-if2 = c .before in
+    let if2 = by-if2 .if2 in
+    let by-is-free = by-if2 .before in
+    let is-free = by-is-free .is-free in
+    let by-if1 = by-is-free .before .before .before in
+    let if1 = by-if1 .if1 in
+    let wide = by-if1 .before .wide in
+    no-place _ area _ _ _ g _ _ refl (wide .ensures) n adjacent _ (sought-scope _ area _ _ _ g _ _ refl (wide .ensures) _ _ sought) (if1 .left) _
+    (is-free .ensures) (if2 .taken) _ (c .no-argument .ensures)
 
 add-read-item : tie.Need-add-read-item
 add-read-item c = search needs
 
 read-item-requires : tie.Need-read-item-requires
 read-item-requires c κs =
-    ready-room _ _ _ _ _ (c .before .before .before .before .before .before .before .pre .1) _ _ refl (c .before .before .before .before .before .wide .ensures) _ (free-inside _ _ _ _ (c .before .is-free .ensures) (c .if2 .left))
+    let by-is-free = c .before in
+    let is-free = by-is-free .is-free in
+    let by-wide = by-is-free .before .before .before .before in
+    let wide = by-wide .wide in
+    let pre = by-wide .before .before .pre in
+    ready-room _ _ _ _ _ (pre .1) _ _ refl (wide .ensures) _ (free-inside _ _ _ _ (is-free .ensures) (c .if2 .left))
 
 enum-known-item : tie.Need-enum-known-item
 enum-known-item c = search needs
@@ -45,22 +58,54 @@ no-argument-requires-2 c κs = search needs
 
 returns-3 : tie.Need-returns-3
 returns-3 c area n adjacent g sought =
-    no-word _ area _ _ _ g _ _ refl (c .before .before .before .before .before .before .before .before .wide .ensures) n adjacent _ (sought-scope _ area _ _ _ g _ _ refl (c .before .before .before .before .before .before .before .before .wide .ensures) _ _ sought) (c .before .before .before .before .before .before .before .if1 .left) _ (c .before .before .before .before .is-free .ensures) (c .before .before .before .if2 .left) _ (c .before .before .read-item .ensures) (c .before .match .keys3) _ (c .no-argument2 .ensures)
+    let by-match = c .before in
+    let match = by-match .match in
+    let by-read-item = by-match .before in
+    let read-item = by-read-item .read-item in
+    let by-if2 = by-read-item .before in
+    let if2 = by-if2 .if2 in
+    let by-is-free = by-if2 .before in
+    let is-free = by-is-free .is-free in
+    let by-if1 = by-is-free .before .before .before in
+    let if1 = by-if1 .if1 in
+    let wide = by-if1 .before .wide in
+    no-word _ area _ _ _ g _ _ refl (wide .ensures) n adjacent _ (sought-scope _ area _ _ _ g _ _ refl (wide .ensures) _ _ sought) (if1 .left) _
+    (is-free .ensures) (if2 .left) _ (read-item .ensures) (match .keys3) _ (c .no-argument2 .ensures)
 
 use-both-requires : tie.Need-use-both-requires
 use-both-requires c κs =
-    let h = c .before .before .before .before .before .before .before .before .before .before .pre .1 in
-    (h .fine, h .told, ready-below _ _ _ _ _ h _ _ refl (c .before .before .before .before .before .before .before .before .wide .ensures) _ (free-inside _ _ _ _ (c .before .before .before .before .is-free .ensures) (c .before .before .before .if2 .left)))
+    let by-if2 = c .before .before .before in
+    let if2 = by-if2 .if2 in
+    let by-is-free = by-if2 .before in
+    let is-free = by-is-free .is-free in
+    let by-wide = by-is-free .before .before .before .before in
+    let wide = by-wide .wide in
+    let pre = by-wide .before .before .pre in
+    let h = pre .1 in
+    (h .fine, h .told, ready-below _ _ _ _ _ h _ _ refl (wide .ensures) _ (free-inside _ _ _ _ (is-free .ensures) (if2 .left)))
 
 add-t14 : tie.Need-add-t14
 add-t14 c = search needs
 
 returns-4 : tie.Need-returns-4
 returns-4 c area n adjacent g sought =
+    let by-match = c .before .before in
+    let match = by-match .match in
+    let by-read-item = by-match .before in
+    let read-item = by-read-item .read-item in
+    let by-if2 = by-read-item .before in
+    let if2 = by-if2 .if2 in
+    let by-is-free = by-if2 .before in
+    let is-free = by-is-free .is-free in
+    let by-if1 = by-is-free .before .before .before in
+    let if1 = by-if1 .if1 in
+    let wide = by-if1 .before .wide in
     ⊎-elim
-    (λ w. word-taken _ area _ _ _ g _ _ refl (c .before .before .before .before .before .before .before .before .before .wide .ensures) n adjacent _ (sought-scope _ area _ _ _ g _ _ refl (c .before .before .before .before .before .before .before .before .before .wide .ensures) _ _ sought) (c .before .before .before .before .before .before .before .before .if1 .left) _ (c .before .before .before .before .before .is-free .ensures) (c .before .before .before .before .if2 .left) _ (c .before .before .before .read-item .ensures) (c .before .before .match .t) _ _ (c .use-both .ensures) (w .1 .given .1 ∙ ap Word (sym (w .3))))
-    (λ w. arg-word-taken _ area _ _ _ g _ _ refl (c .before .before .before .before .before .before .before .before .before .wide .ensures) n adjacent _ (sought-scope _ area _ _ _ g _ _ refl (c .before .before .before .before .before .before .before .before .before .wide .ensures) _ _ sought) (c .before .before .before .before .before .before .before .before .if1 .left) _ (c .before .before .before .before .before .is-free .ensures) (c .before .before .before .before .if2 .left) _ (c .before .before .before .read-item .ensures) (c .before .before .match .t) _ _ (c .use-both .ensures) (w .1 .given .1 ∙ ap ArgWord (sym (w .3))))
-    (c .before .before .match .came)
+    (λ w. word-taken _ area _ _ _ g _ _ refl (wide .ensures) n adjacent _ (sought-scope _ area _ _ _ g _ _ refl (wide .ensures) _ _ sought)
+    (if1 .left) _ (is-free .ensures) (if2 .left) _ (read-item .ensures) (match .t) _ _ (c .use-both .ensures)
+    (w .1 .given .1 ∙ ap Word (sym (w .3)))) (λ w. arg-word-taken _ area _ _ _ g _ _ refl (wide .ensures) n adjacent _
+    (sought-scope _ area _ _ _ g _ _ refl (wide .ensures) _ _ sought) (if1 .left) _ (is-free .ensures) (if2 .left) _ (read-item .ensures)
+    (match .t) _ _ (c .use-both .ensures) (w .1 .given .1 ∙ ap ArgWord (sym (w .3)))) (match .came)
 
 pub use-argument-spec : {M : Type 1} → statement M
 use-argument-spec =

@@ -17,13 +17,23 @@ set-current-requires : tie.Need-set-current-requires
 set-current-requires c κs = search needs
 
 remove-requires : tie.Need-remove-requires
-remove-requires c κs = (value-fine (c .before .before .args .mark) _ _ (c .before .before .args .key) _ (c .before .set-current .ensures) (c .before .before .pre .0) (c .before .before .pre .2), c .before .before .pre .1)
+remove-requires c κs =
+    let by-set-current = c .before in
+    let set-current = by-set-current .set-current in
+    let by-args = by-set-current .before in
+    let args = by-args .args in
+    let pre = by-args .pre in
+    (value-fine (args .mark) _ _ (args .key) _ (set-current .ensures) (pre .0) (pre .2), pre .1)
 
 remove-requires-2 : tie.Need-remove-requires-2
 remove-requires-2 c κs = search needs
 
 returns : tie.Need-returns
-returns c = both-used _ _ _ _ _ (c .before .before .before .before .set-current .ensures) _ _ (c .before .before .remove .ensures) _ _ (c .remove2 .ensures)
+returns c =
+    let by-remove = c .before .before in
+    let remove = by-remove .remove in
+    let set-current = by-remove .before .before .set-current in
+    both-used _ _ _ _ _ (set-current .ensures) _ _ (remove .ensures) _ _ (c .remove2 .ensures)
 
 pub use-both-spec : {M : Type 1} → statement M
 use-both-spec =

@@ -18,7 +18,10 @@ remove-requires c κs = search needs
 
 returns-2 : tie.Need-returns-2
 returns-2 c area words n g sought =
-    flag-found _ area words _ _ g _ _ refl refl n _ sought (omega (arith, c .before .before .before .wide .ensures, c .before .before .if1 .left)) _ _ (c .remove .ensures)
+    let by-if1 = c .before .before in
+    let if1 = by-if1 .if1 in
+    let wide = by-if1 .before .wide in
+    flag-found _ area words _ _ g _ _ refl refl n _ sought (omega (arith, wide .ensures, if1 .left)) _ _ (c .remove .ensures)
 
 pub use-flag-spec : {M : Type 1} → statement M
 use-flag-spec = tie.close (tie.spec wide-requires returns remove-requires returns-2)

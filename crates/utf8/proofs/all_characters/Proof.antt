@@ -28,7 +28,11 @@ loop-less : tie.Need-loop-less Inv-loop μ-loop
 loop-less c = omega arith
 
 loop-again : tie.Need-loop-again Inv-loop μ-loop
-loop-again c = c .before .before .before .loop .inv ∙ wellFormed-char _ _ _ _ (sym (decode-ascii _ _ _ (c .before .before .loop-test .taken) refl (c .if1 .taken)))
+loop-again c =
+    let by-loop-test = c .before .before in
+    let loop-test = by-loop-test .loop-test in
+    let loop = by-loop-test .before .loop in
+    loop .inv ∙ wellFormed-char _ _ _ _ (sym (decode-ascii _ _ _ (loop-test .taken) refl (c .if1 .taken)))
 
 decode-at-requires : tie.Need-decode-at-requires Inv-loop μ-loop
 decode-at-requires c κs = search needs
@@ -40,16 +44,36 @@ enum-told : tie.Need-enum-told Inv-loop μ-loop
 enum-told c = search needs
 
 returns : tie.Need-returns Inv-loop μ-loop
-returns c = sym (c .before .before .before .before .before .before .loop .inv ∙ wellFormed-bad _ _ (c .before .before .before .before .before .loop-test .taken) (sym (c .before .before .decode-at .ensures) ∙ c .enum-told .given .1))
+returns c =
+    let by-decode-at = c .before .before in
+    let decode-at = by-decode-at .decode-at in
+    let by-loop-test = by-decode-at .before .before .before in
+    let loop-test = by-loop-test .loop-test in
+    let loop = by-loop-test .before .loop in
+    sym (loop .inv ∙ wellFormed-bad _ _ (loop-test .taken) (sym (decode-at .ensures) ∙ c .enum-told .given .1))
 
 add-at-2 : tie.Need-add-at-2 Inv-loop μ-loop
-add-at-2 c = omega (arith, character _ _ _ _ (sym (c .before .before .before .decode-at .ensures) ∙ c .before .d .given .1))
+add-at-2 c =
+    let by-d = c .before in
+    let d = by-d .d in
+    let decode-at = by-d .before .before .decode-at in
+    omega (arith, character _ _ _ _ (sym (decode-at .ensures) ∙ d .given .1))
 
 loop-less-2 : tie.Need-loop-less-2 Inv-loop μ-loop
-loop-less-2 c = omega (arith, character _ _ _ _ (sym (c .before .before .before .decode-at .ensures) ∙ c .before .d .given .1))
+loop-less-2 c =
+    let by-d = c .before in
+    let d = by-d .d in
+    let decode-at = by-d .before .before .decode-at in
+    omega (arith, character _ _ _ _ (sym (decode-at .ensures) ∙ d .given .1))
 
 loop-again-2 : tie.Need-loop-again-2 Inv-loop μ-loop
-loop-again-2 c = c .before .before .before .before .before .before .before .loop .inv ∙ wellFormed-char _ _ _ _ (sym (c .before .before .before .decode-at .ensures) ∙ c .before .d .given .1)
+loop-again-2 c =
+    let by-d = c .before in
+    let d = by-d .d in
+    let by-decode-at = by-d .before .before in
+    let decode-at = by-decode-at .decode-at in
+    let loop = by-decode-at .before .before .before .before .loop in
+    loop .inv ∙ wellFormed-char _ _ _ _ (sym (decode-at .ensures) ∙ d .given .1)
 
 returns-2 : tie.Need-returns-2 Inv-loop μ-loop
 returns-2 c = sym (c .before .loop .inv ∙ wellFormed-end _ _ (c .loop-test .left))

@@ -39,7 +39,11 @@ longer-requires : tie.Need-longer-requires
 longer-requires c κs = search needs
 
 returns-3 : tie.Need-returns-3
-returns-3 c = cc (decode-bytes (c .before .before .before .before .before .before .before .before .before .args .s .now) _ (c .before .before .before .before .before .before .before .if1 .left))
+returns-3 c =
+    let by-if1 = c .before .before .before .before .before .before .before in
+    let if1 = by-if1 .if1 in
+    let args = by-if1 .before .before .args in
+    cc (decode-bytes (args .s .now) _ (if1 .left))
 
 pub decode-at-spec : {M : Type 1} → statement M
 decode-at-spec =

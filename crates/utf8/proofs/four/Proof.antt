@@ -34,15 +34,41 @@ add-t19 c = search needs
 
 returns : tie.Need-returns
 unfolding afterLead fits scalar continued leadBits if_then_else_
-returns c = rw (← c .before .before .before .before .before .within .ensures, c .before .before .before .before .if1 .taken, ← c .before .before .before .within2 .ensures, c .before .before .if2 .taken, ← c .before .within3 .ensures, c .if3 .taken)
+returns c =
+    let by-within3 = c .before in
+    let within3 = by-within3 .within3 in
+    let by-if2 = by-within3 .before in
+    let if2 = by-if2 .if2 in
+    let by-within2 = by-if2 .before in
+    let within2 = by-within2 .within2 in
+    let by-if1 = by-within2 .before in
+    let if1 = by-if1 .if1 in
+    let within = by-if1 .before .within in
+    rw (← within .ensures, if1 .taken, ← within2 .ensures, if2 .taken, ← within3 .ensures, c .if3 .taken)
 
 returns-2 : tie.Need-returns-2
 unfolding afterLead fits scalar continued leadBits if_then_else_
-returns-2 c = rw (← c .before .before .before .before .before .within .ensures, c .before .before .before .before .if1 .taken, ← c .before .before .before .within2 .ensures, c .before .before .if2 .taken, ← c .before .within3 .ensures, c .if3 .left)
+returns-2 c =
+    let by-within3 = c .before in
+    let within3 = by-within3 .within3 in
+    let by-if2 = by-within3 .before in
+    let if2 = by-if2 .if2 in
+    let by-within2 = by-if2 .before in
+    let within2 = by-within2 .within2 in
+    let by-if1 = by-within2 .before in
+    let if1 = by-if1 .if1 in
+    let within = by-if1 .before .within in
+    rw (← within .ensures, if1 .taken, ← within2 .ensures, if2 .taken, ← within3 .ensures, c .if3 .left)
 
 returns-3 : tie.Need-returns-3
 unfolding afterLead fits scalar continued leadBits if_then_else_
-returns-3 c = rw (← c .before .before .before .within .ensures, c .before .before .if1 .taken, ← c .before .within2 .ensures, c .if2 .left)
+returns-3 c =
+    let by-within2 = c .before in
+    let within2 = by-within2 .within2 in
+    let by-if1 = by-within2 .before in
+    let if1 = by-if1 .if1 in
+    let within = by-if1 .before .within in
+    rw (← within .ensures, if1 .taken, ← within2 .ensures, c .if2 .left)
 
 returns-4 : tie.Need-returns-4
 unfolding afterLead fits scalar continued leadBits if_then_else_

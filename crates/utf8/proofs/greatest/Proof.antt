@@ -43,7 +43,14 @@ loop-less : tie.Need-loop-less Inv-loop μ-loop
 loop-less c = omega arith
 
 loop-again : tie.Need-loop-again Inv-loop μ-loop
-loop-again c = (omega arith, passed (c .before .before .before .before .args .s .now) (c .before .before .before .loop .at) (c .before .before .before .loop .most) (c .if1 .most) (c .before .before .before .loop .inv .1) (⊎-elim (λ w. omega arith) (λ w. omega arith) (c .if1 .came)) (⊎-elim (λ w. omega arith) (λ w. omega arith) (c .if1 .came)))
+loop-again c =
+    let by-loop = c .before .before .before in
+    let loop = by-loop .loop in
+    let args = by-loop .before .args in (
+      omega arith,
+      passed (args .s .now) (loop .at) (loop .most) (c .if1 .most) (loop .inv .1)
+          (⊎-elim (λ w. omega arith) (λ w. omega arith) (c .if1 .came)) (⊎-elim (λ w. omega arith) (λ w. omega arith) (c .if1 .came)),
+    )
 
 returns : tie.Need-returns Inv-loop μ-loop
 returns c = λ i l. c .before .loop .inv .1 i (omega arith)

@@ -25,11 +25,23 @@ add-t14 c = search needs
 
 returns : tie.Need-returns
 unfolding afterLead fits scalar continued leadBits if_then_else_
-returns c = rw (← c .before .before .before .within .ensures, c .before .before .if1 .taken, ← c .before .within2 .ensures, c .if2 .taken)
+returns c =
+    let by-within2 = c .before in
+    let within2 = by-within2 .within2 in
+    let by-if1 = by-within2 .before in
+    let if1 = by-if1 .if1 in
+    let within = by-if1 .before .within in
+    rw (← within .ensures, if1 .taken, ← within2 .ensures, c .if2 .taken)
 
 returns-2 : tie.Need-returns-2
 unfolding afterLead fits scalar continued leadBits if_then_else_
-returns-2 c = rw (← c .before .before .before .within .ensures, c .before .before .if1 .taken, ← c .before .within2 .ensures, c .if2 .left)
+returns-2 c =
+    let by-within2 = c .before in
+    let within2 = by-within2 .within2 in
+    let by-if1 = by-within2 .before in
+    let if1 = by-if1 .if1 in
+    let within = by-if1 .before .within in
+    rw (← within .ensures, if1 .taken, ← within2 .ensures, c .if2 .left)
 
 returns-3 : tie.Need-returns-3
 unfolding afterLead fits scalar continued leadBits if_then_else_

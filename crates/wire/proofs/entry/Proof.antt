@@ -9,7 +9,9 @@ area-start-requires : tie.Need-area-start-requires
 area-start-requires c κs = (c .before .pre .width, omega (arith, placed (c .before .pre)))
 
 offset-at-requires : tie.Need-offset-at-requires
-offset-at-requires c κs = (c .before .before .pre .width, omega (arith, placed (c .before .before .pre)))
+offset-at-requires c κs =
+    let pre = c .before .before .pre in
+    (pre .width, omega (arith, placed pre))
 
 add-from : tie.Need-add-from
 add-from c = omega (arith, placed (c .before .before .before .pre))
@@ -18,19 +20,29 @@ add-offset-at : tie.Need-add-offset-at
 add-offset-at c = search needs
 
 offset-at-requires-2 : tie.Need-offset-at-requires-2
-offset-at-requires-2 c κs = (c .before .before .before .pre .width, omega (arith, placed (c .before .before .before .pre)))
+offset-at-requires-2 c κs =
+    let pre = c .before .before .before .pre in
+    (pre .width, omega (arith, placed pre))
 
 add-to : tie.Need-add-to
-add-to c = omega (arith, placed (c .before .before .before .before .pre))
+add-to c =
+    let pre = c .before .before .before .before .pre in
+    omega (arith, placed pre)
 
 sub-result : tie.Need-sub-result
-sub-result c = omega (arith, placed (c .before .before .before .before .pre))
+sub-result c =
+    let pre = c .before .before .before .before .pre in
+    omega (arith, placed pre)
 
 part-result-start : tie.Need-part-result-start
-part-result-start c = omega (arith, placed (c .before .before .before .before .pre))
+part-result-start c =
+    let pre = c .before .before .before .before .pre in
+    omega (arith, placed pre)
 
 part-result-end : tie.Need-part-result-end
-part-result-end c = omega (arith, placed (c .before .before .before .before .pre))
+part-result-end c =
+    let pre = c .before .before .before .before .pre in
+    omega (arith, placed pre)
 
 returns : tie.Need-returns
 returns c = search entry-part

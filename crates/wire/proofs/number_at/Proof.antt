@@ -15,7 +15,11 @@ u32-at-requires : tie.Need-u32-at-requires
 u32-at-requires c κs = omega (arith, wider (c .before .before .pre .0) (c .if1 .left))
 
 returns-2 : tie.Need-returns-2
-returns-2 c = cc (wider (c .before .before .before .pre .0) (c .before .if1 .left))
+returns-2 c =
+    let by-if1 = c .before in
+    let if1 = by-if1 .if1 in
+    let pre = by-if1 .before .before .pre in
+    cc (wider (pre .0) (if1 .left))
 
 pub number-at-spec : {M : Type 1} → statement M
 number-at-spec = tie.close (tie.spec u16-at-requires returns u32-at-requires returns-2)

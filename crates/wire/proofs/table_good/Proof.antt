@@ -13,13 +13,21 @@ abbrev μ-loop : tie.MeasureT-loop
 μ-loop b width count start last₀ k₀ last k = count - k
 
 area-start-requires : tie.Need-area-start-requires Inv-loop μ-loop
-area-start-requires c κs = (c .before .pre .0, omega (arith, start-most (c .before .args .width) (c .before .args .count) (c .before .pre .0)))
+area-start-requires c κs =
+    let by-args = c .before in
+    let args = by-args .args in
+    let pre = by-args .pre in
+    (pre .0, omega (arith, start-most (args .width) (args .count) (pre .0)))
 
 returns : tie.Need-returns Inv-loop μ-loop
 returns c = search too-short
 
 offset-at-requires : tie.Need-offset-at-requires Inv-loop μ-loop
-offset-at-requires c κs = (c .before .before .before .pre .0, omega (arith, start-rises (c .before .before .before .args .width) 0 (c .before .before .before .args .count) (omega arith)))
+offset-at-requires c κs =
+    let by-args = c .before .before .before in
+    let args = by-args .args in
+    let pre = by-args .pre in
+    (pre .0, omega (arith, start-rises (args .width) 0 (args .count) (omega arith)))
 
 returns-2 : tie.Need-returns-2 Inv-loop μ-loop
 returns-2 c = search first-bad
@@ -31,7 +39,13 @@ add-offset-at : tie.Need-add-offset-at Inv-loop μ-loop
 add-offset-at c = omega arith
 
 offset-at-requires-2 : tie.Need-offset-at-requires-2 Inv-loop μ-loop
-offset-at-requires-2 c κs = (c .before .before .before .before .before .before .before .pre .0, omega (arith, start-rises (c .before .before .before .before .before .before .before .args .width) (c .before .loop .k + 1) (c .before .before .before .before .before .before .before .args .count) (omega arith)))
+offset-at-requires-2 c κs =
+    let by-loop = c .before in
+    let loop = by-loop .loop in
+    let by-args = by-loop .before .before .before .before .before .before in
+    let args = by-args .args in
+    let pre = by-args .pre in
+    (pre .0, omega (arith, start-rises (args .width) (loop .k + 1) (args .count) (omega arith)))
 
 returns-3 : tie.Need-returns-3 Inv-loop μ-loop
 returns-3 c = search falls

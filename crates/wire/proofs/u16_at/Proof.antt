@@ -6,26 +6,34 @@ use Rattle.wire.specs.Laws.{number-two}
 use Rattle.wire.proofs.u16_at.Statement.{statement}
 use Rattle.wire.proofs.u16_at.Tie as tie
 
-shared-slice-read-wide : tie.Need-shared-slice-read-wide
-shared-slice-read-wide c = search needs
+shared-slice-read-byte : tie.Need-shared-slice-read-byte
+shared-slice-read-byte c = search needs
 
-wide-requires : tie.Need-wide-requires
-wide-requires c κs = search needs
+byte-requires : tie.Need-byte-requires
+byte-requires c κs = search needs
 
-add-wide : tie.Need-add-wide
-add-wide c = search needs
+add-byte : tie.Need-add-byte
+add-byte c = search needs
 
-shared-slice-read-wide-2 : tie.Need-shared-slice-read-wide-2
-shared-slice-read-wide-2 c = search needs
+shared-slice-read-byte-2 : tie.Need-shared-slice-read-byte-2
+shared-slice-read-byte-2 c = search needs
 
-wide-requires-2 : tie.Need-wide-requires-2
-wide-requires-2 c κs = search needs
+byte-requires-2 : tie.Need-byte-requires-2
+byte-requires-2 c κs = search needs
 
 mul-result : tie.Need-mul-result
-mul-result c = omega (arith, c .before .before .before .before .shared-slice-known .given (c .before .before .before .before .before .args .i + 1))
+mul-result c =
+    let by-shared-slice-known = c .before .before .before .before in
+    let shared-slice-known = by-shared-slice-known .shared-slice-known in
+    let args = by-shared-slice-known .before .args in
+    omega (arith, shared-slice-known .given (args .i + 1))
 
 add-result : tie.Need-add-result
-add-result c = omega (arith, c .before .before .before .before .shared-slice-known .given (c .before .before .before .before .before .args .i), c .before .before .before .before .shared-slice-known .given (c .before .before .before .before .before .args .i + 1))
+add-result c =
+    let by-shared-slice-known = c .before .before .before .before in
+    let shared-slice-known = by-shared-slice-known .shared-slice-known in
+    let args = by-shared-slice-known .before .args in
+    omega (arith, shared-slice-known .given (args .i), shared-slice-known .given (args .i + 1))
 
 returns : tie.Need-returns
 returns c = search number-two
@@ -34,11 +42,11 @@ pub u16-at-spec : {M : Type 1} → statement M
 u16-at-spec =
     tie.close
     (tie.spec
-    shared-slice-read-wide
-    wide-requires
-    add-wide
-    shared-slice-read-wide-2
-    wide-requires-2
+    shared-slice-read-byte
+    byte-requires
+    add-byte
+    shared-slice-read-byte-2
+    byte-requires-2
     mul-result
     add-result
     returns)

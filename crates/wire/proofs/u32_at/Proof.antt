@@ -16,13 +16,28 @@ u16-at-requires-2 : tie.Need-u16-at-requires-2
 u16-at-requires-2 c κs = search needs
 
 mul-result : tie.Need-mul-result
-mul-result c = omega (arith, number-bound 2 (c .before .before .before .args .b .now) (c .before .before .before .args .i + 2) (λ k. omega (arith, c .before .before .shared-slice-known .given k)))
+mul-result c =
+    let by-shared-slice-known = c .before .before in
+    let shared-slice-known = by-shared-slice-known .shared-slice-known in
+    let args = by-shared-slice-known .before .args in
+    omega (arith, number-bound 2 (args .b .now) (args .i + 2) (λ k. omega (arith, shared-slice-known .given k)))
 
 add-result : tie.Need-add-result
-add-result c = omega (arith, number-bound 2 (c .before .before .before .args .b .now) (c .before .before .before .args .i) (λ k. omega (arith, c .before .before .shared-slice-known .given k)), number-bound 2 (c .before .before .before .args .b .now) (c .before .before .before .args .i + 2) (λ k. omega (arith, c .before .before .shared-slice-known .given k)))
+add-result c =
+    let by-shared-slice-known = c .before .before in
+    let shared-slice-known = by-shared-slice-known .shared-slice-known in
+    let args = by-shared-slice-known .before .args in
+    omega (
+      arith,
+      number-bound 2 (args .b .now) (args .i) (λ k. omega (arith, shared-slice-known .given k)),
+      number-bound 2 (args .b .now)
+          (args .i + 2) (λ k. omega (arith, shared-slice-known .given k)),
+    )
 
 returns : tie.Need-returns
-returns c = omega (arith, number-split 2 2 (c .before .before .before .args .b .now) (c .before .before .before .args .i) (omega arith))
+returns c =
+    let args = c .before .before .before .args in
+    omega (arith, number-split 2 2 (args .b .now) (args .i) (omega arith))
 
 pub u32-at-spec : {M : Type 1} → statement M
 u32-at-spec =

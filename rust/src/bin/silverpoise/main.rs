@@ -1,10 +1,12 @@
 //! The command for people: reads a line by a form that is written as text, and shows how it was read.
 #![forbid(unsafe_code)]
 
-mod bytes;
 mod notation;
 mod notes;
 mod show;
+// the library's own file
+#[path = "../../shown.rs"]
+mod shown;
 mod source;
 #[cfg(test)]
 mod tests;
@@ -127,7 +129,7 @@ fn paint() -> Paint {
 }
 
 fn named(file: &OsStr) -> String {
-    bytes::shown(file.as_bytes())
+    shown::shown(file.as_bytes())
 }
 
 /// The form that a file has.

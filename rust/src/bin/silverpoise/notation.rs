@@ -5,7 +5,7 @@ use std::os::unix::ffi::OsStringExt;
 
 use silverpoise::{Fallback, Form, FormError, Names, Node, Takes};
 
-use crate::bytes::shown;
+use crate::shown::quoted;
 use crate::source::{Fault, Spot};
 use crate::tokens::{tokens, Token, Tokens};
 
@@ -132,7 +132,7 @@ impl Parser {
         }
         let Some(name) = self.word() else { return self.fault("a field begins with its name, as in `limit: number -l`") };
         if before.iter().any(|field| field.name == name) {
-            return Err(Fault::new(spot, format!("a field before this one is called `{}` too", shown(name.as_bytes()))));
+            return Err(Fault::new(spot, format!("a field before this one is called {} too", quoted(name.as_bytes()))));
         }
         if !self.accept(&Token::Colon) {
             return self.fault("a `:` stands behind the field's name, as in `limit: number -l`");
@@ -349,5 +349,5 @@ fn crate_names(names: &[OptionName]) -> Names {
 fn number(digits: &str, spot: Spot) -> Result<u32, Fault> {
     let only_digits = digits.bytes().all(|byte| byte.is_ascii_digit());
     let number = digits.parse().ok().filter(|_| only_digits);
-    number.ok_or_else(|| Fault::new(spot, format!("`{}` is no number from 0 to {}", shown(digits.as_bytes()), u32::MAX)))
+    number.ok_or_else(|| Fault::new(spot, format!("{} is no number from 0 to {}", quoted(digits.as_bytes()), u32::MAX)))
 }

@@ -5,8 +5,8 @@ use std::os::unix::ffi::OsStrExt;
 
 use silverpoise::{Item, ItemKind, Mark, ReadError, Value};
 
-use crate::bytes::shown;
 use crate::notation::{Field, Letters, OptionName, Written};
+use crate::shown::{quoted, shown};
 
 pub fn notes(written: &Written, args: &[OsString], items: &[Item], answer: Result<&[Value], &ReadError>) -> Vec<String> {
     let mut notes: Vec<String> = items.iter().filter_map(|item| withdrawn(&written.letters, args, item)).collect();
@@ -32,7 +32,8 @@ fn withdrawn(letters: &Letters, args: &[OsString], item: &Item) -> Option<String
     // an argument letter ends a cluster, and so does one that is both; neither makes it a word by itself
     let unknown = cluster.chars().find(|c| !letters.flags.contains(c) || letters.arguments.contains(c))?;
     (!letters.arguments.contains(&unknown)).then(|| {
-        format!("`{}` is one word, not options: no option has the letter `{}`", quoted(whole), quoted(&unknown.to_string()))
+        let (word, letter) = (quoted(whole.as_bytes()), quoted(unknown.to_string().as_bytes()));
+        format!("{word} is one word, not options: no option has the letter {letter}")
     })
 }
 
@@ -41,9 +42,9 @@ fn rest_taken(args: &[OsString], key: &Item, rest: &Item) -> Option<String> {
     let ItemKind::Short(letter) = key.kind else { return None };
     let taken = key.adjacent && key.mark != Mark::Used && rest.mark == Mark::Used && rest.kind == ItemKind::Word;
     taken.then(|| {
-        let (rest, whole) = (shown(rest.text.as_bytes()), shown(args[key.argument].as_bytes()));
-        let letter = quoted(&letter.to_string());
-        format!("a positional took `{rest}`, the rest of `{whole}`, before `-{letter}` looked for its value")
+        let (rest, whole) = (quoted(rest.text.as_bytes()), quoted(args[key.argument].as_bytes()));
+        let key = quoted(format!("-{letter}").as_bytes());
+        format!("a positional took {rest}, the rest of {whole}, before {key} looked for its value")
     })
 }
 
@@ -56,8 +57,8 @@ fn counted_nothing(field: &Field, value: &Value, items: &[Item]) -> Option<Strin
             OptionName::Short(letter) => format!("-{letter}"),
             OptionName::Long(name) => format!("--{name}"),
         };
-        let (field, name) = (quoted(&field.name), quoted(&name));
-        format!("`{field}` is 1 although `{name}` is not given: a switch always has a value; `flag {name}, count` gives 0")
+        let (field, name) = (quoted(field.name.as_bytes()), shown(name.as_bytes()));
+        format!("{field} is 1 although `{name}` is not given: a switch always has a value; `flag {name}, count` gives 0")
     })
 }
 
@@ -74,8 +75,4 @@ fn stays_used(error: &ReadError, items: &[Item]) -> Option<String> {
     let place = error.place().filter(|_| (23..=26).contains(&error.number()))?;
     let used = items.get(place)?.mark == Mark::Used;
     used.then(|| format!("place {place} stays used: a word is not given back when it is refused"))
-}
-
-fn quoted(text: &str) -> String {
-    shown(text.as_bytes())
 }

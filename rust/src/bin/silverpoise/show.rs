@@ -7,8 +7,8 @@ use std::os::unix::ffi::OsStrExt;
 
 use silverpoise::{Item, ItemKind, Mark, ReadError, Value};
 
-use crate::bytes::{shown, ShownArgument};
 use crate::notation::Field;
+use crate::shown::{shown, ShownArgument};
 
 /// Columns of the arguments on one row; more arguments go to further rows.
 const ROOM: usize = 56;

@@ -23,7 +23,9 @@ same-length : tie.Need-same-length
 same-length c = search needs
 
 returns : tie.Need-returns
-returns c = number-appends _ _ _ _ (c .before .before .before .before .before .before .before .wide .ensures) (search needs) (c .before .before .before .before .before .decimal .ensures .0) (c .before .before .before .before .before .decimal .ensures .1 .0) (c .before .before .before .before .before .decimal .ensures .1 .1) _ _ _ _ (c .before .before .append .ensures)
+returns c = number-appends _ _ _ _ (c .before .before .before .before .before .before .before .wide .ensures) (search needs)
+    (c .before .before .before .before .before .decimal .ensures .0) (c .before .before .before .before .before .decimal .ensures .1 .0)
+    (c .before .before .before .before .before .decimal .ensures .1 .1) _ _ _ _ (c .before .before .append .ensures)
 
 pub append-number-spec : {M : Type 1} → statement M
 append-number-spec =

@@ -14,7 +14,11 @@ same-length : tie.Need-same-length
 same-length c = search needs
 
 returns : tie.Need-returns
-returns c = dash-appends _ _ _ _ _ (c .before .before .before .before .before .if1 .taken) (c .before .before .append .ensures)
+returns c =
+    let by-append = c .before .before in
+    let append = by-append .append in
+    let if1 = by-append .before .before .before .if1 in
+    dash-appends _ _ _ _ _ (if1 .taken) (append .ensures)
 
 sub-append-number : tie.Need-sub-append-number
 sub-append-number c = search needs
@@ -26,7 +30,11 @@ same-length-2 : tie.Need-same-length-2
 same-length-2 c = search needs
 
 returns-2 : tie.Need-returns-2
-returns-2 c = place-appends _ _ _ _ _ (c .before .before .before .before .if1 .left) (c .before .before .append-number .ensures)
+returns-2 c =
+    let by-append-number = c .before .before in
+    let append-number = by-append-number .append-number in
+    let if1 = by-append-number .before .before .if1 in
+    place-appends _ _ _ _ _ (if1 .left) (append-number .ensures)
 
 pub append-place-spec : {M : Type 1} → statement M
 append-place-spec =

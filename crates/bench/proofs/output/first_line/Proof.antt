@@ -32,7 +32,20 @@ same-length : tie.Need-same-length
 same-length c = search needs
 
 returns : tie.Need-returns
-returns c = line-appends _ _ _ _ _ _ _ (c .before .before .before .before .before .before .before .before .before .before .before .before .before .before .before .before .before .before .before .before .before .before .before .before .before .before .append-labelled .ensures) _ _ (c .before .before .before .before .before .before .before .before .before .before .before .before .before .before .before .before .before .before .before .before .before .append .ensures) _ _ (c .before .before .before .before .before .before .before .before .before .before .before .before .before .before .before .before .before .append-place .ensures) _ _ (c .before .before .before .before .before .before .before .before .before .before .before .before .append-labelled2 .ensures) _ _ (c .before .before .before .before .before .before .before .append-labelled3 .ensures) _ _ (c .before .before .append2 .ensures)
+returns c =
+    let by-append2 = c .before .before in
+    let append2 = by-append2 .append2 in
+    let by-append-labelled3 = by-append2 .before .before .before .before .before in
+    let append-labelled3 = by-append-labelled3 .append-labelled3 in
+    let by-append-labelled2 = by-append-labelled3 .before .before .before .before .before in
+    let append-labelled2 = by-append-labelled2 .append-labelled2 in
+    let by-append-place = by-append-labelled2 .before .before .before .before .before in
+    let append-place = by-append-place .append-place in
+    let by-append = by-append-place .before .before .before .before in
+    let append = by-append .append in
+    let append-labelled = by-append .before .before .before .before .before .append-labelled in
+    line-appends _ _ _ _ _ _ _ (append-labelled .ensures) _ _ (append .ensures) _ _ (append-place .ensures) _ _ (append-labelled2 .ensures) _ _
+    (append-labelled3 .ensures) _ _ (append2 .ensures)
 
 pub first-line-spec : {M : Type 1} → statement M
 first-line-spec =

@@ -1,0 +1,42 @@
+-- By the tests, then by the node. Assumes nothing.
+use borrow.Author.Needs.{needs}
+use Rattle.call_form.proofs.Entries.{tests-given, tests-accepted, key-inside, flag-refused, flag-none, flag-some}
+use Rattle.call_form.proofs.take_flag.Statement.{statement}
+use Rattle.call_form.proofs.take_flag.Tie as tie
+
+given-requires : tie.Need-given-requires
+given-requires c κs = search needs
+
+unchanged-requires : tie.Need-unchanged-requires
+unchanged-requires c κs = search needs
+
+returns : tie.Need-returns
+returns c = search flag-refused
+
+key-at-requires : tie.Need-key-at-requires
+key-at-requires c κs = tests-accepted _ _ _ _ _ (c .before .before .given .ensures) (c .if1 .left)
+
+unchanged-requires-2 : tie.Need-unchanged-requires-2
+unchanged-requires-2 c κs = search needs
+
+returns-2 : tie.Need-returns-2
+returns-2 c = search flag-none
+
+flag-taken-requires : tie.Need-flag-taken-requires
+flag-taken-requires c κs = (search tests-given, search key-inside)
+
+returns-3 : tie.Need-returns-3
+returns-3 c = search flag-some
+
+pub take-flag-spec : {M : Type 1} → statement M
+take-flag-spec =
+    tie.close
+    (tie.spec
+    given-requires
+    unchanged-requires
+    returns
+    key-at-requires
+    unchanged-requires-2
+    returns-2
+    flag-taken-requires
+    returns-3)

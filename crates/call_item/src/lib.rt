@@ -1,0 +1,219 @@
+// The entry points on items, a state and a place. None asks anything of its input.
+ghost use mathlib.Core.Path.{_≡_};
+ghost use mathlib.Core.List.{List};
+ghost use mathlib.Core.Option.{some};
+ghost use Prim.Native.Nat.{ℕ, _+_, _*_, _≤_};
+ghost use lib.ListN.{length};
+ghost use Rattle.rules.specs.Sheet.{sheetArea};
+ghost use Rattle.rules.specs.Split.{Item as RulesItem};
+ghost use Rattle.rules.specs.State.{matchShort, matchLong};
+ghost use Rattle.rules.specs.Calls.{itemFrom, callConflict, callTakePositional, callOnlyOnce};
+ghost use Rattle.split_arg.specs.Items.{recordAt};
+ghost use Rattle.take_search.specs.Items.{partBytes, HasPart};
+ghost use Rattle.take_search.specs.Search.{HasItem};
+ghost use Rattle.call_answers.specs.Answers.{answerOf, stateAnswerOf, plainAnswer, conflictCode, operandCode, placeOrNone};
+ghost use Rattle.call_item.specs.Calls.{sameNamed, HasPlace, Earlier, freeAt, Gets, nothingGot};
+use call_answers::Answer;
+use call_answers::MISSING;
+use call_answers::NOT_THERE;
+use call_answers::StateAnswer;
+use call_answers::answered;
+use call_answers::changed;
+use call_answers::refused;
+use call_answers::unchanged;
+use call_answers::yes_no;
+use rules::State;
+use split_arg::Item;
+use split_arg::Part;
+use state_marks::FIELD;
+use state_marks::is_present;
+use state_marks::joined;
+use state_marks::numbers_of;
+use state_value::ConflictOption;
+use take::Operand;
+use wire::wide;
+
+// The record of the item that was found, or all 0.
+#[repr(C)]
+pub struct Got {
+    pub number: u32,
+    pub place: u32,
+    pub item: [u32; 7],
+}
+
+// The first present place in scope and its winner, if it is in conflict.
+pub fn conflict(sheet: &[u8], items: &[u32], s: State) -> Answer
+    ensures { λ r. ⌜ answerOf conflictCode (callConflict (now (sheet .entry)) (now (items .entry)) s) ≡ some r ⌝ }
+{
+    let number = call_table::given_state(sheet, items, s);
+    if number != 0 {
+        return refused(number, 0);
+    }
+    let c = state_value::conflict(s);
+    match c {
+        ConflictOption::Some(place, winner) => answered(1, place, winner),
+        ConflictOption::None => answered(0, 0, 0),
+    }
+}
+
+// A positional: the first present Word or PosWord in scope; 20 if there is none.
+pub fn take_positional_word(sheet: &[u8], items: &[u32], s: State) -> StateAnswer
+    ensures { λ r. ⌜ stateAnswerOf operandCode (callTakePositional (now (sheet .entry)) (now (items .entry)) s) ≡ some r ⌝ }
+{
+    let number = call_table::given_state(sheet, items, s);
+    if number != 0 {
+        return unchanged(number, 0, s);
+    }
+    let mut marks = s.marks;
+    let taken = take::take_positional_word(items, &mut marks, numbers_of(s), FIELD);
+    let operand = taken.operand;
+    let Operand::Taken(place, strict, _) = operand else {
+        return unchanged(MISSING, 0, s);
+    };
+    changed(
+        1,
+        place as u32,
+        yes_no(strict),
+        joined(marks, taken.numbers),
+    )
+}
+
+// Whether record j is a Short with this character.
+fn is_short(items: &[u32], j: usize, letter: u32) -> bool
+    requires { ⌜ 7 * j + 7 ≤ length (now items) ⌝ }
+    ensures { λ r. ⌜ ((area : List ℕ) (y : RulesItem) → itemFrom area (recordAt (now (items .entry)) j) ≡ some y → r ≡ matchShort letter y) ⌝ }
+{
+    let item = split_arg::read_item(items, j);
+    let Item::Short(other, _, _) = item else {
+        return false;
+    };
+    other == letter
+}
+
+// Whether record j is a Long with this name.
+fn is_long(sheet: &[u8], items: &[u32], j: usize, name: Part) -> bool
+    requires { ⌜ HasItem (now sheet) (now items) j × HasPart (now sheet) name ⌝ }
+    ensures { λ r. ⌜ ((y : RulesItem) → itemFrom (sheetArea (now (sheet .entry))) (recordAt (now (items .entry)) j) ≡ some y → r ≡ matchLong (partBytes (sheetArea (now (sheet .entry))) name) y) ⌝ }
+{
+    let item = split_arg::read_item(items, j);
+    let Item::Long(other, _, _) = item else {
+        return false;
+    };
+    take_search::same_bytes(
+        take_search::part_bytes(sheet, other),
+        take_search::part_bytes(sheet, name),
+    )
+}
+
+// Whether items i and j have the same name.
+fn same_name(sheet: &[u8], items: &[u32], i: usize, j: usize) -> bool
+    requires { ⌜ HasItem (now sheet) (now items) i × HasItem (now sheet) (now items) j ⌝ }
+    ensures { λ r. ⌜ ((x y : RulesItem) → itemFrom (sheetArea (now (sheet .entry))) (recordAt (now (items .entry)) i) ≡ some x → itemFrom (sheetArea (now (sheet .entry))) (recordAt (now (items .entry)) j) ≡ some y → r ≡ sameNamed x y) ⌝ }
+{
+    let item = split_arg::read_item(items, i);
+    match item {
+        Item::Short(letter, _, _) => is_short(items, j, letter),
+        Item::Long(name, _, _) => is_long(sheet, items, j, name),
+        Item::ArgWord(_) | Item::Word(_) | Item::PosWord(_) => false,
+    }
+}
+
+// The nearest earlier place with the same name, plus 1, or 0 for none.
+fn earlier(sheet: &[u8], items: &[u32], place: usize) -> usize
+    requires { ⌜ HasPlace (now sheet) (now items) place ⌝ }
+    ensures { λ r. ⌜ Earlier (sheetArea (now (sheet .entry))) (now (items .entry)) place r ⌝ }
+{
+    let mut j = place;
+    while 0 < j {
+        if same_name(sheet, items, place, j - 1) {
+            return j;
+        }
+        j -= 1;
+    }
+    j
+}
+
+// The nearest earlier place with the same name as this one. A place that 32 bits do not hold is none.
+pub fn only_once(sheet: &[u8], items: &[u32], place: usize) -> Answer
+    ensures { λ r. ⌜ plainAnswer placeOrNone (callOnlyOnce (now (sheet .entry)) (now (items .entry)) place) ≡ some r ⌝ }
+{
+    let g = call_table::given(sheet, items);
+    if g.number != 0 {
+        return refused(g.number, 0);
+    }
+    if g.count <= place {
+        return refused(NOT_THERE, 0);
+    }
+    if 0xffff_ffff < place {
+        return refused(NOT_THERE, 0);
+    }
+    let found = earlier(sheet, items, place);
+    if found == 0 {
+        return answered(0, 0, 0);
+    }
+    answered(1, found as u32 - 1, 0)
+}
+
+// No item: refused, or none found.
+fn nothing(number: u32) -> Got
+    ensures { λ r. ⌜ r ≡ nothingGot number ⌝ }
+{
+    Got {
+        number,
+        place: 0,
+        item: [0u32; 7],
+    }
+}
+
+// The seven words of record i.
+fn record_words(items: &[u32], i: usize) -> [u32; 7]
+    requires { ⌜ 7 * i + 7 ≤ length (now items) ⌝ }
+    ensures { λ r. ⌜ r ≡ recordAt (now (items .entry)) i ⌝ }
+{
+    let at = 7 * i;
+    [
+        items[at],
+        items[at + 1],
+        items[at + 2],
+        items[at + 3],
+        items[at + 4],
+        items[at + 5],
+        items[at + 6],
+    ]
+}
+
+// Whether a place is in scope and present.
+fn is_free(s: State, i: usize) -> bool
+    requires { ⌜ s .end ≤ 256 ⌝ }
+    ensures { λ r. ⌜ r ≡ freeAt s i ⌝ }
+{
+    if i < wide(s.start) {
+        return false;
+    }
+    if wide(s.end) <= i {
+        return false;
+    }
+    is_present(s.marks[i])
+}
+
+// The item at a place that is in scope and present.
+pub fn get(sheet: &[u8], items: &[u32], s: State, place: usize) -> Got
+    ensures { λ r. ⌜ Gets (now (sheet .entry)) (now (items .entry)) s place r ⌝ }
+{
+    let number = call_table::given_state(sheet, items, s);
+    if number != 0 {
+        return nothing(number);
+    }
+    if wide(s.count) <= place {
+        return nothing(28);
+    }
+    if !is_free(s, place) {
+        return nothing(0);
+    }
+    let item = record_words(items, place);
+    Got {
+        number: 0,
+        place: 0,
+        item,
+    }
+}

@@ -1,0 +1,150 @@
+// `eval` of one node of a form on a state, as an entry point.
+ghost use mathlib.Core.Path.{_≡_};
+ghost use mathlib.Core.Option.{some};
+ghost use Prim.Native.Nat.{_≤_};
+ghost use lib.ListN.{length};
+ghost use Rattle.rules.specs.Sheet.{sheetArea, sheetFault};
+ghost use Rattle.rules.specs.Calls.{callEval};
+ghost use Rattle.form_layout.specs.Layout.{GoodNames};
+ghost use Rattle.take_table.specs.Known.{Known};
+ghost use Rattle.call_table.specs.Given.{Holds};
+ghost use Rattle.call_node.specs.Node.{evaluatedAnswer, unchangedBy, answerOf, Admits, ClearedAnswers, Runs};
+use eval_list::Field;
+use eval_told::Ran;
+use rules::Refused;
+use rules::State;
+use run_fields::RunAnswer;
+use wire::wide;
+
+// Which nodes each of the items matches.
+fn known_of(form: &[u8], sheet: &[u8], items: &[u32], count: usize) -> [u64; 257]
+    requires { ⌜ GoodNames (now form) × (sheetFault (now sheet) ≡ 0) × Holds (sheetArea (now sheet)) (now items) count × (count ≤ 256) ⌝ }
+    ensures { λ r. ⌜ Known (now (form .entry)) (sheetArea (now (sheet .entry))) (now (items .entry)) count r ⌝ }
+{
+    let codes = form_codes::codes_of(form);
+    let mut known = run_fields::nothing_known();
+    take_table::known(form, &codes, sheet, items, count, &mut known);
+    known
+}
+
+fn refused(number: u32) -> Refused
+    ensures { λ r. ⌜ r ≡ record { number = number; place = 0 } ⌝ }
+{
+    Refused { number, place: 0 }
+}
+
+// Refusals 1 to 7, then 30, 29 and 28, in this order; number 0 if there is none.
+fn admit(
+    form: &[u8],
+    sheet: &[u8],
+    items: &[u32],
+    answers: &[u32],
+    s: State,
+    node: usize,
+) -> Refused
+    ensures { λ r. ⌜ Admits (now (form .entry)) (now (sheet .entry)) (now (items .entry)) (now (answers .entry)) s node r ⌝ }
+{
+    let checked = form_check::check(form);
+    if checked.number != 0 {
+        return checked;
+    }
+    let fault = split_sheet::check(sheet);
+    if fault != 0 {
+        return refused(fault);
+    }
+    if items.len() < 1792 {
+        return refused(7);
+    }
+    if answers.len() < 8240 {
+        return refused(7);
+    }
+    let held = call_table::check(sheet, items);
+    if !held.good {
+        return refused(30);
+    }
+    if !state_marks::good(s, held.count) {
+        return refused(29);
+    }
+    if form_layout::node_count(form) <= node {
+        return refused(28);
+    }
+    refused(0)
+}
+
+fn answered(ran: Ran, marks: [u16; 256]) -> RunAnswer
+    ensures { λ r. ⌜ r ≡ answerOf ran marks ⌝ }
+{
+    let left = ran.numbers;
+    let state = state_marks::joined(marks, left);
+    RunAnswer {
+        number: ran.number,
+        place: ran.place,
+        tries: ran.tries,
+        words: ran.len,
+        state,
+    }
+}
+
+// Refused before the run: nothing is tried, and the state is the one that was given.
+fn unchanged(r: Refused, s: State) -> RunAnswer
+    ensures { λ x. ⌜ x ≡ unchangedBy r s ⌝ }
+{
+    RunAnswer {
+        number: r.number,
+        place: r.place,
+        tries: 0,
+        words: 0,
+        state: s,
+    }
+}
+
+// The run, on input that was not refused. The words go to the front of an answer slice that is all 0.
+fn run_admitted(
+    form: &[u8],
+    sheet: &[u8],
+    items: &[u32],
+    answers: &mut [u32],
+    s: State,
+    node: usize,
+) -> RunAnswer
+    requires { ⌜ ClearedAnswers (now form) (now sheet) (now items) (now answers) s node ⌝ }
+    ensures { λ r. ⌜ Runs (now (form .entry)) (now (sheet .entry)) (now (items .entry)) (length (now (answers .entry))) s node (now (answers .exit)) r ⌝ }
+{
+    let known = known_of(form, sheet, items, wide(s.count));
+    let mut marks = s.marks;
+    let p = state_marks::numbers_of(s);
+    let field = Field { node, at: 0 };
+    let mark = state_marks::FIELD;
+    let ran = run_fields::run_value(
+        form,
+        &known,
+        sheet,
+        items,
+        &mut marks,
+        p,
+        field,
+        answers,
+        mark,
+    );
+    answered(ran, marks)
+}
+
+// The evaluation of one node on a state over the items of a slice. Refused with 1 to 7 or 28 to 30, nothing is changed; else
+// the answer slice holds the words of the value and 0 behind them.
+pub fn eval(
+    form: &[u8],
+    sheet: &[u8],
+    items: &[u32],
+    answers: &mut [u32],
+    s: State,
+    node: usize,
+) -> RunAnswer
+    ensures { λ r. ⌜ evaluatedAnswer (callEval (now (form .entry)) (now (sheet .entry)) (now (items .entry)) (now (answers .entry)) s node) ≡ some (record { answer = r; answers = now (answers .exit) }) ⌝ }
+{
+    let tested = admit(form, sheet, items, answers, s, node);
+    if tested.number != 0 {
+        return unchanged(tested, s);
+    }
+    wire::fill(answers, 0, answers.len(), 0);
+    run_admitted(form, sheet, items, answers, s, node)
+}

@@ -1,0 +1,4 @@
+pub mod Told
+pub mod Nodes
+pub mod Lists
+pub mod Results

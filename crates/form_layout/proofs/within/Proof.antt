@@ -1,0 +1,16 @@
+-- Both ends are tested. Assumes nothing.
+use borrow.Author.Tests.{le-leb, lt-leb}
+use Rattle.form_layout.specs.Layout.{within}
+use Rattle.form_layout.proofs.within.Statement.{statement}
+use Rattle.form_layout.proofs.within.Tie as tie
+
+returns : tie.Need-returns
+unfolding within
+returns c = rw (lt-leb _ _ (c .if1 .taken))
+
+returns-2 : tie.Need-returns-2
+unfolding within
+returns-2 c = rw (le-leb _ _ (c .if1 .left))
+
+pub within-spec : {M : Type 1} → statement M
+within-spec = tie.close (tie.spec returns returns-2)

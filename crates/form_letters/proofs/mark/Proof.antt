@@ -1,0 +1,54 @@
+-- Invariant: the bit is set from the first record up to k. Assumes nothing.
+use Prim.Native.Nat.{_-_}
+use native.Mathlib.Omega.{arith}
+use borrow.Author.Needs.{needs}
+use Rattle.form_letters.proofs.Tables.{Marking, marking-first, marking-next, marking-last}
+use Rattle.form_letters.proofs.mark.Statement.{statement}
+use Rattle.form_letters.proofs.mark.Tie as tie
+
+abbrev Inv-loop : tie.InvT-loop
+Inv-loop classes₀ bit first end k₀ classes k = Marking bit first end classes₀ classes k
+
+abbrev μ-loop : tie.MeasureT-loop
+μ-loop classes₀ bit first end k₀ classes k = end - k
+
+loop-holds : tie.Need-loop-holds Inv-loop μ-loop
+loop-holds c = search marking-first
+
+element-copy-out-classes : tie.Need-element-copy-out-classes Inv-loop μ-loop
+element-copy-out-classes c = search needs
+
+element-write-classes : tie.Need-element-write-classes Inv-loop μ-loop
+element-write-classes c = search needs
+
+add-k : tie.Need-add-k Inv-loop μ-loop
+add-k c = search needs
+
+loop-less : tie.Need-loop-less Inv-loop μ-loop
+loop-less c = search needs
+
+loop-again : tie.Need-loop-again Inv-loop μ-loop
+loop-again c =
+    let by-loop-test = c .before in
+    let loop-test = by-loop-test .loop-test in
+    let by-loop = by-loop-test .before in
+    let loop = by-loop .loop in
+    let pre = by-loop .before .pre in
+    marking-next _ _ _ _ _ _ (loop .inv) (loop-test .taken) (omega (arith, pre))
+
+returns : tie.Need-returns Inv-loop μ-loop
+returns c = search marking-last
+
+pub mark-spec : {M : Type 1} → statement M
+mark-spec =
+    tie.close
+    (tie.spec
+    Inv-loop
+    μ-loop
+    loop-holds
+    element-copy-out-classes
+    element-write-classes
+    add-k
+    loop-less
+    loop-again
+    returns)

@@ -1,0 +1,16 @@
+-- The two ranges. Assumes nothing.
+use Rattle.form_names.proofs.Records.{letter-low, letter-between, letter-high}
+use Rattle.form_names.proofs.is_letter.Statement.{statement}
+use Rattle.form_names.proofs.is_letter.Tie as tie
+
+returns : tie.Need-returns
+returns c = search letter-low
+
+returns-2 : tie.Need-returns-2
+returns-2 c = search letter-between
+
+returns-3 : tie.Need-returns-3
+returns-3 c = search letter-high
+
+pub is-letter-spec : {M : Type 1} → statement M
+is-letter-spec = tie.close (tie.spec returns returns-2 returns-3)

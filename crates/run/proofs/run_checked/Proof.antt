@@ -1,0 +1,127 @@
+use borrow.Author.Needs.{needs}
+use Rattle.run.proofs.Runs.{splitting-refused, fields-start, fields-end, fields-long}
+use lib.ListN.{length}
+use Rattle.split_args.proofs.States.{fill-long}
+use Rattle.form_codes.proofs.NameCodes.{codes-room}
+use Rattle.split_line.proofs.Lines.{splittable-names}
+use Rattle.run.proofs.run_checked.Statement.{statement}
+use Rattle.run.proofs.run_checked.Tie as tie
+
+fill-requires : tie.Need-fill-requires
+fill-requires c κs = search needs
+
+no-codes-requires : tie.Need-no-codes-requires
+no-codes-requires c κs = search needs
+
+slice-aggregate-codes : tie.Need-slice-aggregate-codes
+slice-aggregate-codes c = search needs
+
+codes-requires : tie.Need-codes-requires
+codes-requires c κs = search (splittable-names, codes-room)
+
+slice-aggregate-split : tie.Need-slice-aggregate-split
+slice-aggregate-split c = search needs
+
+split-requires : tie.Need-split-requires
+split-requires c κs = search needs
+
+begin-requires : tie.Need-begin-requires
+begin-requires c κs = search needs
+
+refused-requires : tie.Need-refused-requires
+refused-requires c κs = search needs
+
+same-length : tie.Need-same-length
+same-length c = search needs
+
+same-length-2 : tie.Need-same-length-2
+same-length-2 c =
+    let by-fill = c .before .before .before .before .before .before .before .before .before .before .before .before .before .before .before .before in
+    let fill = by-fill .fill in
+    let args = by-fill .before .before .before .before .before .before .args in
+    fill-long _ (args .answers .now) 0 (length (args .answers .now)) (fill .ensures)
+
+returns : tie.Need-returns
+returns c =
+    let by-if1 = c .before in
+    let if1 = by-if1 .if1 in
+    let by-begin = by-if1 .before .before in
+    let begin = by-begin .begin in
+    let by-split = by-begin .before .before .before .before in
+    let split = by-split .split in
+    let by-fill = by-split .before .before .before .before .before .before .before .before .before in
+    let fill = by-fill .fill in
+    let pre = by-fill .before .before .before .before .before .before .pre in
+    splitting-refused _ _ _ _ (pre .0) _ (fill .ensures) _ _ (split .ensures) _ _ (begin .ensures) (if1 .taken) _ (c .refused .ensures)
+
+slice-aggregate-run-items : tie.Need-slice-aggregate-run-items
+slice-aggregate-run-items c = search needs
+
+run-items-requires : tie.Need-run-items-requires
+run-items-requires c κs =
+    let by-if1 = c .before .before .before .before in
+    let if1 = by-if1 .if1 in
+    let by-begin = by-if1 .before .before in
+    let begin = by-begin .begin in
+    let by-split = by-begin .before .before .before .before in
+    let split = by-split .split in
+    let by-codes2 = by-split .before .before .before .before in
+    let codes2 = by-codes2 .codes2 in
+    let by-fill = by-codes2 .before .before .before .before .before in
+    let fill = by-fill .fill in
+    let pre = by-fill .before .before .before .before .before .before .pre in
+    fields-start _ _ _ _ (pre .0) _ (fill .ensures) _ _ (split .ensures) _ _ (begin .ensures) (if1 .left) _ (codes2 .ensures .coded)
+
+same-length-3 : tie.Need-same-length-3
+same-length-3 c = search needs
+
+same-length-4 : tie.Need-same-length-4
+same-length-4 c =
+    let by-run-items = c .before .before in
+    let run-items = by-run-items .run-items in
+    let by-if1 = by-run-items .before .before .before .before .before in
+    let if1 = by-if1 .if1 in
+    let by-begin = by-if1 .before .before in
+    let begin = by-begin .begin in
+    let by-split = by-begin .before .before .before .before in
+    let split = by-split .split in
+    let by-fill = by-split .before .before .before .before .before .before .before .before .before in
+    let fill = by-fill .fill in
+    let pre = by-fill .before .before .before .before .before .before .pre in
+    fields-long _ _ _ _ (pre .0) _ (fill .ensures) _ _ (split .ensures) _ _ (begin .ensures) (if1 .left) _ _ _ (run-items .ensures)
+
+returns-2 : tie.Need-returns-2
+returns-2 c =
+    let by-run-items = c .before .before in
+    let run-items = by-run-items .run-items in
+    let by-if1 = by-run-items .before .before .before .before .before in
+    let if1 = by-if1 .if1 in
+    let by-begin = by-if1 .before .before in
+    let begin = by-begin .begin in
+    let by-split = by-begin .before .before .before .before in
+    let split = by-split .split in
+    let by-fill = by-split .before .before .before .before .before .before .before .before .before in
+    let fill = by-fill .fill in
+    let pre = by-fill .before .before .before .before .before .before .pre in
+    fields-end _ _ _ _ (pre .0) _ (fill .ensures) _ _ (split .ensures) _ _ (begin .ensures) (if1 .left) _ _ _ (run-items .ensures)
+
+pub run-checked-spec : {M : Type 1} → statement M
+run-checked-spec =
+    tie.close
+    (tie.spec
+    fill-requires
+    no-codes-requires
+    slice-aggregate-codes
+    codes-requires
+    slice-aggregate-split
+    split-requires
+    begin-requires
+    refused-requires
+    same-length
+    same-length-2
+    returns
+    slice-aggregate-run-items
+    run-items-requires
+    same-length-3
+    same-length-4
+    returns-2)

@@ -1,0 +1,42 @@
+-- The letters of a form, in two buffers, are all that splitting asks of it.
+use mathlib.Core.List.{List}
+use mathlib.Core.Path.{_≡_, ap, _∙_}
+use Prim.Native.Nat.{ℕ, _-_}
+use lib.ListN.{replicate, take}
+use native.Mathlib.Nat.{sub-zero}
+use Rattle.rules.specs.Sheet.{arguments}
+use Rattle.rules.specs.Form.{Name, readForm}
+use Rattle.rules.specs.Accept.{accepted, Letters, lettersOf}
+use Rattle.rules.specs.Run.{split}
+use Rattle.form_layout.specs.Layout.{GoodNames}
+use Rattle.split_args.specs.declared.Ended.{Ended}
+use Rattle.split_args.specs.Construct.{SplitEnds}
+use Rattle.split_arg.specs.Clusters.{letters}
+use Rattle.form_letters.specs.Letters.{lettersByName, WroteLetters}
+use Rattle.form_letters.proofs.Order.{same-letters}
+use Rattle.form_layout.proofs.Sizes.{accepted-names}
+use Rattle.rules.proofs.LetterLaws.{split-same}
+use Rattle.split_args.proofs.Plain.{alike-ends}
+use Rattle.form_letters.proofs.Words.{letters-taken}
+use Rattle.split_line.specs.Input.{Splittable}
+
+pub splittable-names : (form sheet items : List ℕ) → Splittable form sheet items → GoodNames form
+splittable-names form sheet items r = accepted-names form (r .result) (r .accepts)
+
+-- the letters of both buffers are those of the form, in another order
+pub split-letters :
+    (form sheet items : List ℕ) (o p : List ℕ) (n : ℕ) (q s : List ℕ) (m : ℕ) (k : ℕ) (out : List ℕ) (r : Ended)
+    → Splittable form sheet items
+    → o ≡ replicate 128 0
+    → q ≡ replicate 128 0
+    → WroteLetters form 1 o p n
+    → WroteLetters form 2 q s m
+    → SplitEnds (letters (take (n - 0) p) (take (m - 0) s)) sheet k out r
+    → SplitEnds (lettersOf (readForm form)) sheet k out r
+split-letters form sheet items o p n q s m k out r g zo zq wo wq c =
+    let names = splittable-names form sheet items g in
+    let l : Letters = letters (lettersByName (readForm form) 1) (lettersByName (readForm form) 2) in
+    let flags = ap (λ (j : ℕ). take j p) (sub-zero n) ∙ letters-taken form 1 o p n names zo wo in
+    let others = ap (λ (j : ℕ). take j s) (sub-zero m) ∙ letters-taken form 2 q s m names zq wq in
+    let same = split-same l (lettersOf (readForm form)) (same-letters form (g .result) (g .accepts)) 0 (arguments sheet) in
+    alike-ends l (lettersOf (readForm form)) sheet k out r same (rw (flags, others) at c)

@@ -1,0 +1,4 @@
+pub mod NameLaws
+pub mod Items
+pub mod Search
+pub mod Tables

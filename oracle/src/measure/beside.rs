@@ -1,0 +1,78 @@
+//! Another build of the proved code beside this one, in one process: what a change costs or gains.
+
+use std::{hint::black_box, time::Duration};
+
+use proved::RunAnswer;
+
+use crate::{
+    benchmarks::{groups, Benchmark},
+    clock,
+    table::thousands,
+};
+
+const BUDGET: Duration = Duration::from_millis(160);
+/// The budget is spent in so many parts, with all other benchmarks in between.
+const PASSES: u32 = 4;
+
+extern "C" {
+    fn beside_silverpoise_run(
+        form: *const u8,
+        form_len: usize,
+        sheet: *const u8,
+        sheet_len: usize,
+        items: *mut u32,
+        items_len: usize,
+        answers: *mut u32,
+        answers_len: usize,
+    ) -> RunAnswer;
+}
+
+fn other_run(form: &[u8], sheet: &[u8], items: &mut [u32], answers: &mut [u32]) -> RunAnswer {
+    let (i, a) = ((items.as_mut_ptr(), items.len()), (answers.as_mut_ptr(), answers.len()));
+    unsafe { beside_silverpoise_run(form.as_ptr(), form.len(), sheet.as_ptr(), sheet.len(), i.0, i.1, a.0, a.1) }
+}
+
+/// The best nanoseconds a line: this build, the other, and clearing alone.
+fn best(benchmark: &Benchmark, budget: Duration) -> [f64; 3] {
+    let (mut ours, mut theirs, mut cleared) = (benchmark.lend(), benchmark.lend(), benchmark.lend());
+    let form = &benchmark.form[..];
+    let times = clock::best(
+        budget,
+        [
+            &mut || {
+                for sheet in &benchmark.sheets {
+                    black_box(ours.run(black_box(form), black_box(sheet)));
+                }
+            },
+            &mut || {
+                for sheet in &benchmark.sheets {
+                    black_box(other_run(black_box(form), black_box(sheet), &mut theirs.items, &mut theirs.answers));
+                }
+            },
+            &mut || benchmark.sheets.iter().for_each(|_| cleared.clear()),
+        ],
+    );
+    times.map(|time| time / benchmark.sheets.len() as f64)
+}
+
+pub fn print() -> bool {
+    let groups = groups();
+    let benchmarks: Vec<&Benchmark> = groups.iter().flat_map(|g| &g.benchmarks).collect();
+    let mut all = vec![[f64::MAX; 3]; benchmarks.len()];
+    for _ in 0..PASSES {
+        for (benchmark, all) in benchmarks.iter().zip(&mut all) {
+            let times = best(benchmark, BUDGET / PASSES);
+            (0..3).for_each(|k| all[k] = all[k].min(times[k]));
+        }
+    }
+    println!("| nanoseconds without clearing | the other | this | change |");
+    println!("|---|---|---|---|");
+    for (benchmark, [ours, theirs, clearing]) in benchmarks.iter().zip(&all) {
+        let (now, before) = ((ours - clearing).max(1.0), (theirs - clearing).max(1.0));
+        let change = 100.0 * (ours / theirs - 1.0);
+        println!("| {} | {} | {} | {change:+.1} % with clearing |", benchmark.name, thousands(before), thousands(now));
+    }
+    let ratio = all.iter().map(|[ours, theirs, _]| (ours / theirs).ln()).sum::<f64>() / all.len() as f64;
+    println!("\n{} lines, {:+.1} % on the mean", all.len(), 100.0 * (ratio.exp() - 1.0));
+    !all.is_empty()
+}

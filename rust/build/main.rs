@@ -1,0 +1,44 @@
+//! Links the proved code: the folder of `libexports.a` is `SILVERPOISE_LIB`, or else `rt staticlib exports` makes it.
+
+mod prove;
+
+use std::{env, path::Path, path::PathBuf, process::Command};
+
+fn main() {
+    println!("cargo::rerun-if-env-changed=SILVERPOISE_LIB");
+    let folder = env::var_os("SILVERPOISE_LIB").map_or_else(build, given);
+    println!("cargo::rustc-link-search=native={}", folder.display());
+    println!("cargo::rustc-link-lib=static=exports");
+}
+
+fn given(folder: std::ffi::OsString) -> PathBuf {
+    let archive = Path::new(&folder).join("libexports.a");
+    assert!(archive.is_file(), "SILVERPOISE_LIB: there is no {}", archive.display());
+    println!("cargo::rerun-if-changed={}", archive.display());
+    PathBuf::from(folder)
+}
+
+/// Proves and builds the library in the project's root; its folder. The archive is newer than this run, so cargo is told to
+/// look at its sources alone.
+fn build() -> PathBuf {
+    let manifest = env::var_os("CARGO_MANIFEST_DIR").expect("cargo sets CARGO_MANIFEST_DIR");
+    let root = Path::new(&manifest).parent().expect("the crate stands in the project's root");
+    println!("cargo::rerun-if-changed={}", root.join("crates").display());
+    println!("cargo::rerun-if-changed={}", root.join("crates.txt").display());
+    prove::side_by_side(root, "exports", jobs());
+    rt(root, &["staticlib", "exports"]);
+    root.join("target/staticlib")
+}
+
+/// How many crates are proved at a time: as many as there are processors, where the caller does not say it.
+fn jobs() -> usize {
+    let said = env::var("RT_JOBS").ok().and_then(|n| n.parse().ok());
+    said.unwrap_or_else(|| std::thread::available_parallelism().map_or(1, |n| n.get()).min(8)).max(1)
+}
+
+fn rt(root: &Path, words: &[&str]) {
+    match Command::new("rt").args(words).current_dir(root).status() {
+        Ok(status) => assert!(status.success(), "`rt {}` failed", words.join(" ")),
+        Err(error) => panic!("`rt` cannot be run ({error}): set SILVERPOISE_LIB to the folder of libexports.a"),
+    }
+}

@@ -1,0 +1,44 @@
+//! A form that was run on a line: what the proved code left, with what it was run on.
+
+use std::ffi::OsStr;
+use std::os::unix::ffi::OsStrExt;
+
+use crate::ffi::RunAnswer;
+use crate::form::Form;
+use crate::item::{Area, Item};
+
+/// The most arguments of a line.
+pub(crate) const ARGUMENTS: usize = 256;
+
+/// What a run left, with what it was run on.
+pub struct Run<'r, 'a> {
+    pub(crate) form: &'a Form,
+    pub(crate) args: Vec<&'a OsStr>,
+    pub(crate) answer: RunAnswer,
+    /// where each argument begins in the sheet's area
+    pub(crate) starts: &'r [usize],
+    /// the records of the items
+    pub(crate) records: &'r [u32],
+    pub(crate) words: &'r [u32],
+}
+
+impl<'a> Run<'_, 'a> {
+    pub(crate) fn area(&self) -> Area<'_, 'a> {
+        Area { args: &self.args, starts: self.starts }
+    }
+
+    pub(crate) fn items(&self) -> Vec<Item<'a>> {
+        self.area().items(self.records, &self.answer.state.marks)
+    }
+
+    /// The text that an answer word stands for: an item's, or from 256 on a name record's.
+    pub(crate) fn text(&self, word: u32) -> &'a OsStr {
+        match word.checked_sub(256) {
+            Some(record) => OsStr::from_bytes(self.form.layout().name(record as usize).1),
+            None => {
+                let at = 7 * word as usize;
+                self.area().part(self.records[at + 5], self.records[at + 6])
+            }
+        }
+    }
+}
