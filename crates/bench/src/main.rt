@@ -5,6 +5,8 @@ ghost use lib.ListN.{length, take};
 ghost use Rattle.io.specs.Counts.{Counts};
 ghost use Rattle.rules.specs.Outcome.{ok};
 ghost use Rattle.rules.specs.Bench.{bench};
+use run_fields::ANSWER_WORDS;
+use split_arg::ITEM_WORDS;
 
 mod output;
 
@@ -34,8 +36,8 @@ fn answer(input: &[u8], out: &mut [u8]) -> usize
     ensures { λ r. ⌜ Counts r (now (out .exit)) ⌝ }
     ensures { λ r. ⌜ bench (now (input .entry)) ≡ ok (take r (now (out .exit))) ⌝ }
 {
-    let mut items = [0u32; 1792];
-    let mut answers = [0u32; 8240];
+    let mut items = [0u32; ITEM_WORDS];
+    let mut answers = [0u32; ANSWER_WORDS];
     let form = bench_input::form_part(input);
     let sheet = bench_input::sheet_part(input);
     let ran = run::run(form, sheet, &mut items, &mut answers);

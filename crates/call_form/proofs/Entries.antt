@@ -26,7 +26,7 @@ use Rattle.split_arg.specs.Items.{recordAt}
 use Rattle.state_marks.specs.Lent.{numbersOf}
 use Rattle.take_search.specs.Items.{Table}
 use Rattle.take_search.specs.Search.{HasItem}
-use Rattle.take.specs.Takes.{Items}
+use Rattle.take_search.specs.States.{Items}
 use Rattle.call_answers.specs.Answers.{Coded, coded, codedOr0, yesCode, takenCode, answerWith, stateWith, answerOf, stateAnswerOf}
 use Rattle.call_answers.specs.declared.Answer.{Answer}
 use Rattle.call_answers.specs.declared.StateAnswer.{StateAnswer}

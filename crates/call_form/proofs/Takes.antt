@@ -29,7 +29,8 @@ use Rattle.form_layout.specs.Layout.{GoodNames}
 use Rattle.form_codes.specs.Codes.{CodedNames}
 use Rattle.take_search.specs.Items.{partBytes}
 use Rattle.take_search.specs.Search.{HasNames}
-use Rattle.take.specs.Takes.{CanTake, Items, TakesFlag, TakesArg, TakesCmd, valueOf}
+use Rattle.take_search.specs.States.{CanTake, Items}
+use Rattle.take.specs.Takes.{TakesFlag, TakesArg, TakesCmd, valueOf}
 use Rattle.take.specs.declared.Flag.{Flag}
 use Rattle.take.specs.declared.Value.{Value}
 use Rattle.take.specs.declared.Value.the-variants.{Missing, Taken as Value·Taken, NoArgument}

@@ -12,7 +12,7 @@ use Rattle.rules.specs.Calls.{itemFrom, handed}
 use Rattle.rules.specs.declared.State.{State as Raw}
 use Rattle.split_arg.specs.Items.{recordAt}
 use Rattle.state_marks.specs.Lent.{numbersOf}
-use Rattle.take.specs.Takes.{Items}
+use Rattle.take_search.specs.States.{Items}
 use Rattle.take.specs.declared.Value.{Value}
 use Rattle.take.specs.declared.Value.the-variants.{Missing, Taken as Value·Taken, NoArgument}
 use Rattle.call_answers.specs.Answers.{Coded, coded, yesCode, answerWith, stateWith, stateAnswerOf}

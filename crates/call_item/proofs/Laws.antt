@@ -35,7 +35,8 @@ use Rattle.state_value.specs.Options.{conflictOf}
 use Rattle.state_value.specs.declared.ConflictOption.{ConflictOption}
 use Rattle.state_value.proofs.Given.{given-fine}
 use Rattle.take_search.specs.Items.{Table, partBytes}
-use Rattle.take.specs.Takes.{CanTake, TakesPositional, operandOf}
+use Rattle.take_search.specs.States.{CanTake}
+use Rattle.take.specs.Takes.{TakesPositional, operandOf}
 use Rattle.take.specs.declared.Positional.{Positional}
 use Rattle.take.specs.declared.Operand.the-variants.{Missing, Taken}
 use Rattle.call_table.specs.Given.{Gives, HasState, GivesState}

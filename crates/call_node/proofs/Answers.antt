@@ -31,7 +31,7 @@ use Rattle.state_marks.proofs.Mark.{field-parsed}
 use Rattle.form_layout.specs.Layout.{GoodNames}
 use Rattle.form_codes.specs.Codes.{CodedNames}
 use Rattle.take_table.specs.Known.{Matchable, Known}
-use Rattle.take.specs.Takes as takes
+use Rattle.take_search.specs.States as states
 use Rattle.call_table.specs.Given.{Holds}
 use Rattle.eval_told.specs.declared.Ran.{Ran}
 use Rattle.eval_told.specs.Told.{Told, told, toldWith}
@@ -157,7 +157,7 @@ module _ (b s words o : List ℕ) (x : Raw) (k : ℕ) (c : ClearedAnswers b s wo
       let i = c .input in
       let w = writes t node in
       let same : i .holds .items ≡ is = ok-same (i .holds .items) is (sym (i .holds .read) ∙ read) in
-      let over : takes.Items (sheetArea s) words p is = subst (takes.Items (sheetArea s) words p) same (rw ep (i .holds .table, i .holds .count)) in
+      let over : states.Items (sheetArea s) words p is = subst (states.Items (sheetArea s) words p) same (rw ep (i .holds .table, i .holds .count)) in
       let says : told (eval 1 is t (fromRaw x)) ≡ some (toldWith ran m (w .value)) = rw ep at (w .same is over) in
       let room = i .room in
       let fits = w .fits in

@@ -9,15 +9,19 @@ ghost use Rattle.form_layout.specs.Layout.{GoodNames};
 ghost use Rattle.take_table.specs.Known.{Known};
 ghost use Rattle.call_table.specs.Given.{Holds};
 ghost use Rattle.call_node.specs.Node.{evaluatedAnswer, unchangedBy, answerOf, Admits, ClearedAnswers, Runs};
+use call_answers::SHORT_SLICE;
 use eval_list::Field;
 use eval_told::Ran;
 use rules::Refused;
 use rules::State;
+use run_fields::ANSWER_WORDS;
 use run_fields::RunAnswer;
+use split_arg::ITEM_WORDS;
+use take_table::TABLE_WORDS;
 use wire::wide;
 
 // Which nodes each of the items matches.
-fn known_of(form: &[u8], sheet: &[u8], items: &[u32], count: usize) -> [u64; 257]
+fn known_of(form: &[u8], sheet: &[u8], items: &[u32], count: usize) -> [u64; TABLE_WORDS]
     requires { ⌜ GoodNames (now form) × (sheetFault (now sheet) ≡ 0) × Holds (sheetArea (now sheet)) (now items) count × (count ≤ 256) ⌝ }
     ensures { λ r. ⌜ Known (now (form .entry)) (sheetArea (now (sheet .entry))) (now (items .entry)) count r ⌝ }
 {
@@ -52,11 +56,11 @@ fn admit(
     if fault != 0 {
         return refused(fault);
     }
-    if items.len() < 1792 {
-        return refused(7);
+    if items.len() < ITEM_WORDS {
+        return refused(SHORT_SLICE);
     }
-    if answers.len() < 8240 {
-        return refused(7);
+    if answers.len() < ANSWER_WORDS {
+        return refused(SHORT_SLICE);
     }
     let held = call_table::check(sheet, items);
     if !held.good {

@@ -15,6 +15,7 @@ use call_answers::BAD_ITEM;
 use call_answers::BAD_STATE;
 use call_answers::SHORT_SLICE;
 use rules::State;
+use split_arg::ITEM_WORDS;
 use wire::wide;
 
 // Whether each record is well made, and then how many items there are.
@@ -159,7 +160,7 @@ pub fn given(sheet: &[u8], items: &[u32]) -> Input
             count: 0,
         };
     }
-    if items.len() < 1792 {
+    if items.len() < ITEM_WORDS {
         return Input {
             number: SHORT_SLICE,
             count: 0,

@@ -23,8 +23,8 @@ use Rattle.state_marks.specs.declared.Numbers.{Numbers}
 use Rattle.state_marks.specs.declared.Picked.{Picked as Pair}
 use Rattle.state_marks.specs.Lent.{stateOf, Fine, pickOf}
 use Rattle.state_marks.proofs.Laws.{fine-long, marked-is, marked-whole, marked-fine}
-use Rattle.take.specs.Takes.{LeftState}
-use Rattle.take.proofs.Laws.{left-same}
+use Rattle.take_search.specs.States.{LeftState}
+use Rattle.take_search.proofs.States.{left-same}
 use Rattle.eval_error.specs.Refusals.{refusedOf, refusalOf, refused-refusal}
 use Rattle.eval_structs.specs.declared.Pick.{Pick}
 use Rattle.eval_structs.specs.declared.Pick.the-variants.{First, Second, Winner, Neither}

@@ -14,7 +14,7 @@ use Rattle.rules.specs.State.{State}
 use Rattle.rules.specs.Eval.{Ran as Run, Visit, ended, after, evalFallback}
 use Rattle.state_marks.specs.declared.Numbers.{Numbers}
 use Rattle.state_marks.specs.Lent.{stateOf}
-use Rattle.take.proofs.Laws.{left-same}
+use Rattle.take_search.proofs.States.{left-same}
 use Rattle.eval_structs.specs.declared.Fallback.{Fallback}
 use Rattle.eval_structs.specs.declared.Fallback.the-variants.{Child, Own, Refusal as Passed}
 use Rattle.eval_structs.specs.Decisions.{fallbackWay, fallbackBy}

@@ -18,7 +18,7 @@ use Rattle.rules.specs.State.{State}
 use Rattle.rules.specs.Eval.{Ran as Run, Visit, ended, after, _then_, fewer, swallowed, parseOption, evalOptional}
 use Rattle.state_marks.specs.declared.Numbers.{Numbers}
 use Rattle.state_marks.specs.Lent.{stateOf}
-use Rattle.take.proofs.Laws.{left-same}
+use Rattle.take_search.proofs.States.{left-same}
 use Rattle.eval_structs.specs.declared.Counting.{Counting}
 use Rattle.eval_structs.specs.declared.Counting.the-variants.{Counted, Uncounted, Absent, PassedOn}
 use Rattle.eval_structs.specs.Decisions.{withRemaining, countedOf, optionWay, optionBy, someOf}

@@ -16,7 +16,7 @@ use Rattle.rules.specs.Eval.{Ran as Run, evalOptional, evalFallback, evalGuard,
 use Rattle.rules.specs.declared.Refused.{Refused}
 use Rattle.state_marks.specs.declared.Numbers.{Numbers}
 use Rattle.state_marks.specs.Lent.{stateOf, Fine, pickOf}
-use Rattle.take.specs.Takes.{LeftState}
+use Rattle.take_search.specs.States.{LeftState}
 use Rattle.eval_structs.specs.declared.Counting.the-variants.{Absent}
 use Rattle.eval_structs.specs.Decisions.{countedOf, optionWay}
 use Rattle.eval_told.specs.declared.Ran.{Ran}

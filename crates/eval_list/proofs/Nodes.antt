@@ -18,7 +18,8 @@ use Rattle.form_layout.specs.declared.Node.{Node}
 use Rattle.form_layout.specs.Layout.{nodeOf}
 use Rattle.state_marks.specs.declared.Numbers.{Numbers}
 use Rattle.eval_told.specs.declared.Ran.{Ran}
-use Rattle.eval_told.specs.Nodes.{treeAt, isScalar, Standing}
+use Rattle.eval_told.specs.Nodes.{treeAt, isScalar}
+use Rattle.eval_shortcut.specs.Stands.{Standing}
 use Rattle.eval_list.specs.Lists.{MarkedField}
 use Rattle.eval_list.specs.Lists.{Listed, Writes, WritesField, OverScalar, OverList, WritesOver, inPlace, EitherList}
 use Rattle.eval_shortcut.proofs.Trees.{Single, Double, form-good, node-inside, sound-at, optional-tree}

@@ -20,7 +20,7 @@ use Rattle.rules.specs.Sound.{Sound}
 use Rattle.rules.proofs.EvalSound.{sound-optional}
 use Rattle.state_marks.specs.declared.Numbers.{Numbers}
 use Rattle.state_marks.specs.Lent.{stateOf}
-use Rattle.take.specs.Takes as takes
+use Rattle.take_search.specs.States as states
 use Rattle.eval_told.specs.declared.Ran.{Ran}
 use Rattle.eval_told.specs.Told.{Told, told, Numbered, toldWith}
 use Rattle.eval_told.specs.Nodes.{treeAt}
@@ -30,7 +30,7 @@ use Rattle.eval_combine.specs.declared.Optioned.{Optioned}
 use Rattle.eval_combine.specs.Made.{ChildGiven, optionalWords, OptionalOf}
 use Rattle.eval_list.specs.Lists.{MarkedField}
 use Rattle.eval_list.specs.Lists.{Writes, WritesField, OverList}
-use Rattle.eval_list.proofs.Words.{set-zero, sets-over, sets-read}
+use Rattle.eval_words.proofs.Words.{set-zero, sets-over, sets-read}
 use Rattle.eval_list.proofs.Runs.{told-none, node-runs, node-short}
 
 -- ---- words
@@ -98,7 +98,7 @@ module _
     abbrev at : ℕ
     at = child .at
 
-    abbrev state : takes.CanTake (sheetArea s) items m p mark
+    abbrev state : states.CanTake (sheetArea s) items m p mark
     state = r .below .stands .state
 
     abbrev own : Writes mark (sheetArea s) items (r .below .stands .tree) m p m′ o at o′ ran
@@ -126,14 +126,14 @@ module _
         value = optionalWords (made .ran .number) (made .present) (h t g .value)
 
         -- of the optional, without the visit
-        inner : (is : List Item) → takes.Items (sheetArea s) items p is
+        inner : (is : List Item) → states.Items (sheetArea s) items p is
             → told (evalOptional catch (stateOf m p) (eval mark is t (stateOf m p))) ≡ some (toldWith (made .ran) m″ value)
         inner is k =
             f .same (eval mark is t (stateOf m p)) (h t g .value)
             (runs-numbered (length is) t (stateOf m p) (eval mark is t (stateOf m p)) (node-runs mark (state .told) m p (state .fine) is (k .1) t (sound-optional catch t sound)))
             (h t g .same is k)
 
-        outer : (is : List Item) → takes.Items (sheetArea s) items p is
+        outer : (is : List Item) → states.Items (sheetArea s) items p is
             → told (eval mark is (Optional catch t) (stateOf m p)) ≡ some (toldWith (made .ran) m″ value)
         unfolding eval
         outer is k =

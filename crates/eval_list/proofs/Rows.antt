@@ -27,7 +27,7 @@ use Rattle.rules.proofs.EvalSound.{Flat, sound-many, sound-some, Any, eval-went
 use Rattle.eval_structs.specs.Decisions.{someBy}
 use Rattle.state_marks.specs.declared.Numbers.{Numbers}
 use Rattle.state_marks.specs.Lent.{stateOf}
-use Rattle.take.specs.Takes as takes
+use Rattle.take_search.specs.States as states
 use Rattle.eval_told.specs.declared.Ran.{Ran}
 use Rattle.eval_told.specs.Results.{refusalRan}
 use Rattle.eval_told.specs.Told.{Told, told, Numbered}
@@ -36,11 +36,12 @@ use Rattle.eval_told.specs.Lists.{ToldList, toldList}
 use Rattle.eval_told.proofs.Visits.{visit-told}
 use Rattle.eval_told.proofs.ListLaws.{length-words, then-values, many-value, many-refused, some-value, some-none, some-refused}
 use Rattle.eval_node.specs.declared.Repeat.{Repeat}
-use Rattle.eval_node.specs.declared.Repeated.{Repeated}
+use Rattle.eval_words.specs.declared.Repeated.{Repeated}
 use Rattle.eval_node.specs.Cycle.{listed, Room, Repeating, Repeats}
 use Rattle.eval_list.specs.Lists.{MarkedField}
-use Rattle.eval_list.specs.Lists.{Writes, OverScalar, WritesOver, CountedList}
-use Rattle.eval_list.proofs.Words.{sets-head}
+use Rattle.eval_list.specs.Lists.{Writes, OverScalar, WritesOver}
+use Rattle.eval_words.specs.Stored.{CountedList}
+use Rattle.eval_words.proofs.Words.{sets-head}
 use Rattle.eval_list.proofs.Runs.{node-good}
 
 -- ---- how a repeat ends
@@ -117,7 +118,7 @@ module _
     (t : Tree)
     (m : List ℕ)
     (p : Numbers)
-    (state : takes.CanTake area items m p (child .mark))
+    (state : states.CanTake area items m p (child .mark))
     (m′ o o′ : List ℕ)
     (all : Repeated)
     (h : Repeats (child .mark) area items t (written catch child) m p m′ o o′ all)
@@ -140,7 +141,7 @@ module _
         (λ u g. eval-went mark (state .told) is t (f .sound) u g) (stateOf m p)
         (node-good mark (state .told) m p (state .fine) is e)
 
-    abbrev own : takes.Items area items p (state .items)
+    abbrev own : states.Items area items p (state .items)
     own = (state .table, state .same)
 
     put-none : h .values ≡ [] → o′ ≡ o
@@ -154,7 +155,7 @@ module _
     refused-writes :
         (u : Tree) (number place : ℕ)
         → h .values ≡ []
-        → ((is : List Item) → takes.Items area items p is
+        → ((is : List Item) → states.Items area items p is
         → told (eval mark is u (stateOf m p)) ≡ some (record { number = number; place = place; tries = all .tries; words = []; state = stateOf m′ (all .numbers) }))
         → (q : Ran)
         → q ≡ refusalRan number place (all .tries) (all .numbers)
@@ -166,7 +167,7 @@ module _
     -- a list
     counted-writes :
         (u : Tree)
-        → ((is : List Item) → takes.Items area items p is
+        → ((is : List Item) → states.Items area items p is
         → told (eval mark is u (stateOf m p)) ≡ some
         (record
         { number = 0; place = 0; tries = all .tries; words = length (h .values) ∷ flatten (h .values); state = stateOf m′ (all .numbers) }))

@@ -17,7 +17,7 @@ use Rattle.rules.specs.Sound.{Sound, leaves}
 use Rattle.rules.proofs.EvalSound.{sound-choice}
 use Rattle.state_marks.specs.declared.Numbers.{Numbers}
 use Rattle.state_marks.specs.Lent.{stateOf}
-use Rattle.take.specs.Takes as takes
+use Rattle.take_search.specs.States as states
 use Rattle.eval_told.specs.declared.Ran.{Ran}
 use Rattle.eval_told.specs.Told.{told, Numbered, toldWith}
 use Rattle.eval_told.specs.Nodes.{treeAt}
@@ -26,9 +26,9 @@ use Rattle.eval_combine.specs.declared.Chosen.{Chosen}
 use Rattle.eval_combine.specs.Made.{Sides, choiceWords, ChoiceOf}
 use Rattle.eval_node.specs.Cycle.{Room}
 use Rattle.eval_list.specs.Lists.{MarkedField}
-use Rattle.eval_list.specs.Lists.{Listed, Writes, WritesField, inPlace, EitherList, Aside, settled}
-use Rattle.eval_node.proofs.Words.{sets-back}
-use Rattle.eval_list.proofs.Words.{sets-read, settled-refused, settled-first, settled-second}
+use Rattle.eval_list.specs.Lists.{Listed, Writes, WritesField, inPlace, EitherList}
+use Rattle.eval_words.specs.Stored.{Aside, settled}
+use Rattle.eval_words.proofs.Words.{sets-back, sets-read, settled-refused, settled-first, settled-second}
 use Rattle.eval_list.proofs.Runs.{node-runs, node-short, node-tries, writes-long}
 
 -- ---- words
@@ -65,7 +65,7 @@ module _
     abbrev at : ℕ
     at = left .at
 
-    abbrev state : takes.CanTake (sheetArea s) items m p mark
+    abbrev state : states.CanTake (sheetArea s) items m p mark
     state = r .first .stands .state
 
     abbrev one : Writes mark (sheetArea s) items (r .first .stands .tree) m p m₁ o at o₁ x
@@ -141,7 +141,7 @@ module _
             numbered c z is q =
                 runs-numbered (length is) c (stateOf m p) (eval mark is c (stateOf m p)) (node-runs mark (state .told) m p (state .fine) is q c z)
 
-            same : (is : List Item) → takes.Items (sheetArea s) items p is
+            same : (is : List Item) → states.Items (sheetArea s) items p is
                 → told (eval mark is (Choice t u) (stateOf m p)) ≡ some (toldWith (made .ran) m₃ value)
             unfolding eval
             same is q =

@@ -15,13 +15,13 @@ use Rattle.rules.specs.Eval.{eval}
 use Rattle.rules.specs.Sound.{Sound}
 use Rattle.state_marks.specs.declared.Numbers.{Numbers}
 use Rattle.state_marks.specs.Lent.{stateOf}
-use Rattle.take.specs.Takes.{LeftState, Items}
+use Rattle.take_search.specs.States.{LeftState, Items}
 use Rattle.eval_told.specs.declared.Ran.{Ran}
 use Rattle.eval_told.specs.Results.{valueRan}
 use Rattle.eval_told.specs.Told.{told, toldWith}
-use Rattle.eval_told.specs.Nodes.{treeAt, isScalar, Standing, Scalar}
+use Rattle.eval_told.specs.Nodes.{treeAt, isScalar}
+use Rattle.eval_shortcut.specs.Stands.{Standing, Scalar}
 use Rattle.eval_node.specs.Cycle.{Room}
-use Rattle.eval_node.specs.declared.Repeated.{Repeated}
 use Rattle.eval_list.specs.declared.Field.{Field}
 use Rattle.eval_list.specs.declared.Child.{Child}
 use Rattle.eval_list.specs.declared.Either.{Either}
@@ -86,21 +86,3 @@ pub record EitherList (b known s words m : List ℕ) (p : Numbers) (left : Marke
   pub first : Listed b known s words m p left o
   pub second : Listed b known s words m p (inPlace left right) o
   pub sound : Sound (Choice (first .stands .tree) (second .stands .tree))
-
--- ---- what the small functions make
--- a list, and its count before its words
-pub record CountedList (all : Repeated) (o : List ℕ) (at : ℕ) (o′ : List ℕ) (r : Ran) : Type 0 where
-  pub same : r ≡ valueRan (all .tries) (all .size + 1) 0 (all .numbers)
-  pub put : o′ ≡ sets o at (all .count ∷ [])
-
--- words that are set aside, and are 0 then
-pub record Aside (o : List ℕ) (at n : ℕ) (o′ kept : List ℕ) : Type 0 where
-  pub same : take n kept ≡ take n (drop at o)
-  pub clear : o′ ≡ sets o at (replicate n 0)
-
--- The words of a choice stand: those of the first side, which were set aside, or the second's, of which there are n. Refused, none stand
-unfoldable pub settled : ℕ → Bool → List ℕ → ℕ → List ℕ → ℕ → List ℕ
-settled number first o at kept n =
-    if eqb number 0
-    then (if first then sets (sets o at (replicate n 0)) at kept else o)
-    else sets o at (replicate n 0)

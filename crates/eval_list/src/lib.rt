@@ -8,9 +8,8 @@ ghost use lib.Seq.{sets};
 ghost use Rattle.rules.specs.Sheet.{sheetArea};
 ghost use Rattle.rules.specs.Tree.{Tree, Optional, Many, Some, Choice};
 ghost use Rattle.eval_told.specs.Nodes.{treeAt};
-ghost use Rattle.eval_list.specs.Lists.{Listed, Writes, WritesField, OverScalar, OverList, WritesOver, EitherList, CountedList, Aside, settled, withMark, childWithMark, sideWithMark};
+ghost use Rattle.eval_list.specs.Lists.{Listed, Writes, WritesField, OverScalar, OverList, WritesOver, EitherList, withMark, childWithMark, sideWithMark};
 use eval_node::Repeat;
-use eval_node::Repeated;
 use eval_told::Ran;
 use state_marks::Numbers;
 use wire::wide;
@@ -33,68 +32,6 @@ struct Either {
     left: usize,
     right: usize,
     at: usize,
-}
-
-fn blank() -> [u32; 515]
-    ensures { λ r. ⌜ length r ≡ 515 ⌝ }
-{
-    [0u32; 515]
-}
-
-// A copy of the n words from `at` on.
-fn lift(out: &[u32], at: usize, n: usize) -> [u32; 515]
-    requires { ⌜ (n ≤ 515) × (at + n ≤ length (now out)) ⌝ }
-    ensures { λ r. ⌜ take n r ≡ take n (drop at (now (out .entry))) ⌝ }
-{
-    let end = at + n;
-    let mut kept = blank();
-    wire::copy(&mut kept, 0, &out[at..end]);
-    kept
-}
-
-// The n words from `at` on are handed back, and are 0 then.
-fn set_aside(out: &mut [u32], at: usize, n: usize) -> [u32; 515]
-    requires { ⌜ (n ≤ 515) × (at + n ≤ length (now out)) ⌝ }
-    ensures { λ r. ⌜ Aside (now (out .entry)) at n (now (out .exit)) r ⌝ }
-{
-    let kept = lift(out, at, n);
-    wire::fill(out, at, n, 0);
-    kept
-}
-
-// The n words from `at` on move by one, behind the 1 of an optional value that is present.
-fn shift(out: &mut [u32], at: usize, n: usize)
-    requires { ⌜ (n < 515) × (at + n < length (now out)) ⌝ }
-    ensures { λ _. ⌜ now (out .exit) ≡ sets (now (out .entry)) at (1 ∷ take n (drop at (now (out .entry)))) ⌝ }
-{
-    let kept = lift(out, at, n);
-    out[at] = 1;
-    wire::copy(out, at + 1, &kept[..n]);
-}
-
-// Which words of a choice stand: the first side's were set aside, the second's, `m` of them, are there.
-fn settle(out: &mut [u32], at: usize, number: u32, first: bool, kept: &[u32], n: usize, m: usize)
-    requires { ⌜ n ≤ length (now kept) ⌝ }
-    ensures { λ _. ⌜ now (out .exit) ≡ settled number first (now (out .entry)) at (take n (now (kept .entry))) m ⌝ }
-{
-    if number != 0 {
-        wire::fill(out, at, m, 0);
-        return;
-    }
-    if first {
-        wire::fill(out, at, m, 0);
-        wire::copy(out, at, &kept[..n]);
-    }
-}
-
-// A list's count goes before the words of its values.
-fn counted(all: Repeated, at: usize, out: &mut [u32]) -> Ran
-    requires { ⌜ (all .size ≤ 514) × (at < length (now out)) ⌝ }
-    ensures { λ r. ⌜ CountedList all (now (out .entry)) at (now (out .exit)) r ⌝ }
-{
-    out[at] = all.count;
-    let left = all.numbers;
-    eval_told::value(all.tries, all.size + 1, 0, left)
 }
 
 fn run_many(
@@ -123,7 +60,7 @@ fn run_many(
         let left = all.numbers;
         return eval_told::refusal(all.number, all.place, all.tries, left);
     }
-    counted(all, child.at, out)
+    eval_words::counted_list(all, child.at, out)
 }
 
 // A list of no values is refused.
@@ -157,7 +94,7 @@ fn run_some(
     if number != 0 {
         return eval_told::refusal(number, 0, all.tries, left);
     }
-    counted(all, child.at, out)
+    eval_words::counted_list(all, child.at, out)
 }
 
 // A node whose value is a list or an optional list: its words go to `out` from `at` on, where all is 0.
@@ -218,7 +155,7 @@ fn run_optional_list(
     let ran = run_list(form, known, sheet, items, marks, p, field, out, mark);
     let made = eval_combine::optional(ran, p, child.catch, &before, marks);
     if made.present {
-        shift(out, child.at, wide(ran.len));
+        eval_words::shift(out, child.at, wide(ran.len));
     }
     let answer = made.ran;
     answer
@@ -247,7 +184,7 @@ fn run_either(
     let x = run_list(form, known, sheet, items, marks, p, left, out, mark);
     let first = *marks;
     let n = wide(x.len);
-    let kept = set_aside(out, sides.at, n);
+    let kept = eval_words::set_aside(out, sides.at, n);
     *marks = before;
     let right = Field {
         node: sides.right,
@@ -256,7 +193,7 @@ fn run_either(
     let y = run_list(form, known, sheet, items, marks, p, right, out, mark);
     let made = eval_combine::choose(x, y, p, &before, &first, marks);
     let answer = made.ran;
-    settle(
+    eval_words::settle(
         out,
         sides.at,
         answer.number,

@@ -32,10 +32,11 @@ use Rattle.state_marks.specs.Lent.{stateOf, Fine}
 use Rattle.state_marks.proofs.Laws.{fine-long, mark-at}
 use Rattle.state_marks.proofs.Marks.{present-at}
 use Rattle.take_search.proofs.Search.{NoneIn, found-first}
-use Rattle.take.specs.Takes.{CanTake, Skips, LeftState}
+use Rattle.take_search.specs.States.{CanTake, LeftState}
+use Rattle.take.specs.Takes.{Skips}
 use Rattle.take.proofs.Laws.{skip-none}
 use Rattle.eval_shortcut.specs.Children.{Hint}
-use Rattle.eval_node.specs.Values.{nextFrom}
+use Rattle.eval_words.specs.Values.{nextFrom}
 
 -- a run that ended so
 abbrev ran : Run Value → Outcome Value → Run Value

@@ -22,10 +22,11 @@ use Rattle.rules.proofs.Steps.{most}
 use Rattle.rules.proofs.Went.{Fine, Went, went-weaker, went-cost}
 use Rattle.state_marks.specs.declared.Numbers.{Numbers}
 use Rattle.state_marks.specs.Lent.{stateOf}
-use Rattle.take.specs.Takes.{CanTake, LeftState, Items}
+use Rattle.take_search.specs.States.{CanTake, LeftState, Items}
 use Rattle.eval_told.specs.declared.Ran.{Ran}
 use Rattle.eval_told.specs.Told.{told, Numbered, scalarWords, answered}
-use Rattle.eval_told.specs.Nodes.{treeAt, Scalar}
+use Rattle.eval_told.specs.Nodes.{treeAt}
+use Rattle.eval_shortcut.specs.Stands.{Scalar}
 use Rattle.eval_told.specs.Lists.{toldList}
 use Rattle.eval_told.proofs.ListLaws.{listTold, count-value, count-refused, last-refused, last-again, last-value}
 use Rattle.eval_shortcut.specs.Children.{Wraps, Wrapped}
@@ -34,8 +35,8 @@ use Rattle.eval_shortcut.specs.Children.{NodeSays}
 use Rattle.eval_shortcut.proofs.Steps.{inside, wrapped, child-told, child-left, child-tries}
 use Rattle.eval_told.specs.Results.{moreTries}
 use Rattle.eval_node.specs.declared.Repeat.{Repeat}
-use Rattle.eval_node.specs.declared.Repeated.{Repeated}
-use Rattle.eval_node.specs.Values.{deniedList, countedValues, lastValue}
+use Rattle.eval_words.specs.declared.Repeated.{Repeated}
+use Rattle.eval_words.specs.Values.{deniedList, countedValues, lastValue}
 use Rattle.eval_node.specs.Cycle.{listed, Repeating, Repeats}
 
 -- the repeat of `count` and of `last`

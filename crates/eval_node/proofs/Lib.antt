@@ -1,4 +1,3 @@
-pub mod Words
 pub mod Hints
 pub mod Turns
 pub mod Lasts

@@ -26,11 +26,12 @@ use Rattle.eval_structs.specs.Decisions.{withRemaining, countedOf, optionWay}
 use Rattle.eval_structs.specs.Laws.{counted-none, counted-some, idle-remaining}
 use Rattle.state_marks.specs.declared.Numbers.{Numbers}
 use Rattle.state_marks.specs.Lent.{stateOf}
-use Rattle.take.specs.Takes.{CanTake, LeftState, Items}
-use Rattle.take.proofs.Laws.{left-same}
+use Rattle.take_search.specs.States.{CanTake, LeftState, Items}
+use Rattle.take_search.proofs.States.{left-same}
 use Rattle.eval_told.specs.declared.Ran.{Ran}
 use Rattle.eval_told.specs.Told.{told, Numbered, scalarWords, answered}
-use Rattle.eval_told.specs.Nodes.{treeAt, Scalar}
+use Rattle.eval_told.specs.Nodes.{treeAt}
+use Rattle.eval_shortcut.specs.Stands.{Scalar}
 use Rattle.eval_told.specs.Lists.{toldList, lastWords, prefixed}
 use Rattle.eval_told.proofs.Visits.{runs-numbered}
 use Rattle.eval_told.proofs.Repeats.{told-state, told-tries, prefixed-none, Went, turn-uncounted, turn-absent, turn-passed, turn-idle, turn-counted, list-ended, list-refused}
@@ -41,10 +42,11 @@ use Rattle.eval_shortcut.specs.Children.{NodeSays}
 use Rattle.eval_shortcut.proofs.Absent.{absent-by}
 use Rattle.eval_shortcut.proofs.Steps.{few-left, child-runs, child-told, child-left}
 use Rattle.eval_node.specs.declared.Repeat.{Repeat}
-use Rattle.eval_node.specs.declared.Repeated.{Repeated}
-use Rattle.eval_node.specs.Values.{WroteValue, noValue, OneMoreFits, oneMore, endedWith, passedOn, nextFrom}
+use Rattle.eval_words.specs.declared.Repeated.{Repeated}
+use Rattle.eval_words.specs.Values.{noValue, OneMoreFits, oneMore, endedWith, passedOn, nextFrom}
+use Rattle.eval_words.specs.Stored.{WroteValue}
 use Rattle.eval_node.specs.Cycle.{listed, Room, Repeating, Repeats}
-use Rattle.eval_node.proofs.Words.{sets-append, sets-back}
+use Rattle.eval_words.proofs.Words.{sets-append, sets-back}
 use Rattle.eval_node.proofs.Hints.{hint-first, hint-next}
 
 -- ---- lists

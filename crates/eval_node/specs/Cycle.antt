@@ -12,12 +12,12 @@ use Rattle.rules.specs.Split.{Item}
 use Rattle.rules.specs.Eval.{repeated, eval}
 use Rattle.state_marks.specs.declared.Numbers.{Numbers}
 use Rattle.state_marks.specs.Lent.{stateOf}
-use Rattle.take.specs.Takes.{LeftState, Items}
+use Rattle.take_search.specs.States.{LeftState, Items}
 use Rattle.eval_told.specs.Told.{scalarWords}
-use Rattle.eval_told.specs.Nodes.{Scalar}
+use Rattle.eval_shortcut.specs.Stands.{Scalar}
 use Rattle.eval_told.specs.Lists.{ToldList, toldList, lastWords}
 use Rattle.eval_node.specs.declared.Repeat.{Repeat}
-use Rattle.eval_node.specs.declared.Repeated.{Repeated}
+use Rattle.eval_words.specs.declared.Repeated.{Repeated}
 
 -- ---- repeats
 abbrev pub listed : Repeated → List ℕ → List (List ℕ) → ToldList

@@ -10,12 +10,13 @@ ghost use Rattle.utf8.specs.Utf8.{if_then_else_};
 ghost use Rattle.rules.specs.Sheet.{sheetArea};
 ghost use Rattle.rules.specs.Tree.{Tree, Optional, Count, Last, Choice, Guard};
 ghost use Rattle.eval_told.specs.Told.{Evaluates};
-ghost use Rattle.eval_told.specs.Nodes.{treeAt, Scalar};
+ghost use Rattle.eval_told.specs.Nodes.{treeAt};
+ghost use Rattle.eval_shortcut.specs.Stands.{Scalar};
 ghost use Rattle.eval_shortcut.specs.Children.{Wraps, Wrapped, Falls, BothSides, Turns, Searched};
 ghost use Rattle.eval_node.specs.Cycle.{Repeating, Repeats};
-ghost use Rattle.eval_node.specs.Values.{Put, WroteValue, noValue, OneMoreFits, oneMore, endedWith, passedOn, deniedList, countedValues, lastValue, nextFrom};
 use eval_structs::Counting;
 use eval_told::Ran;
+use eval_words::Repeated;
 use form_layout::Node;
 use state_marks::Numbers;
 use wire::wide;
@@ -34,164 +35,6 @@ pub struct Repeat {
 struct Chain {
     child: usize,
     leaf: usize,
-}
-
-// How a repeat ended: how many values were counted, how many words of them were written, and the last of them.
-pub struct Repeated {
-    pub number: u32,
-    pub place: u32,
-    pub tries: u32,
-    pub count: u32,
-    pub size: u32,
-    pub len: u32,
-    pub word: u32,
-    pub numbers: Numbers,
-}
-
-// Writes the words of a value that is no list. How many they are comes back.
-pub fn put(out: &mut [u32], at: usize, len: u32, word: u32) -> u32
-    requires { ⌜ at + 2 ≤ length (now out) ⌝ }
-    ensures { λ r. ⌜ Put (now (out .entry)) at len word (now (out .exit)) r ⌝ }
-{
-    if len == 0 {
-        return 0;
-    }
-    if len == 1 {
-        out[at] = word;
-        return 1;
-    }
-    out[at] = 1;
-    out[at + 1] = word;
-    2
-}
-
-// A value goes behind the `size` words from `at + 1` on, if values are written.
-fn write_value(out: &mut [u32], writes: bool, at: usize, size: u32, len: u32, word: u32) -> u32
-    requires { ⌜ (writes ≡ true → at + 1 + size + 2 ≤ length (now out)) ⌝ }
-    ensures { λ r. ⌜ WroteValue writes (now (out .entry)) (at + 1 + size) len word (now (out .exit)) r ⌝ }
-{
-    if writes {
-        return put(out, at + 1 + wide(size), len, word);
-    }
-    0
-}
-
-// The `size` words from `at + 1` on are 0 again, if values were written.
-fn unwrite(out: &mut [u32], writes: bool, at: usize, size: u32)
-    requires { ⌜ (writes ≡ true → at + 1 ≤ length (now out)) ⌝ }
-    ensures { λ _. ⌜ now (out .exit) ≡ (if writes then sets (now (out .entry)) (at + 1) (replicate size 0) else now (out .entry)) ⌝ }
-{
-    if writes {
-        wire::fill(out, at + 1, wide(size), 0);
-    }
-}
-
-fn nothing(p: Numbers) -> Repeated
-    ensures { λ r. ⌜ r ≡ noValue p ⌝ }
-{
-    Repeated {
-        number: 0,
-        place: 0,
-        tries: 0,
-        count: 0,
-        size: 0,
-        len: 0,
-        word: 0,
-        numbers: p,
-    }
-}
-
-// One value more, of which `width` words were written.
-fn one_more(all: Repeated, ran: Ran, width: u32) -> Repeated
-    requires { ⌜ OneMoreFits all ran width ⌝ }
-    ensures { λ r. ⌜ r ≡ oneMore all ran width ⌝ }
-{
-    let left = ran.numbers;
-    Repeated {
-        number: 0,
-        place: 0,
-        tries: all.tries + ran.tries,
-        count: all.count + 1,
-        size: all.size + width,
-        len: ran.len,
-        word: ran.word,
-        numbers: left,
-    }
-}
-
-// The last evaluation added no value, only its tries.
-fn ended(all: Repeated, tries: u32, numbers: Numbers) -> Repeated
-    requires { ⌜ all .tries + tries ≤ 16512 ⌝ }
-    ensures { λ r. ⌜ r ≡ endedWith all tries numbers ⌝ }
-{
-    Repeated {
-        number: 0,
-        place: 0,
-        tries: all.tries + tries,
-        count: all.count,
-        size: all.size,
-        len: all.len,
-        word: all.word,
-        numbers: numbers,
-    }
-}
-
-// The child's refusal is the repeat's; the values are dropped.
-fn passed_on(all: Repeated, ran: Ran) -> Repeated
-    requires { ⌜ all .tries + ran .tries ≤ 16512 ⌝ }
-    ensures { λ r. ⌜ r ≡ passedOn all ran ⌝ }
-{
-    let left = ran.numbers;
-    Repeated {
-        number: ran.number,
-        place: ran.place,
-        tries: all.tries + ran.tries,
-        count: 0,
-        size: 0,
-        len: 0,
-        word: 0,
-        numbers: left,
-    }
-}
-
-fn refused_list(all: Repeated) -> Ran
-    ensures { λ r. ⌜ r ≡ deniedList all ⌝ }
-{
-    let left = all.numbers;
-    eval_told::refusal(all.number, all.place, all.tries, left)
-}
-
-fn counted(all: Repeated) -> Ran
-    ensures { λ r. ⌜ r ≡ countedValues all ⌝ }
-{
-    let left = all.numbers;
-    eval_told::value(all.tries, 1, all.count, left)
-}
-
-fn last_value(all: Repeated) -> Ran
-    ensures { λ r. ⌜ r ≡ lastValue all ⌝ }
-{
-    let left = all.numbers;
-    eval_told::value(all.tries, all.len, all.word, left)
-}
-
-// Where the next turn of a repeat over a leaf searches from: behind what this turn used.
-fn next_from(from: usize, given: u32, after: Numbers) -> usize
-    ensures { λ r. ⌜ r ≡ nextFrom from given after ⌝ }
-{
-    if after.remaining < given {
-        return wide(after.current);
-    }
-    from
-}
-
-// Copies marks, if that is wanted.
-fn copy_if(wanted: bool, from: &[u16; 256], to: &mut [u16; 256])
-    ensures { λ _. ⌜ now (to .exit) ≡ (if wanted then now (from .entry) else now (to .entry)) ⌝ }
-{
-    if wanted {
-        *to = *from;
-    }
 }
 
 // A node whose value is no list.
@@ -405,9 +248,9 @@ fn count(
         mark,
     );
     if all.number != 0 {
-        return refused_list(all);
+        return eval_words::refused_list(all);
     }
-    counted(all)
+    eval_words::counted(all)
 }
 
 // The last value; with none, the child is tried once more.
@@ -444,10 +287,10 @@ fn last(
         mark,
     );
     if all.number != 0 {
-        return refused_list(all);
+        return eval_words::refused_list(all);
     }
     if all.count != 0 {
-        return last_value(all);
+        return eval_words::last_value(all);
     }
     let after = all.numbers;
     let again = run_node(form, known, sheet, items, marks, after, child, mark);
@@ -534,7 +377,7 @@ pub fn run_repeat(
     let mut s = p;
     let mut from = wide(p.start);
     let mut last: u32 = 4294967295;
-    let mut all = nothing(p);
+    let mut all = eval_words::nothing(p);
     loop {
         let given = s.remaining;
         let ran = turn(form, known, sheet, items, marks, s, over, from, mark);
@@ -542,24 +385,31 @@ pub fn run_repeat(
         let way = eval_structs::parse_option(ran.number, how.catch, given, after.remaining, last);
         match way {
             Counting::Counted => {
-                let width = write_value(out, how.writes, how.at, all.size, ran.len, ran.word);
-                all = one_more(all, ran, width);
+                let width = eval_words::write_value(
+                    out,
+                    how.writes,
+                    how.at,
+                    all.size,
+                    ran.len,
+                    ran.word,
+                );
+                all = eval_words::one_more(all, ran, width);
                 if eval_structs::idle(how.stops, given, after.remaining) {
                     return all;
                 }
-                copy_if(keeps, marks, &mut before);
+                eval_words::copy_if(keeps, marks, &mut before);
                 s = after;
-                from = next_from(from, given, after);
+                from = eval_words::next_from(from, given, after);
                 last = after.remaining;
             }
-            Counting::Uncounted => return ended(all, ran.tries, after),
+            Counting::Uncounted => return eval_words::ended(all, ran.tries, after),
             Counting::Absent => {
-                copy_if(keeps, &before, marks);
-                return ended(all, ran.tries, s);
+                eval_words::copy_if(keeps, &before, marks);
+                return eval_words::ended(all, ran.tries, s);
             }
             Counting::PassedOn => {
-                unwrite(out, how.writes, how.at, all.size);
-                return passed_on(all, ran);
+                eval_words::unwrite(out, how.writes, how.at, all.size);
+                return eval_words::passed_on(all, ran);
             }
         }
     }

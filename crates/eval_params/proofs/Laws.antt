@@ -31,7 +31,8 @@ use Rattle.take.specs.declared.Value.the-variants.{Missing, Taken as Value·Tak
 use Rattle.take.specs.declared.Argument.{Argument as TookArgument}
 use Rattle.take.specs.declared.Operand.the-variants.{Missing as Operand·Missing, Taken as Operand·Taken}
 use Rattle.take.specs.declared.Positional.{Positional as TookPositional}
-use Rattle.take.specs.Takes.{Items, valueOf, ValueUnchanged, operandOf, TakesFlag, TakesArg, TakesPositional}
+use Rattle.take_search.specs.States.{Items}
+use Rattle.take.specs.Takes.{valueOf, ValueUnchanged, operandOf, TakesFlag, TakesArg, TakesPositional}
 use Rattle.eval_told.specs.declared.Ran.{Ran}
 use Rattle.eval_told.specs.Told.{told, scalarWords, Evaluates}
 use Rattle.eval_params.specs.Leaves.{leafValue, leafRefusal, leafRun, LeafTells, positionRefusal}

@@ -20,7 +20,8 @@ use Rattle.take.specs.declared.Value.the-variants.{Taken as Value·Taken, NoArg
 use Rattle.take.specs.declared.Argument.{Argument}
 use Rattle.take.specs.declared.Operand.the-variants.{Taken as Operand·Taken}
 use Rattle.take.specs.declared.Positional.{Positional}
-use Rattle.take.specs.Takes.{CanTake, valueOf, operandOf, TakesArg, TakesPositional}
+use Rattle.take_search.specs.States.{CanTake}
+use Rattle.take.specs.Takes.{valueOf, operandOf, TakesArg, TakesPositional}
 
 bind-was : {A B : Type 0} (o : Outcome A) (f : A → Outcome B) (b : B) → (o >>= f) ≡ ok b → (a : A) × (f a ≡ ok b)
 unfolding _>>=_

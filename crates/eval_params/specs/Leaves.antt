@@ -16,7 +16,7 @@ use Rattle.rules.specs.Sound.{isNamed}
 use Rattle.state_marks.specs.declared.Numbers.{Numbers}
 use Rattle.state_marks.specs.Lent.{stateOf}
 use Rattle.take_table.specs.Known.{TableTells}
-use Rattle.take.specs.Takes.{CanTake}
+use Rattle.take_search.specs.States.{CanTake}
 use Rattle.eval_told.specs.declared.Ran.{Ran}
 use Rattle.eval_told.specs.Results.{valueRan, refusalRan}
 use Rattle.eval_told.specs.Told.{told, answered, Evaluates}

@@ -35,9 +35,10 @@ use Rattle.form_layout.specs.declared.Node.{Node as LaidOut}
 use Rattle.state_marks.specs.declared.Numbers.{Numbers}
 use Rattle.state_marks.specs.Lent.{stateOf}
 use Rattle.eval_told.specs.declared.Ran.{Ran}
-use Rattle.take.specs.Takes.{Items}
+use Rattle.take_search.specs.States.{Items}
 use Rattle.eval_told.specs.Told.{Told, told, answered}
-use Rattle.eval_told.specs.Nodes.{treeAt, Scalar}
+use Rattle.eval_told.specs.Nodes.{treeAt}
+use Rattle.eval_shortcut.specs.Stands.{Scalar}
 use Rattle.eval_told.proofs.Repeats.{told-state}
 use Rattle.eval_combine.specs.Made.{ChildGiven, Undone, OptionalOf}
 use Rattle.eval_combine.specs.declared.Optioned.{Optioned}

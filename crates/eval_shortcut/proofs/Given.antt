@@ -28,11 +28,12 @@ use Rattle.state_marks.specs.declared.Numbers.{Numbers}
 use Rattle.state_marks.specs.Lent.{Fine}
 use Rattle.form_codes.specs.Codes.{namedAt}
 use Rattle.take_table.specs.Known.{TableTells as Tells, isNamed as isNamedNode, isAdjacent, nodeMatches}
-use Rattle.take.specs.Takes as takes
-use Rattle.take.specs.Takes.{Skips}
+use Rattle.take_search.specs.States as states
+use Rattle.take.specs.Takes.{Skips, HasBits}
 use Rattle.eval_told.specs.declared.Ran.{Ran}
 use Rattle.eval_told.specs.Told.{Evaluates}
-use Rattle.eval_told.specs.Nodes.{treeAt, isScalar, Standing, Scalar}
+use Rattle.eval_told.specs.Nodes.{treeAt, isScalar}
+use Rattle.eval_shortcut.specs.Stands.{Standing, Scalar}
 use Rattle.eval_params.specs.Leaves as params
 use Rattle.eval_shortcut.specs.Children.{Wraps, Wrapped, Falls, BothSides, Hint, NodeSays}
 use Rattle.eval_shortcut.proofs.Trees.{Leaf, Single, Fallen, Double, form-good, node-inside, sound-at, flag-tree, argument-tree, positional-tree, optional-tree, count-tree}
@@ -157,7 +158,7 @@ module _ (b known s words m : List ℕ) (p : Numbers) (mark n : ℕ) (z : Scalar
   module _ (x : Node) (h : getElem? (readForm b .nodes) n ≡ some (nodeOf x)) where
     -- ---- leaves
     -- the node is told by the table of `known`
-    pub leaf-reaches : takes.HasBits known p n
+    pub leaf-reaches : HasBits known p n
     leaf-reaches =
         let inside = z .stands .state .fine .inside in
         let same = z .stands .state .same in
@@ -198,14 +199,14 @@ module _ (b known s words m : List ℕ) (p : Numbers) (mark n : ℕ) (z : Scalar
     argument-leaf k =
         named-leaf _ (eqb (x .r % 2) 1) (λ i d e. left (isNamed d) _ e) (λ i. rw k) (argument-tree b n (z .stands .tree) (z .stands .node) (nodeOf x) h k)
 
-    pub flag-ready : Fine m p × (parsed mark ≡ true) × takes.HasBits known p n
+    pub flag-ready : Fine m p × (parsed mark ≡ true) × HasBits known p n
     flag-ready = (z .stands .state .fine, z .stands .state .told, leaf-reaches)
 
     pub argument-ready : x .kind ≡ 2
-        → (sheetFault s ≡ 0) × takes.HasBits known p n × ((names : rules.Named) × (adjacent : Bool) × params.Leaf known (sheetArea s) words m p n mark names adjacent)
+        → (sheetFault s ≡ 0) × HasBits known p n × ((names : rules.Named) × (adjacent : Bool) × params.Leaf known (sheetArea s) words m p n mark names adjacent)
     argument-ready k = (z .stands .made, leaf-reaches, (_, _, argument-leaf k))
 
-    pub positional-ready : (sheetFault s ≡ 0) × takes.CanTake (sheetArea s) words m p mark
+    pub positional-ready : (sheetFault s ≡ 0) × states.CanTake (sheetArea s) words m p mark
     positional-ready = (z .stands .made, z .stands .state)
 
     -- where a leaf may search from
@@ -220,7 +221,7 @@ module _ (b known s words m : List ℕ) (p : Numbers) (mark n : ℕ) (z : Scalar
       argument-skips e = hint-of (argument-tree b n (z .stands .tree) (z .stands .node) (nodeOf x) h e .same)
 
       pub argument-turn : x .kind ≡ 2
-          → (sheetFault s ≡ 0) × takes.HasBits known p n
+          → (sheetFault s ≡ 0) × HasBits known p n
           × ((names : rules.Named) × (adjacent : Bool) × params.Leaf known (sheetArea s) words m p n mark names adjacent
           × Skips (sheetArea s) words (matchesArg names adjacent) m p from)
       argument-turn e = (z .stands .made, leaf-reaches, (_, _, argument-leaf e, argument-skips e))

@@ -20,7 +20,8 @@ use Rattle.take_table.specs.Bits.{bitAt}
 use Rattle.eval_told.specs.declared.Ran.{Ran}
 use Rattle.eval_told.specs.Told.{Evaluates, answered}
 use Rattle.eval_told.proofs.Repeats.{told-state}
-use Rattle.eval_told.specs.Nodes.{treeAt, Scalar}
+use Rattle.eval_told.specs.Nodes.{treeAt}
+use Rattle.eval_shortcut.specs.Stands.{Scalar}
 use Rattle.eval_params.specs.Leaves.{Missing}
 use Rattle.eval_combine.specs.Made.{missingOf, MarksUnchanged, Returned, FallbackOf, Sides, ChoiceOf}
 use Rattle.eval_combine.specs.declared.Chosen.{Chosen}

@@ -26,10 +26,11 @@ use Rattle.rules.proofs.KindLaws.{base-kind}
 use Rattle.rules.proofs.Steps.{most, EndsOne, Runs}
 use Rattle.state_marks.specs.declared.Numbers.{Numbers}
 use Rattle.state_marks.specs.Lent.{stateOf, Fine}
-use Rattle.take.specs.Takes.{CanTake, LeftState, Items}
+use Rattle.take_search.specs.States.{CanTake, LeftState, Items}
 use Rattle.eval_told.specs.declared.Ran.{Ran}
 use Rattle.eval_told.specs.Told.{Told, told, Numbered, scalarWords, toldWith, answered, Evaluates}
-use Rattle.eval_told.specs.Nodes.{treeAt, isScalar, Scalar}
+use Rattle.eval_told.specs.Nodes.{treeAt, isScalar}
+use Rattle.eval_shortcut.specs.Stands.{Scalar}
 use Rattle.eval_told.proofs.Visits.{visit-told, runs-numbered}
 use Rattle.eval_told.proofs.Repeats.{told-tries}
 use Rattle.eval_combine.specs.Made.{ChildGiven, Returned, FallbackAt, optionalWords, OptionalOf, FallbackOf, GuardOf, choiceWords, Sides, ChoiceOf}

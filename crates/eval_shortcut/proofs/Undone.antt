@@ -28,7 +28,8 @@ use Rattle.state_marks.specs.declared.Numbers.{Numbers}
 use Rattle.state_marks.specs.Lent.{stateOf, Fine}
 use Rattle.eval_told.specs.declared.Ran.{Ran}
 use Rattle.eval_told.specs.Told.{Told, told, answered}
-use Rattle.eval_told.specs.Nodes.{treeAt, Scalar}
+use Rattle.eval_told.specs.Nodes.{treeAt}
+use Rattle.eval_shortcut.specs.Stands.{Scalar}
 use Rattle.eval_told.proofs.Repeats.{told-state}
 use Rattle.eval_shortcut.specs.Marks.{takesText, undoes}
 use Rattle.eval_shortcut.proofs.Trees.{kindNumber, flag-tree, argument-tree, choice-tree, fallback-tree, tree-number}

@@ -18,7 +18,8 @@ use Rattle.form_layout.specs.Layout.{nodeOf}
 use Rattle.form_layout.specs.declared.Node.{Node as LaidOut}
 use Rattle.state_marks.specs.declared.Numbers.{Numbers}
 use Rattle.eval_told.specs.declared.Ran.{Ran}
-use Rattle.eval_told.specs.Nodes.{treeAt, Scalar}
+use Rattle.eval_told.specs.Nodes.{treeAt}
+use Rattle.eval_shortcut.specs.Stands.{Scalar}
 use Rattle.eval_combine.specs.Made.{ChildGiven, Undone, OptionalOf, GuardOf}
 use Rattle.eval_combine.specs.declared.Optioned.{Optioned}
 use Rattle.eval_shortcut.specs.Children.{Wraps, Hint, Turns, Spares, Beneath, startsBelow, leafBelow, Searched, LeafRan, NodeSays, HandsOn}

@@ -19,7 +19,8 @@ use Rattle.form_layout.specs.declared.Node.{Node as LaidOut}
 use Rattle.state_marks.specs.declared.Numbers.{Numbers}
 use Rattle.take.specs.Takes.{Skips}
 use Rattle.eval_told.specs.Told.{Evaluates}
-use Rattle.eval_told.specs.Nodes.{treeAt, Scalar}
+use Rattle.eval_told.specs.Nodes.{treeAt}
+use Rattle.eval_shortcut.specs.Stands.{Scalar}
 use Rattle.eval_told.specs.declared.Ran.{Ran}
 use Rattle.eval_shortcut.specs.Marks.{keepsMarks, isLeaf}
 

@@ -1,3 +1,4 @@
+pub mod Stands
 pub mod Marks
 pub mod Children
 pub mod OneSide

@@ -11,7 +11,8 @@ use Rattle.state_marks.specs.declared.Numbers.{Numbers}
 use Rattle.take_table.specs.Bits.{bitAt}
 use Rattle.eval_told.specs.declared.Ran.{Ran}
 use Rattle.eval_told.specs.Told.{Evaluates}
-use Rattle.eval_told.specs.Nodes.{treeAt, Scalar}
+use Rattle.eval_told.specs.Nodes.{treeAt}
+use Rattle.eval_shortcut.specs.Stands.{Scalar}
 use Rattle.eval_combine.specs.Made.{missingOf}
 use Rattle.eval_shortcut.specs.Marks.{undoes, HasTree}
 use Rattle.eval_shortcut.specs.Children.{NodeSays}

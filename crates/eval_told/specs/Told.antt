@@ -14,7 +14,7 @@ use Rattle.rules.specs.State.{State}
 use Rattle.rules.specs.Eval.{Ran as Run, eval}
 use Rattle.state_marks.specs.declared.Numbers.{Numbers}
 use Rattle.state_marks.specs.Lent.{stateOf}
-use Rattle.take.specs.Takes.{LeftState, Items}
+use Rattle.take_search.specs.States.{LeftState, Items}
 use Rattle.eval_told.specs.declared.Ran.{Ran}
 
 pub record Told : Type 0 where

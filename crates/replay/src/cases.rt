@@ -7,19 +7,21 @@ ghost use Rattle.replay.specs.Cases.{utf8Words, checkWords, SplitTold, W
 use crate::calls;
 use crate::words;
 use crate::words::Head;
+use run_fields::ANSWER_WORDS;
+use split_arg::ITEM_WORDS;
 use utf8::Decoded;
 
 // The slices that are lent to the calls. They are not 0, so that a word that is not written is seen.
-fn item_slice() -> [u32; 1792]
+fn item_slice() -> [u32; ITEM_WORDS]
     ensures { λ r. ⌜ 1792 ≡ length r ⌝ }
 {
-    [0xffff_ffff; 1792]
+    [0xffff_ffff; ITEM_WORDS]
 }
 
-pub fn answer_slice() -> [u32; 8240]
+pub fn answer_slice() -> [u32; ANSWER_WORDS]
     ensures { λ r. ⌜ 8240 ≡ length r ⌝ }
 {
-    [0xffff_ffff; 8240]
+    [0xffff_ffff; ANSWER_WORDS]
 }
 
 fn flag(yes: bool) -> u32

@@ -15,7 +15,7 @@ use Rattle.rules.specs.Calls.{toRaw}
 use Rattle.state_marks.specs.declared.Numbers.{Numbers}
 use Rattle.state_marks.specs.Lent.{rawOf}
 use Rattle.form_codes.specs.Codes.{CodedNames}
-use Rattle.take.specs.Takes as takes
+use Rattle.take_search.specs.States as states
 use Rattle.run_fields.specs.declared.Reached.{Reached}
 use Rattle.split_line.specs.Input.{Splittable}
 use Rattle.run_fields.specs.declared.RunAnswer.{RunAnswer}
@@ -71,7 +71,7 @@ pub record ItemsBegin (b codes s words m : List ℕ) (p : Numbers) (first : ℕ)
   pub accepts : checkForm b ≡ accepted result
   pub coded : CodedNames b codes
   pub made : sheetFault s ≡ 0
-  pub state : takes.CanTake (sheetArea s) words m p parsedMark
+  pub state : states.CanTake (sheetArea s) words m p parsedMark
   pub small : first ≤ 4096
   pub room : 8240 ≤ length o
   pub zeros : (k : ℕ) → getD o k 0 ≡ 0

@@ -11,10 +11,15 @@ ghost use Rattle.rules.specs.Codes.{placeOf};
 ghost use Rattle.split_args.specs.Construct.{Unmarked};
 ghost use Rattle.run_fields.specs.Line.{RunsAll};
 ghost use Rattle.run.specs.Runner.{runAnswer, ended, answerOf, CheckedInput, ItemsBegin, shortSlices};
+use run_fields::ANSWER_WORDS;
 use run_fields::Reached;
 use run_fields::RunAnswer;
+use split_arg::ITEM_WORDS;
 use state_marks::Numbers;
 use wire::wide;
+
+// The refusal of a slice that is too short.
+const SHORT_SLICE: u32 = 7;
 
 // Refused because of the input: both slices all 0, an empty state.
 fn refused_input(number: u32, place: u32, items: &mut [u32], answers: &mut [u32]) -> Reached
@@ -78,10 +83,10 @@ fn run_checked(
 fn is_short(items: usize, answers: usize) -> bool
     ensures { λ r. ⌜ r ≡ shortSlices items answers ⌝ }
 {
-    if items < 1792 {
+    if items < ITEM_WORDS {
         return true;
     }
-    answers < 8240
+    answers < ANSWER_WORDS
 }
 
 // The run over marks that are 0.
@@ -104,7 +109,7 @@ fn run_input(
         return refused_input(fault, 0, items, answers);
     }
     if is_short(items.len(), answers.len()) {
-        return refused_input(7, 0, items, answers);
+        return refused_input(SHORT_SLICE, 0, items, answers);
     }
     run_checked(form, sheet, items, answers, marks)
 }

@@ -22,9 +22,10 @@ use Rattle.state_marks.specs.declared.Numbers.{Numbers}
 use Rattle.eval_told.specs.declared.Ran.{Ran}
 use Rattle.eval_told.specs.Results.{written}
 use Rattle.eval_told.specs.Told.{Evaluates, scalarWords}
-use Rattle.eval_told.specs.Nodes.{treeAt, isScalar, Scalar}
+use Rattle.eval_told.specs.Nodes.{treeAt, isScalar}
+use Rattle.eval_shortcut.specs.Stands.{Scalar}
 use Rattle.eval_told.proofs.NodeLaw.{at-tree}
-use Rattle.eval_node.specs.Values.{Put}
+use Rattle.eval_words.specs.Stored.{Put}
 use Rattle.eval_shortcut.proofs.Words.{scalar-short}
 use Rattle.eval_shortcut.proofs.Trees.{form-good, node-inside}
 use Rattle.eval_list.specs.Lists.{MarkedField}

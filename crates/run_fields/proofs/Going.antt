@@ -29,14 +29,14 @@ use Rattle.rules.proofs.Places.{drop-below}
 use Rattle.rules.proofs.Steps.{Runs, most}
 use Rattle.state_marks.specs.declared.Numbers.{Numbers}
 use Rattle.state_marks.specs.Lent.{stateOf, Fine}
-use Rattle.take.specs.Takes.{LeftState, Items}
-use Rattle.take.specs.Takes as takes
+use Rattle.take_search.specs.States.{LeftState, Items}
+use Rattle.take_search.specs.States as states
 use Rattle.eval_told.specs.declared.Ran.{Ran}
 use Rattle.eval_told.specs.Told.{Told, told, toldWith, Numbered}
 use Rattle.eval_told.specs.Nodes.{treeAt}
 use Rattle.eval_told.proofs.Visits.{runs-numbered}
 use Rattle.eval_told.proofs.Repeats.{append-three, told-state, told-tries, told-value, told-denied}
-use Rattle.eval_node.proofs.Words.{sets-append, sets-back}
+use Rattle.eval_words.proofs.Words.{sets-append, sets-back}
 use Rattle.run_fields.specs.declared.Reached.{Reached}
 use Rattle.eval_list.specs.Lists.{Writes, WritesField}
 use Rattle.run_fields.specs.Line.{Starts, FieldReady, toldAll, RunsFields, refusedWith, valuesOf}
@@ -197,7 +197,7 @@ module _ (b known s words m₀ : List ℕ) (p₀ : Numbers) (first : ℕ) (o₀ 
         let z = g .size in
         ap (λ (l : List ℕ). getD l j 0) (g .put) ∙ sets-after (g .values) o₀ 0 j (omega arith) ∙ start .zeros j
 
-    abbrev ready : takes.CanTake (sheetArea s) words m p mark
+    abbrev ready : states.CanTake (sheetArea s) words m p mark
     ready = record {
       items = start .state .items;
       table = start .state .table;

@@ -25,9 +25,9 @@ use Rattle.state_marks.specs.declared.Numbers.{Numbers}
 use Rattle.state_marks.specs.Lent.{stateOf, firstOr, Fine}
 use Rattle.state_marks.proofs.Laws.{fine-long, fine-unused}
 use Rattle.state_marks.proofs.Marks.{first-hit, first-none, first-within}
-use Rattle.take.specs.Takes.{Items}
+use Rattle.take_search.specs.States.{Items}
 use Rattle.eval_told.specs.Told.{Told, Numbered}
-use Rattle.eval_node.proofs.Words.{sets-back}
+use Rattle.eval_words.proofs.Words.{sets-back}
 use Rattle.run_fields.specs.declared.Reached.{Reached}
 use Rattle.run_fields.specs.Line.{Starts, toldAll, RunsFields, RunsAll, refusedWith}
 use Rattle.run_fields.proofs.Going.{told-same, with-outcome}

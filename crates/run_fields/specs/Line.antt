@@ -17,14 +17,14 @@ use Rattle.rules.specs.Run.{parsedMark, runFields, runAll}
 use Rattle.state_marks.specs.declared.Numbers.{Numbers}
 use Rattle.state_marks.specs.Lent.{stateOf}
 use Rattle.take_table.specs.Known.{Known}
-use Rattle.take.specs.Takes.{LeftState, Items}
-use Rattle.take.specs.Takes as takes
+use Rattle.take_search.specs.States.{LeftState, Items}
+use Rattle.take_search.specs.States as states
 use Rattle.eval_told.specs.declared.Ran.{Ran}
 use Rattle.eval_told.specs.Results.{written}
 use Rattle.eval_told.specs.Told.{Told}
-use Rattle.eval_told.specs.Nodes.{Standing}
+use Rattle.eval_shortcut.specs.Stands.{Standing}
 use Rattle.eval_node.specs.Cycle.{Room}
-use Rattle.eval_node.specs.Values.{Put}
+use Rattle.eval_words.specs.Stored.{Put}
 use Rattle.eval_list.specs.Lists.{MarkedField}
 use Rattle.run_fields.specs.declared.Reached.{Reached}
 
@@ -34,7 +34,7 @@ pub record Starts (b known s words m : List ℕ) (p : Numbers) (first : ℕ) (o 
   pub result : Accepted
   pub accepts : checkForm b ≡ accepted result
   pub made : sheetFault s ≡ 0
-  pub state : takes.CanTake (sheetArea s) words m p parsedMark
+  pub state : states.CanTake (sheetArea s) words m p parsedMark
   pub knows : Known b (sheetArea s) words (length (state .items)) known
   pub small : first ≤ 4096
   pub room : 8240 ≤ length o

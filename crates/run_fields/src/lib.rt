@@ -15,7 +15,11 @@ use eval_list::Field;
 use eval_told::Ran;
 use rules::State;
 use state_marks::Numbers;
+use take_table::TABLE_WORDS;
 use wire::wide;
+
+// The most answer words that a run writes.
+pub const ANSWER_WORDS: usize = 8240;
 
 // How a run, or the evaluation of one node, ended, and the state that it left. A place is itself plus 1, or 0 for none; `words` is
 // how many answer words there are.
@@ -59,7 +63,7 @@ fn put_value(out: &mut [u32], at: usize, ran: Ran) -> Ran
     requires { ⌜ at + 2 ≤ length (now out) ⌝ }
     ensures { λ r. ⌜ PutValue (now (out .entry)) at ran (now (out .exit)) r ⌝ }
 {
-    let len = eval_node::put(out, at, ran.len, ran.word);
+    let len = eval_words::put(out, at, ran.len, ran.word);
     eval_told::wrote(ran, len)
 }
 
@@ -138,10 +142,10 @@ fn answered(tries: u32, words: usize, numbers: Numbers) -> Reached
 }
 
 // A table of which nodes each item matches, as yet empty.
-pub fn nothing_known() -> [u64; 257]
+pub fn nothing_known() -> [u64; TABLE_WORDS]
     ensures { λ r. ⌜ r ≡ replicate 257 0 ⌝ }
 {
-    [0u64; 257]
+    [0u64; TABLE_WORDS]
 }
 
 // The mark of what field `number` uses. Every field has the same: this is the one place where the number tells.
@@ -193,7 +197,7 @@ fn each_field(
 // the first present place that is left in scope. Refused, `out` is all 0 again.
 pub fn run_fields(
     form: &[u8],
-    known: &[u64; 257],
+    known: &[u64; TABLE_WORDS],
     sheet: &[u8],
     items: &[u32],
     marks: &mut [u16; 256],

@@ -42,7 +42,9 @@ use Rattle.take_table.specs.Known.{TableTells}
 use Rattle.take.specs.declared.Argument.{Argument}
 use Rattle.take.specs.declared.Value.the-variants.{Missing, Taken as Value·Taken}
 use Rattle.take.specs.declared.Operand.the-variants.{Missing as Operand·Missing, Taken as Operand·Taken}
-use Rattle.take.specs.Takes.{CanTake, Skips, Items, setCurrent, refusedAt, freeBelow, textPart, strictItem, LeftState, UsesBoth, TakesFlag, TakesArg, TakesPositional, TakesCmd}
+use Rattle.take_search.specs.States.{CanTake, Items, LeftState}
+use Rattle.take_search.proofs.States.{left-same}
+use Rattle.take.specs.Takes.{Skips, setCurrent, refusedAt, freeBelow, textPart, strictItem, UsesBoth, TakesFlag, TakesArg, TakesPositional, TakesCmd}
 use Rattle.take.proofs.Texts.{agrees, word-value, arg-word-value, no-value}
 
 -- ---- pieces
@@ -113,9 +115,6 @@ module _ (m : List ℕ) (p : Numbers) (f : Fine m p) where
       counted = f .good .counted;
     };
   }
-
-  pub left-same : LeftState m p m p
-  left-same = record { count = refl; long = refl; fine = f }
 
 pub left-removed : {mark : ℕ} {m : List ℕ} {p : Numbers} {i : ℕ} {m′ : List ℕ} {q : Numbers} → Removed mark m p i m′ q → LeftState m p m′ q
 left-removed r = record { count = r .count; long = r .long; fine = r .fine }

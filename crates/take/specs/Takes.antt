@@ -9,14 +9,15 @@ use lib.ListN.{length, getD}
 use Rattle.rules.specs.Outcome.{Outcome, ok, refused, _>>=_, refuse}
 use Rattle.rules.specs.Tree.{Named}
 use Rattle.rules.specs.Split as rules
-use Rattle.rules.specs.State.{present, parsed, remove, withCurrent}
+use Rattle.rules.specs.State.{present, remove, withCurrent}
 use Rattle.rules.specs.Take.{Took, took, Taken, Operand as RulesOperand, takeFlag, takeArg, takePositionalWord, takeCmd}
 use Rattle.split_arg.specs.declared.Part.{Part}
 use Rattle.split_arg.specs.declared.Item.{Item}
 use Rattle.split_arg.specs.declared.Item.the-variants.{Short, Long, ArgWord, Word, PosWord}
 use Rattle.state_marks.specs.declared.Numbers.{Numbers}
-use Rattle.state_marks.specs.Lent.{stateOf, Fine}
-use Rattle.take_search.specs.Items.{Table, partBytes}
+use Rattle.state_marks.specs.Lent.{stateOf}
+use Rattle.take_search.specs.Items.{partBytes}
+use Rattle.take_search.specs.States.{LeftState, Items}
 use Rattle.take_search.specs.Search.{Passed}
 use Rattle.take.specs.declared.Flag.{Flag}
 use Rattle.take.specs.declared.Value.{Value}
@@ -25,14 +26,6 @@ use Rattle.take.specs.declared.Argument.{Argument}
 use Rattle.take.specs.declared.Operand.{Operand}
 use Rattle.take.specs.declared.Operand.the-variants.{Missing as Operand·Missing, Taken as Operand·Taken}
 use Rattle.take.specs.declared.Positional.{Positional}
-
--- ---- what a take asks for: a state over the items of the words, and a parsed mark
-pub record CanTake (area words m : List ℕ) (p : Numbers) (mark : ℕ) : Type 0 where
-  pub items : List rules.Item
-  pub table : Table area words items
-  pub same : length items ≡ p .count
-  pub fine : Fine m p
-  pub told : parsed mark ≡ true
 
 -- ---- where a search may begin: in scope, and with no present item before it that passes the test
 pub record Skips (area words : List ℕ) (test : rules.Item → Bool) (m : List ℕ) (p : Numbers) (from : ℕ) : Type 0 where
@@ -77,13 +70,7 @@ comparedItem (ArgWord t) = false
 comparedItem (Word t) = true
 comparedItem (PosWord t) = false
 
--- ---- what is left: as many marks, and a good state over as many items
-pub record LeftState (m : List ℕ) (p : Numbers) (m′ : List ℕ) (q : Numbers) : Type 0 where
-  pub count : q .count ≡ p .count
-  pub long : length m′ ≡ length m
-  pub fine : Fine m′ q
-
--- key and value are used, one after the other
+-- ---- key and value are used, one after the other
 pub record UsesBoth (mark : ℕ) (m : List ℕ) (p : Numbers) (key : ℕ) (m′ : List ℕ) (q : Numbers) : Type 0 where
   pub same : (remove mark (withCurrent (some (suc key)) (stateOf m p)) key >>= λ u. remove mark u (suc key)) ≡ ok (stateOf m′ q)
   pub left : LeftState m p m′ q
@@ -110,9 +97,6 @@ operandOf area m p (Operand·Taken i strict t) =
     took (some (record { place = i; strict = strict; text = partBytes area t })) (stateOf m p)
 
 -- ---- what the takes do, for the items that the words are
-abbrev pub Items : List ℕ → List ℕ → Numbers → List rules.Item → Type 0
-Items area words p is = Table area words is × (length is ≡ p .count)
-
 pub record TakesFlag (mark : ℕ) (area words : List ℕ) (n : Named) (m : List ℕ) (p : Numbers) (m′ : List ℕ) (r : Flag) : Type 0 where
   pub same : (is : List rules.Item) → Items area words p is
       → takeFlag mark is n (stateOf m p) ≡ took (r .found) (stateOf m′ (r .numbers))

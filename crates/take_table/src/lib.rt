@@ -19,6 +19,11 @@ use split_arg::Item;
 use state_marks::is_present;
 use take_search::wide64;
 
+// The words of the table: one for each item that a line can have, and one of all items.
+pub const TABLE_WORDS: usize = 257;
+
+const ALL_ITEMS: usize = 256;
+
 // ---- sets of nodes as the bits of a word
 
 // Whether n is in the set.
@@ -200,7 +205,7 @@ pub fn known(
     sheet: &[u8],
     items: &[u32],
     count: usize,
-    table: &mut [u64; 257],
+    table: &mut [u64; TABLE_WORDS],
 )
     requires { ⌜ Matchable (now form) (now codes) (now sheet) (now items) count × (count ≤ 256) × (length (now table) ≡ 257) ⌝ }
     ensures { λ _. ⌜ Known (now (form .entry)) (sheetArea (now (sheet .entry))) (now (items .entry)) count (now (table .exit)) ⌝ }
@@ -216,7 +221,7 @@ pub fn known(
         all = union(all, set);
         i += 1;
     }
-    table[256] = all;
+    table[ALL_ITEMS] = all;
 }
 
 // Whether a node matches no item at all.
@@ -224,7 +229,7 @@ pub fn is_absent(table: &[u64], node: usize) -> bool
     requires { ⌜ (node < 64) × (257 ≤ length (now table)) ⌝ }
     ensures { λ r. ⌜ r ≡ not (bitAt (getD (now (table .entry)) 256 0) node) ⌝ }
 {
-    !has(table[256], node)
+    !has(table[ALL_ITEMS], node)
 }
 
 // The first present place from `from` on, below `end`, whose word has the bit of a node; `end` if there is none.

@@ -25,8 +25,8 @@ returns c =
     let pre = by-run-repeat .before .before .before .before .before .before .before .before .pre in
     many-refuses pre (run-repeat .ensures) (if1 .taken) (c .refusal .ensures)
 
-counted-requires : tie.Need-counted-requires
-counted-requires c κs =
+counted-list-requires : tie.Need-counted-list-requires
+counted-list-requires c κs =
     let by-run-repeat = c .before .before .before .before .before in
     let run-repeat = by-run-repeat .run-repeat in
     let pre = by-run-repeat .before .before .before .before .before .before .before .before .pre in
@@ -37,9 +37,9 @@ same-length-2 c = search needs
 
 returns-2 : tie.Need-returns-2
 returns-2 c =
-    let by-counted = c .before .before in
-    let counted = by-counted .counted in
-    let by-if1 = by-counted .before .before in
+    let by-counted-list = c .before .before in
+    let counted = by-counted-list .counted-list in
+    let by-if1 = by-counted-list .before .before in
     let if1 = by-if1 .if1 in
     let by-run-repeat = by-if1 .before .before .before .before in
     let run-repeat = by-run-repeat .run-repeat in
@@ -54,6 +54,6 @@ run-many-spec =
     refusal-requires
     same-length
     returns
-    counted-requires
+    counted-list-requires
     same-length-2
     returns-2)

@@ -47,8 +47,8 @@ returns-2 c =
     let pre = by-run-repeat .before .before .before .before .before .before .before .before .pre in
     some-nothing pre (run-repeat .ensures) (if1 .left) (parse-some .ensures) (if2 .taken) (c .refusal2 .ensures)
 
-counted-requires : tie.Need-counted-requires
-counted-requires c κs =
+counted-list-requires : tie.Need-counted-list-requires
+counted-list-requires c κs =
     let by-run-repeat = c .before .before .before .before .before .before .before .before in
     let run-repeat = by-run-repeat .run-repeat in
     let pre = by-run-repeat .before .before .before .before .before .before .before .before .pre in
@@ -59,9 +59,9 @@ same-length-3 c = search needs
 
 returns-3 : tie.Need-returns-3
 returns-3 c =
-    let by-counted = c .before .before in
-    let counted = by-counted .counted in
-    let by-if2 = by-counted .before .before in
+    let by-counted-list = c .before .before in
+    let counted = by-counted-list .counted-list in
+    let by-if2 = by-counted-list .before .before in
     let if2 = by-if2 .if2 in
     let by-parse-some = by-if2 .before in
     let parse-some = by-parse-some .parse-some in
@@ -84,6 +84,6 @@ run-some-spec =
     refusal-requires-2
     same-length-2
     returns-2
-    counted-requires
+    counted-list-requires
     same-length-3
     returns-3)

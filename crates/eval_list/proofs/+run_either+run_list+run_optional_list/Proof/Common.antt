@@ -14,9 +14,9 @@ use Rattle.eval_list.proofs.+run_either+run_list+run_optional_list.Lts-
 use Rattle.form_layout.proofs.node_at.Reads as node-at-reads
 use Rattle.eval_list.proofs.run_many.Reads as run-many-reads
 use Rattle.eval_list.proofs.run_some.Reads as run-some-reads
-use Rattle.eval_list.proofs.set_aside.Reads as set-aside-reads
-use Rattle.eval_list.proofs.settle.Reads as settle-reads
-use Rattle.eval_list.proofs.shift.Reads as shift-reads
+use Rattle.eval_words.proofs.set_aside.Reads as set-aside-reads
+use Rattle.eval_words.proofs.settle.Reads as settle-reads
+use Rattle.eval_words.proofs.shift.Reads as shift-reads
 use Rattle.eval_combine.proofs.choose.Reads as choose-reads
 use Rattle.eval_combine.proofs.optional.Reads as optional-reads
 use Rattle.wire.proofs.wide.Reads as wide-reads

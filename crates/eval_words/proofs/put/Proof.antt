@@ -2,9 +2,9 @@
 use borrow.Author.Needs.{needs}
 use native.Mathlib.Omega.{arith}
 use lib.ListN.{length-set}
-use Rattle.eval_node.proofs.Words.{put-none, put-one, put-two}
-use Rattle.eval_node.proofs.put.Statement.{statement}
-use Rattle.eval_node.proofs.put.Tie as tie
+use Rattle.eval_words.proofs.Words.{put-none, put-one, put-two}
+use Rattle.eval_words.proofs.put.Statement.{statement}
+use Rattle.eval_words.proofs.put.Tie as tie
 
 returns : tie.Need-returns
 returns c = search put-none

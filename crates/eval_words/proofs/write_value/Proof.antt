@@ -1,9 +1,9 @@
 -- By whether values are written. Assumes nothing.
 use borrow.Author.Needs.{needs}
 use native.Mathlib.Omega.{arith}
-use Rattle.eval_node.proofs.Words.{wrote-put, wrote-none}
-use Rattle.eval_node.proofs.write_value.Statement.{statement}
-use Rattle.eval_node.proofs.write_value.Tie as tie
+use Rattle.eval_words.proofs.Words.{wrote-put, wrote-none}
+use Rattle.eval_words.proofs.write_value.Statement.{statement}
+use Rattle.eval_words.proofs.write_value.Tie as tie
 
 add-put : tie.Need-add-put
 add-put c =

@@ -1,8 +1,8 @@
 -- The copy of a part. Assumes nothing.
 use borrow.Author.Needs.{needs}
-use Rattle.eval_list.proofs.Words.{lifted}
-use Rattle.eval_list.proofs.lift.Statement.{statement}
-use Rattle.eval_list.proofs.lift.Tie as tie
+use Rattle.eval_words.proofs.Words.{lifted}
+use Rattle.eval_words.proofs.lift.Statement.{statement}
+use Rattle.eval_words.proofs.lift.Tie as tie
 
 add-end : tie.Need-add-end
 add-end c = search needs

@@ -1,9 +1,9 @@
 -- By whether values were written. Assumes nothing.
 use borrow.Author.Needs.{needs}
 use native.Mathlib.Omega.{arith}
-use Rattle.eval_node.proofs.Words.{zeroed, untouched}
-use Rattle.eval_node.proofs.unwrite.Statement.{statement}
-use Rattle.eval_node.proofs.unwrite.Tie as tie
+use Rattle.eval_words.proofs.Words.{zeroed, untouched}
+use Rattle.eval_words.proofs.unwrite.Statement.{statement}
+use Rattle.eval_words.proofs.unwrite.Tie as tie
 
 add-fill : tie.Need-add-fill
 add-fill c =

@@ -1,8 +1,8 @@
 -- By the test. Assumes nothing.
 use borrow.Author.Needs.{needs}
 use Rattle.utf8.specs.Utf8.{if_then_else_}
-use Rattle.eval_node.proofs.copy_if.Statement.{statement}
-use Rattle.eval_node.proofs.copy_if.Tie as tie
+use Rattle.eval_words.proofs.copy_if.Statement.{statement}
+use Rattle.eval_words.proofs.copy_if.Tie as tie
 
 returns : tie.Need-returns
 unfolding if_then_else_

@@ -1,31 +1,15 @@
 -- What the small functions of a repeat make.
-use mathlib.Core.Bool.{Bool}
-use mathlib.Core.List.{List}
-use mathlib.Core.Path.{_≡_}
 use Prim.Native.Nat.{ℕ, _+_, _≤_}
 use lib.Dec.{ltb}
-use lib.ListN.{length}
-use lib.Seq.{sets}
 use Rattle.utf8.specs.Utf8.{if_then_else_}
 use Rattle.state_marks.specs.declared.Numbers.{Numbers}
-use Rattle.eval_told.specs.Told.{scalarWords}
 use Rattle.eval_told.specs.declared.Ran.{Ran}
 use Rattle.eval_told.specs.Results.{valueRan, refusalRan}
-use Rattle.eval_node.specs.declared.Repeated.{Repeated}
+use Rattle.eval_words.specs.declared.Repeated.{Repeated}
 
 -- where the next turn of a repeat over a leaf searches from: behind what was used, if anything was
 unfoldable pub nextFrom : ℕ → ℕ → Numbers → ℕ
 nextFrom from given after = if ltb (after .remaining) given then after .current else from
-
--- a value's words are written
-pub record Put (o : List ℕ) (at len word : ℕ) (o′ : List ℕ) (r : ℕ) : Type 0 where
-  pub width : r ≡ length (scalarWords len word)
-  pub same : o′ ≡ sets o at (scalarWords len word)
-
--- if it is to be written
-pub record WroteValue (writes : Bool) (o : List ℕ) (at len word : ℕ) (o′ : List ℕ) (r : ℕ) : Type 0 where
-  pub width : r ≡ (if writes then length (scalarWords len word) else 0)
-  pub same : o′ ≡ (if writes then sets o at (scalarWords len word) else o)
 
 abbrev pub noValue : Numbers → Repeated
 noValue p = record {

@@ -6,9 +6,9 @@ use lib.Seq.{length-sets}
 use native.Mathlib.Omega.{arith}
 use mathlib.Core.Path.{_≡_, sym}
 use lib.Seq.{length-take-le}
-use Rattle.eval_list.proofs.Words.{shifted}
-use Rattle.eval_list.proofs.shift.Statement.{statement}
-use Rattle.eval_list.proofs.shift.Tie as tie
+use Rattle.eval_words.proofs.Words.{shifted}
+use Rattle.eval_words.proofs.shift.Statement.{statement}
+use Rattle.eval_words.proofs.shift.Tie as tie
 
 lift-requires : tie.Need-lift-requires
 lift-requires c κs = search needs

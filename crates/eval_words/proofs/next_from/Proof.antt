@@ -2,9 +2,9 @@
 use borrow.Author.Needs.{needs}
 use borrow.Author.Tests.{lt-ltb, le-ltb}
 use Rattle.utf8.specs.Utf8.{if_then_else_}
-use Rattle.eval_node.specs.Values.{nextFrom}
-use Rattle.eval_node.proofs.next_from.Statement.{statement}
-use Rattle.eval_node.proofs.next_from.Tie as tie
+use Rattle.eval_words.specs.Values.{nextFrom}
+use Rattle.eval_words.proofs.next_from.Statement.{statement}
+use Rattle.eval_words.proofs.next_from.Tie as tie
 
 wide-requires : tie.Need-wide-requires
 wide-requires c κs = search needs

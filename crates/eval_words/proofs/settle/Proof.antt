@@ -2,9 +2,9 @@
 use borrow.Author.Needs.{needs}
 use mathlib.Core.Path.{_∙_, sym}
 use lib.Seq.{length-take-le}
-use Rattle.eval_list.proofs.Words.{settled-refused, settled-first, settled-second}
-use Rattle.eval_list.proofs.settle.Statement.{statement}
-use Rattle.eval_list.proofs.settle.Tie as tie
+use Rattle.eval_words.proofs.Words.{settled-refused, settled-first, settled-second}
+use Rattle.eval_words.proofs.settle.Statement.{statement}
+use Rattle.eval_words.proofs.settle.Tie as tie
 
 fill-requires : tie.Need-fill-requires
 fill-requires c κs = search needs
