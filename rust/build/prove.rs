@@ -63,9 +63,11 @@ fn beneath(crates: &Crates, name: &str) -> BTreeSet<String> {
     found
 }
 
-/// For each crate the longest way from it to the end, in bytes of files: what has most behind it goes first.
+/// For each crate the longest way from it to the end: what has most behind it goes first. The time of a check goes with the bytes
+/// of the code, and some of it with what the crate rests on.
 fn ways(root: &Path, crates: &Crates, names: &[String]) -> BTreeMap<String, u64> {
-    let mut ways: BTreeMap<String, u64> = names.iter().map(|c| (c.clone(), size(&root.join("crates").join(c)))).collect();
+    let weight = |name: &str| 1500 + size(&root.join("crates").join(name).join("src"));
+    let mut ways: BTreeMap<String, u64> = names.iter().map(|c| (c.clone(), weight(c))).collect();
     let own = ways.clone();
     for _ in names {
         for c in names {

@@ -17,6 +17,7 @@ ghost use Rattle.eval_node.specs.Cycle.{Repeating, Repeats};
 use eval_structs::Counting;
 use eval_told::Ran;
 use eval_words::Repeated;
+use eval_words::write_value;
 use form_layout::Node;
 use state_marks::Numbers;
 use wire::wide;
@@ -385,14 +386,7 @@ pub fn run_repeat(
         let way = eval_structs::parse_option(ran.number, how.catch, given, after.remaining, last);
         match way {
             Counting::Counted => {
-                let width = eval_words::write_value(
-                    out,
-                    how.writes,
-                    how.at,
-                    all.size,
-                    ran.len,
-                    ran.word,
-                );
+                let width = write_value(out, how.writes, how.at, all.size, ran.len, ran.word);
                 all = eval_words::one_more(all, ran, width);
                 if eval_structs::idle(how.stops, given, after.remaining) {
                     return all;

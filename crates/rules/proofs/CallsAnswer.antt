@@ -35,7 +35,7 @@ use Rattle.rules.specs.Calls.{callSplit, evaluatedWith, evaluated, uncha
 use Rattle.rules.specs.declared.State.{State as Raw}
 use Rattle.rules.specs.Sound.{Good, Sound}
 use Rattle.rules.specs.Answered.{FormFault, badCounts, badName, badNode, badField, badUse, SheetFault, manyArguments, badSheet, AtFault, badForm, sheetAtFault, shortSlice, ItemsLeft}
-use Rattle.rules.specs.CallsAnswered.{OneOf, Answers, answers, refuses, Hands, Evaluates, SplitsLine, CallsAnswered}
+use Rattle.rules.specs.CallsAnswered.{OneOf, Answers, answers, refuses, Hands, EvalAnswers, SplitsLine, CallsAnswered}
 use Rattle.rules.proofs.GivenLaws.{split-form, split-sheet, split-short, split-goes}
 use Rattle.rules.proofs.StepLaws.{test-good, first-found, remove-step, set-scope-good, flag-takes, arg-takes, positional-takes}
 use Rattle.rules.proofs.Steps.{EndsOne}
@@ -513,7 +513,7 @@ module _ (form sheet slice buffer : List ℕ) (x : Raw) (k : ℕ) where
       let ends = eval-sound 1 refl is t z s (state-good (length is) x s h) .ends in
       rw (ok-injective e₇) at (ends-answers (s .remaining + 1) (kindOf t) (eval 1 is t s .outcome) ends)
 
-  evaluated-is : (r : Ran Value) (o : Outcome Value) → r .outcome ≡ o → Answers late o → Evaluates x buffer (evaluated (length buffer) r)
+  evaluated-is : (r : Ran Value) (o : Outcome Value) → r .outcome ≡ o → Answers late o → EvalAnswers x buffer (evaluated (length buffer) r)
   unfolding evaluated evaluatedWith
   evaluated-is r o e (answers v) = record {
     evaluated = evaluatedWith (length buffer) r 0 none (words v);
@@ -526,7 +526,7 @@ module _ (form sheet slice buffer : List ℕ) (x : Raw) (k : ℕ) where
     number = inr (inl (n, refl, padded-nil (length buffer)));
   }
 
-  eval-called : Evaluates x buffer (callEval form sheet slice buffer x k)
+  eval-called : EvalAnswers x buffer (callEval form sheet slice buffer x k)
   unfolding callEval unchanged
   eval-called = go (evalIn form sheet slice buffer x k) refl eval-in
     where
@@ -534,7 +534,7 @@ module _ (form sheet slice buffer : List ℕ) (x : Raw) (k : ℕ) where
           (o : Outcome (Ran Value))
           → evalIn form sheet slice buffer x k ≡ o
           → Answers early o
-          → Evaluates x buffer (callEval form sheet slice buffer x k)
+          → EvalAnswers x buffer (callEval form sheet slice buffer x k)
       go o e (answers r) = rw (e, callEval) (evaluated-is r (r .outcome) refl (eval-ended r e))
       go o e (refuses y n) = record {
         evaluated = unchanged x buffer y;

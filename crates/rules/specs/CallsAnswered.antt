@@ -34,7 +34,7 @@ pub record Hands {A : Type 0} (l : List ℕ) (x : Raw) (o : Outcome (Called A)) 
       ⊎ (OneOf l (called .number) × (called .answer ≡ none) × (called .state ≡ x))
 
 -- `eval` of a node: 0; or 20 to 26, and answers 0; or a number before these, and nothing changes
-pub record Evaluates (x : Raw) (answers : List ℕ) (o : Outcome Evaluated) : Type 0 where
+pub record EvalAnswers (x : Raw) (answers : List ℕ) (o : Outcome Evaluated) : Type 0 where
   pub evaluated : Evaluated
   pub answered : o ≡ ok evaluated
   pub number :
@@ -90,7 +90,7 @@ pub record CallsAnswered : Type 0 where
       → Hands (1 ∷ 2 ∷ 3 ∷ 4 ∷ 6 ∷ 5 ∷ 7 ∷ 30 ∷ 29 ∷ 28 ∷ []) x (callTakeCmd form sheet slice x k)
   pub eval :
       (form sheet slice answers : List ℕ) (x : Raw) (k : ℕ)
-      → Evaluates x answers (callEval form sheet slice answers x k)
+      → EvalAnswers x answers (callEval form sheet slice answers x k)
   -- a form, with no state
   pub kind : (form : List ℕ) (k : ℕ) → Answers (1 ∷ 2 ∷ 3 ∷ 4 ∷ 28 ∷ []) (callKind form k)
   pub portable : (form : List ℕ) → Answers (1 ∷ 2 ∷ 3 ∷ 4 ∷ []) (callPortable form)
