@@ -33,6 +33,10 @@ static const uint8_t FALLBACK[] = {
   U16(2), U16(1), U16(2), U16(3), U16(1), NODE(SILVERPOISE_NODE_ARGUMENT, 0, 1, SILVERPOISE_VALUE_TEXT, 0, 0),
   NODE(SILVERPOISE_NODE_FALLBACK, 0, 0, 1, 0, 0), NAME(SILVERPOISE_NAME_SHORT, 0, 1), NAME(SILVERPOISE_NAME_TEXT, 1, 2),
   '+', 'd', 'd'};
+// switch -6, and switch -W
+#define SWITCH(letter) U16(1), U16(1), U16(1), U16(1), U16(0), NODE(SILVERPOISE_NODE_FLAG, 0, 1, SILVERPOISE_FLAG_SWITCH, 0, 0), \
+  NAME(SILVERPOISE_NAME_SHORT, 0, 1), letter
+static const uint8_t DIGIT[] = {SWITCH('6')}, VENDORS[] = {SWITCH('W')};
 static const uint8_t NO_ARGUMENTS[] = {U16(0), U16(0)};
 
 // Slices of exactly the lengths that are lent, on the heap, so that valgrind sees a read or write outside of them.
@@ -135,7 +139,9 @@ static void checks(void) {
   CHECK(told(silverpoise_kind(FORM, 3), 0, SILVERPOISE_KIND_NUMBER + SILVERPOISE_KIND_OPTIONAL));
   CHECK(told(silverpoise_kind(FORM, 3 + ((size_t)1 << 32)), 28, 0)); // a number of 64 bits
   CHECK(told(silverpoise_portable(FORM), 0, 1));
-  CHECK(told(silverpoise_portable(FALLBACK, sizeof FALLBACK), 0, 0)); // + is no letter
+  CHECK(told(silverpoise_portable(FALLBACK, sizeof FALLBACK), 0, 0)); // + is not alphanumeric
+  CHECK(told(silverpoise_portable(DIGIT, sizeof DIGIT), 0, 1));
+  CHECK(told(silverpoise_portable(VENDORS, sizeof VENDORS), 0, 0)); // W is reserved
 }
 
 static void splitting(void) {

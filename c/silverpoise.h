@@ -252,7 +252,7 @@ enum {
 // The kind of a node's value, which says how to read its answer words (8). Refused: 1 to 4, 28.
 SilverpoiseTold silverpoise_kind(const uint8_t *form, size_t form_count, size_t node);
 
-// 1 if the short names of the form are portable (3.6), else 0. Refused: 1 to 4.
+// 1 if every short name of the form is one of 0..9, A..Z, a..z, and none is W (3.6), else 0. Refused: 1 to 4.
 SilverpoiseTold silverpoise_portable(const uint8_t *form, size_t form_count);
 
 // ---- A form and a sheet ----

@@ -21,8 +21,8 @@ use std::io::Write;
 use std::process::ExitCode;
 
 const USAGE: &str = "\
-oracle compare LAYER [SEED COUNT]  the proved code against the Rust, in this process: utf8, checks, forged, forged-lent,
-                                   forged-eval, forged-tables, and live: split, calls, lent, eval, run
+oracle compare LAYER [SEED COUNT]  the proved code against the Rust, in this process: utf8, checks, portable, forged,
+                                   forged-lent, forged-eval, forged-tables, and live: split, calls, lent, eval, run
 oracle read FORM [ARGUMENT..]      a command line read under a form: items and values, by the proved code
 oracle split FORM [ARGUMENT..]     a command line split into items, by the proved code
 oracle utf8 [ARGUMENT..]           each argument's characters, by the proved code

@@ -5,7 +5,8 @@ use crate::form_error::FormError;
 use crate::form_words;
 use crate::kind::{Base, Kind};
 use crate::layout::{self, Layout};
-use crate::node::{Fallback, Node};
+use crate::names::short;
+use crate::node::{Fallback, Node, SHORT};
 
 /// Which options exist, as data: the fields in order, each a [`Node`]. A form that exists has passed the form check.
 #[derive(Clone, Debug, PartialEq, Eq)]
@@ -59,9 +60,19 @@ impl Form {
         &self.bytes
     }
 
-    /// Whether every short name is a letter A..Z or a..z (POSIX chapter 12, guideline 3).
+    /// Whether every short name is one of 0..9, A..Z, a..z, and none is W, which is reserved for vendor options (POSIX chapter 12,
+    /// guideline 3). Long names do not matter.
     pub fn is_portable(&self) -> bool {
         ffi::portable(&self.bytes).answer == 1
+    }
+
+    /// The short names that keep the form from being [portable](Form::is_portable), in its order; none where it is.
+    pub fn unportable_names(&self) -> Vec<char> {
+        let layout = Layout::of(&self.bytes);
+        let names = (0..layout.names()).map(|record| layout.name(record));
+        let shorts =
+            names.filter(|(ty, _)| *ty == SHORT).filter_map(|(_, bytes)| std::str::from_utf8(bytes).ok()?.chars().next());
+        shorts.filter(|name| !Form::of([Node::switch(short(*name))]).is_ok_and(|form| form.is_portable())).collect()
     }
 
     pub(crate) fn kinds(&self) -> &[Kind] {

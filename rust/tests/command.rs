@@ -309,7 +309,7 @@ refused with 27 at place 1 in 13 tries
 
 #[test]
 fn wrong_use_and_help() {
-    let usage = "usage: silverpoise [--emit] [--] FORM WORD...\n";
+    let usage = "usage: silverpoise [--emit | --portable] [--] FORM WORD...\n";
     let wrong = |args: &[&str], words: &str| {
         let Output { status, stdout, stderr } = command(args, b"");
         assert_eq!((status.code(), stdout), (Some(2), Vec::new()), "{args:?}");
@@ -319,11 +319,27 @@ fn wrong_use_and_help() {
     wrong(&["--emit", "--"], &format!("silverpoise: a form is needed\n{usage}"));
     wrong(&["--emti", "x"], &format!("silverpoise: there is no option `--emti`\n{usage}"));
     wrong(&["--emit", "x", "-v"], &format!("silverpoise: `--emit` takes no words behind the form\n{usage}"));
+    wrong(&["--portable", "x", "-v"], &format!("silverpoise: `--portable` takes no words behind the form\n{usage}"));
+    wrong(&["--emit", "--portable", "x"], &format!("silverpoise: `--emit` and `--portable` do not go together\n{usage}"));
     wrong(&["no/such.form"], "silverpoise: no/such.form: No such file or directory (os error 2)\n");
     wrong(&["--", "--help"], "silverpoise: --help: No such file or directory (os error 2)\n");
     let printed = |args: &[&str]| String::from_utf8(command(args, b"").stdout).expect("UTF-8");
     assert!(printed(&["--help"]).contains(usage));
     assert_eq!(printed(&["--version"]), concat!("silverpoise ", env!("CARGO_PKG_VERSION"), "\n"));
+}
+
+#[test]
+fn the_portable_mark() {
+    let said = |text: &[u8]| {
+        let Output { status, stdout, stderr } = command(&["--portable", "-"], text);
+        assert_eq!(stderr, []);
+        (status.code(), String::from_utf8(stdout).expect("UTF-8"))
+    };
+    let yes = "portable: every short option is one of 0..9, A..Z, a..z, and none is W\n";
+    assert_eq!(said(&std::fs::read(form_file("wear.form")).expect("the form")), (Some(0), yes.into()));
+    assert_eq!(said(b"parts: text, many\n"), (Some(0), yes.into()));
+    let no = "not portable:\n  `-W` is reserved for vendor options\n  `-+` is none of 0..9, A..Z, a..z\n";
+    assert_eq!(said(b"a: switch -W --wide\nb: text -+, optional\nc: flag -v, count\n"), (Some(1), no.into()));
 }
 
 /// The words behind the form are the line, those of the command's own options included.

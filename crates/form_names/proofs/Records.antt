@@ -1,5 +1,5 @@
 -- The steps of the functions on name records.
-use mathlib.Core.Bool.{Bool, true, false, not, and-true, or-false}
+use mathlib.Core.Bool.{Bool, true, false, not, and-true, and-false, or-false}
 use mathlib.Core.List.{List}
 use mathlib.Core.Option.{Option, some, none}
 use mathlib.Core.Path.{_≡_, refl, sym, _∙_, ap}
@@ -16,7 +16,7 @@ use Rattle.utf8.specs.declared.Decoded.the-variants.{Char, Bad}
 use Rattle.wire.specs.Wire.{numberAt}
 use Rattle.rules.specs.Base.{firstFault, numbers, isSome}
 use Rattle.rules.specs.Codes.{placeCode}
-use Rattle.rules.specs.Form.{readName, oneCharacter, nameBytes, typeGood, nameGood, isLetter, portableName}
+use Rattle.rules.specs.Form.{readName, oneCharacter, nameBytes, typeGood, nameGood, isAlphanumeric, portableCharacter, portableName}
 use Rattle.form_names.specs.declared.Name as declared
 use Rattle.form_names.specs.Names.{nameOf, namesIn, faultOr}
 use Rattle.form_names.proofs.Faults.{fault-map, fault-here, fault-nowhere}
@@ -79,7 +79,7 @@ module _ (area : List ℕ) (x : declared.Name) where
     by-character :
         (o : Option ℕ)
         → oneCharacter (nameBytes area (nameOf x)) ≡ o
-        → (c ≡ placeCode o) × (portableName area (nameOf x) ≡ elim o [ none ↦ false | some v ↦ isLetter v ])
+        → (c ≡ placeCode o) × (portableName area (nameOf x) ≡ elim o [ none ↦ false | some v ↦ portableCharacter v ])
     unfolding portableName if_then_else_
     by-character none k = (rw (h, k) at r, rw (eq-eqb (x .kind) 0 e, k, portableName))
     by-character (some v) k = (rw (h, k) at r, rw (eq-eqb (x .kind) 0 e, k, portableName))
@@ -89,32 +89,50 @@ module _ (area : List ℕ) (x : declared.Name) where
       where
         go :
             (o : Option ℕ)
-            → (c ≡ placeCode o) × (portableName area (nameOf x) ≡ elim o [ none ↦ false | some v ↦ isLetter v ])
+            → (c ≡ placeCode o) × (portableName area (nameOf x) ≡ elim o [ none ↦ false | some v ↦ portableCharacter v ])
             → false ≡ portableName area (nameOf x)
         go none p = sym (p .1)
         go (some v) p = absurd (omega (arith, p .0))
 
-    pub portable-letter : (c ≡ 0 → ⊥) → (g : Bool) → g ≡ isLetter (c - 1) → g ≡ portableName area (nameOf x)
-    portable-letter z g q = go (oneCharacter (nameBytes area (nameOf x))) (by-character _ refl)
+    pub portable-one : (c ≡ 0 → ⊥) → (g : Bool) → g ≡ portableCharacter (c - 1) → g ≡ portableName area (nameOf x)
+    portable-one z g q = go (oneCharacter (nameBytes area (nameOf x))) (by-character _ refl)
       where
         go :
             (o : Option ℕ)
-            → (c ≡ placeCode o) × (portableName area (nameOf x) ≡ elim o [ none ↦ false | some v ↦ isLetter v ])
+            → (c ≡ placeCode o) × (portableName area (nameOf x) ≡ elim o [ none ↦ false | some v ↦ portableCharacter v ])
             → g ≡ portableName area (nameOf x)
         go none p = absurd (z (p .0))
-        go (some v) p = let less : c - 1 ≡ v = omega (arith, p .0) in q ∙ ap isLetter less ∙ sym (p .1)
+        go (some v) p = let less : c - 1 ≡ v = omega (arith, p .0) in q ∙ ap portableCharacter less ∙ sym (p .1)
 
-pub letter-low : (c : ℕ) → c ≤ 90 → leb 65 c ≡ isLetter c
-unfolding isLetter
-letter-low c h = rw (le-leb c 90 h, lt-leb 97 c (omega arith), and-true (leb 65 c), or-false (leb 65 c))
+module _ (c : ℕ) where
+  pub portable-vendors : c ≡ 87 → false ≡ portableCharacter c
+  unfolding portableCharacter
+  portable-vendors e = rw (eq-eqb c 87 e, and-false (isAlphanumeric c))
 
-pub letter-between : (c : ℕ) → 90 < c → c < 97 → false ≡ isLetter c
-unfolding isLetter
-letter-between c h l = rw (le-leb 65 c (omega arith), lt-leb c 90 h, lt-leb 97 c l)
+  module _ (w : c ≡ 87 → ⊥) where
+    alphanumeric : isAlphanumeric c ≡ portableCharacter c
+    unfolding portableCharacter
+    alphanumeric = rw (ne-eqb c 87 w, and-true (isAlphanumeric c))
 
-pub letter-high : (c : ℕ) → 90 < c → 97 ≤ c → leb c 122 ≡ isLetter c
-unfolding isLetter
-letter-high c h l = rw (le-leb 65 c (omega arith), lt-leb c 90 h, le-leb 97 c l)
+    pub portable-digit : c ≤ 57 → leb 48 c ≡ portableCharacter c
+    unfolding isAlphanumeric
+    portable-digit h =
+        rw (← alphanumeric, le-leb c 57 h, lt-leb 65 c (omega arith), lt-leb 97 c (omega arith), and-true (leb 48 c), or-false (leb 48 c))
+
+    pub portable-upper : 57 < c → c ≤ 90 → leb 65 c ≡ portableCharacter c
+    unfolding isAlphanumeric
+    portable-upper l h =
+        rw (← alphanumeric, le-leb 48 c (omega arith), lt-leb c 57 l, le-leb c 90 h, lt-leb 97 c (omega arith), and-true (leb 65 c), or-false (leb 65 c))
+
+    pub portable-between : 57 < c → 90 < c → c < 97 → false ≡ portableCharacter c
+    unfolding isAlphanumeric
+    portable-between d l h =
+        rw (← alphanumeric, le-leb 48 c (omega arith), lt-leb c 57 d, le-leb 65 c (omega arith), lt-leb c 90 l, lt-leb 97 c h)
+
+    pub portable-lower : 57 < c → 90 < c → 97 ≤ c → leb c 122 ≡ portableCharacter c
+    unfolding isAlphanumeric
+    portable-lower d l h =
+        rw (← alphanumeric, le-leb 48 c (omega arith), lt-leb c 57 d, le-leb 65 c (omega arith), lt-leb c 90 l, le-leb 97 c h)
 
 -- ---- records at fault
 module _ (records area : List ℕ) (n : ℕ) where

@@ -5,7 +5,7 @@ ghost use Prim.Native.Nat.{_+_, _*_, _≤_};
 ghost use lib.ListN.{length};
 ghost use Rattle.rules.specs.Base.{firstFault};
 ghost use Rattle.rules.specs.Codes.{placeCode};
-ghost use Rattle.rules.specs.Form.{readName, nameBytes, oneCharacter, typeGood, nameGood, isLetter, portableName};
+ghost use Rattle.rules.specs.Form.{readName, nameBytes, oneCharacter, typeGood, nameGood, portableCharacter, portableName};
 ghost use Rattle.form_names.specs.Names.{nameOf, namesIn, faultOr};
 
 // A name record; `kind` is its type: 0 short, 1 long, 2 text.
@@ -99,10 +99,16 @@ pub fn names_fault(records: &[u8], area: &[u8], count: usize) -> usize
     count
 }
 
-// Whether a character is one of A..Z, a..z.
-fn is_letter(c: u32) -> bool
-    ensures { λ r. ⌜ r ≡ isLetter c ⌝ }
+// Whether a character is one of 0..9, A..Z, a..z, and not W, which is reserved for vendor options.
+fn portable_character(c: u32) -> bool
+    ensures { λ r. ⌜ r ≡ portableCharacter c ⌝ }
 {
+    if c == 87 {
+        return false;
+    }
+    if c <= 57 {
+        return 48 <= c;
+    }
     if c <= 90 {
         return 65 <= c;
     }
@@ -112,7 +118,7 @@ fn is_letter(c: u32) -> bool
     c <= 122
 }
 
-// Whether a name of type 0 is one of A..Z, a..z; names of other types always pass.
+// Whether a name of type 0 is such a character; names of other types always pass.
 pub fn portable_name(area: &[u8], x: Name) -> bool
     requires { ⌜ x .offset + x .size ≤ length (now area) ⌝ }
     ensures { λ r. ⌜ r ≡ portableName (now (area .entry)) (nameOf x) ⌝ }
@@ -124,5 +130,5 @@ pub fn portable_name(area: &[u8], x: Name) -> bool
     if c == 0 {
         return false;
     }
-    is_letter(c - 1)
+    portable_character(c - 1)
 }

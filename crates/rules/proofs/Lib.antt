@@ -42,6 +42,8 @@ pub mod BenchLaws
 pub mod CallsAnswer
 -- The tests before a call
 pub mod GivenLaws
+-- The portable mark
+pub mod PortableLaws
 -- The demands
 pub mod Demand3Holds
 pub mod Demand1Holds

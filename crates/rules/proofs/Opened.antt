@@ -11,8 +11,8 @@ use Rattle.rules.specs.Value.{listOf, baseNumber, sameBase, baseOf, isBa
 use Rattle.rules.specs.Value.{word, size, answerWords, words, elements}
 use Rattle.rules.specs.Sheet.{argumentCount, sheetArea, sheetGood, sheetFault, arguments}
 use Rattle.rules.specs.Form.{nodeCount, fieldCount, nameCount, areaLength, countsGood, nodesAt, namesAt, areaAt, formLength}
-use Rattle.rules.specs.Form.{formEnd, readNode, readName, readForm, nameBytes, oneCharacter, typeGood, nameGood, isLetter}
-use Rattle.rules.specs.Form.{portableName, portable}
+use Rattle.rules.specs.Form.{formEnd, readNode, readName, readForm, nameBytes, oneCharacter, typeGood, nameGood}
+use Rattle.rules.specs.Form.{isAlphanumeric, portableCharacter, portableName, portable}
 use Rattle.rules.specs.Tree.{optionalKind, listKind, countKind, lastKind, shapeOf, innerBase, sameKind, choiceKind}
 use Rattle.rules.specs.Tree.{baseKind, kindOf, hasRepeat, zeros, namesOf, shortOf, longOf, namedBy, namedOf, flagOf}
 use Rattle.rules.specs.Tree.{argumentOf, positionOf, positionalOf, fitting, repeatOf, fallbackValue, fallbackOf, guardOf}
@@ -49,7 +49,7 @@ unfolding xor flatten if_then_else_ table holds fits leadBits continued scalar d
     combineWith listOf baseNumber sameBase baseOf isBase isOptional isList hasKind ofKind basesOf word size
     answerWords words elements argumentCount sheetArea sheetGood sheetFault arguments nodeCount fieldCount
     nameCount areaLength countsGood nodesAt namesAt areaAt formLength formEnd readNode readName readForm nameBytes
-    oneCharacter typeGood nameGood isLetter portableName portable
+    oneCharacter typeGood nameGood isAlphanumeric portableCharacter portableName portable
 formats = tt
 
 unfoldable pub forms : Unit {0}

@@ -1,5 +1,5 @@
 -- The form: header of counts, field numbers, nodes of 16 bytes, names of 6 bytes, the area.
-use mathlib.Core.Bool.{Bool, true, false, _&&_, _||_}
+use mathlib.Core.Bool.{Bool, true, false, not, _&&_, _||_}
 use mathlib.Core.List.{List, map}
 use mathlib.Core.Option.{Option, some, none}
 use Prim.Native.Nat.{ℕ, _+_, _*_}
@@ -104,13 +104,17 @@ typeGood t s =
 unfoldable pub nameGood : List ℕ → Name → Bool
 nameGood a x = leb (x .offset + x .size) (length a) && typeGood (x .type) (nameBytes a x)
 
--- The portable mark: every name record of type 0 is one of A..Z, a..z
-unfoldable pub isLetter : ℕ → Bool
-isLetter c = (leb 65 c && leb c 90) || (leb 97 c && leb c 122)
+-- The portable mark: every name record of type 0 is one of 0..9, A..Z, a..z, and none is W
+unfoldable pub isAlphanumeric : ℕ → Bool
+isAlphanumeric c = (leb 48 c && leb c 57) || ((leb 65 c && leb c 90) || (leb 97 c && leb c 122))
+
+-- W is reserved for vendor options
+unfoldable pub portableCharacter : ℕ → Bool
+portableCharacter c = isAlphanumeric c && not (eqb c 87)
 
 unfoldable pub portableName : List ℕ → Name → Bool
 portableName a x =
-    if eqb (x .type) 0 then elim (oneCharacter (nameBytes a x)) [ none ↦ false | some c ↦ isLetter c ] else true
+    if eqb (x .type) 0 then elim (oneCharacter (nameBytes a x)) [ none ↦ false | some c ↦ portableCharacter c ] else true
 
 unfoldable pub portable : Form → Bool
 portable f = all (portableName (f .area)) (f .names)

@@ -23,3 +23,4 @@ pub mod Sound
 pub mod WellMade
 pub mod Answered
 pub mod CallsAnswered
+pub mod Portable

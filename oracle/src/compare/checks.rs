@@ -27,10 +27,10 @@ fn kind_code(kind: Kind) -> u32 {
     }
 }
 
-/// Whether every short name is one of A..Z, a..z.
+/// Whether every short name is one of 0..9, A..Z, a..z, and none is W.
 fn is_portable(form: &Form) -> bool {
-    let letter = |n: usize| form.name(n).iter().all(u8::is_ascii_alphabetic) && form.name(n).len() == 1;
-    (0..form.names.len()).all(|n| form.names[n].ty != SHORT || letter(n))
+    let passes = |n: usize| matches!(form.name(n), [c] if c.is_ascii_alphanumeric() && *c != b'W');
+    (0..form.names.len()).all(|n| form.names[n].ty != SHORT || passes(n))
 }
 
 impl Compared {
@@ -68,6 +68,43 @@ impl Compared {
         self.form(&case.form);
         self.sheet(&case.sheet);
     }
+}
+
+/// The form of one switch that has the first of these names: type and text of each name record.
+fn switch_with(names: &[(u16, &str)]) -> Vec<u8> {
+    let area: Vec<u8> = names.iter().flat_map(|(_, text)| text.bytes()).collect();
+    let mut numbers = vec![1, 1, names.len() as u16, area.len() as u16, 0];
+    // a flag with one name that may be absent, and no bounds
+    numbers.extend([1, 0, 1, 1, 0, 0, 0, 0]);
+    let mut offset = 0;
+    for (ty, text) in names {
+        numbers.extend([*ty, offset, text.len() as u16]);
+        offset += text.len() as u16;
+    }
+    let mut bytes: Vec<u8> = numbers.iter().flat_map(|n| n.to_le_bytes()).collect();
+    bytes.extend(area);
+    bytes
+}
+
+/// Every scalar value as the one short name of a form, of which 61 are portable; and every character of ASCII as a name of each
+/// type that no node uses, behind a short name that is portable and one that is not.
+pub fn compare_portable() -> Compared {
+    let mut compared = Compared::default();
+    let mut yes = 0;
+    for c in '\0'..=char::MAX {
+        let bytes = switch_with(&[(SHORT, c.encode_utf8(&mut [0; 4]))]);
+        compared.form(&bytes);
+        yes += portable(&bytes).answer;
+    }
+    compared.same("portable", &|| "all scalar values".to_string(), yes, 61);
+    for c in '\0'..='\x7f' {
+        for ty in [SHORT, LONG, TEXT] {
+            for used in ["v", "+"] {
+                compared.form(&switch_with(&[(SHORT, used), (ty, c.encode_utf8(&mut [0; 4]))]));
+            }
+        }
+    }
+    compared
 }
 
 /// Every single change of a good form or sheet at each limit, and `count` random cases, two in three damaged.

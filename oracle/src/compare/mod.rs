@@ -57,6 +57,7 @@ pub fn compare(layer: &str, seed: u64, count: Option<u64>) -> Option<Compared> {
     Some(match layer {
         "utf8" => utf8::compare(seed, count.unwrap_or(1_000_000)),
         "checks" => checks::compare(seed, count.unwrap_or(250_000)),
+        "portable" => checks::compare_portable(),
         "forged" => calls::compare_forged(seed, count.unwrap_or(200_000)),
         "forged-lent" => lent::compare_forged(seed, count.unwrap_or(150_000)),
         "forged-eval" => run::compare_forged(seed, count.unwrap_or(100_000)),

@@ -46,9 +46,14 @@ fn fields_and_sides_are_put_one_behind_the_other() {
 #[test]
 fn portable() {
     let portable = |names: Names| Form::of([Node::switch(names)]).unwrap().is_portable();
-    assert!(portable(short('v').long("7 é")));
-    assert!(!portable(short('v').short('7')));
+    assert!(portable(short('v').long("+ W é")));
+    assert!(portable(long("+")));
     assert!(!portable(long("v").short('é')));
+    let yes: String = ('\0'..='\u{ff}').filter(|c| portable(short(*c))).collect();
+    assert_eq!(yes, "0123456789ABCDEFGHIJKLMNOPQRSTUVXYZabcdefghijklmnopqrstuvwxyz");
+    let named = |names: Names| Form::of([Node::switch(names), Node::switch(short('v'))]).unwrap().unportable_names();
+    assert_eq!(named(short('7').long("W")), []);
+    assert_eq!(named(short('W').short('a').short('é').long("+")), ['W', 'é']);
 }
 
 #[test]

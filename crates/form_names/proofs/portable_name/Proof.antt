@@ -1,6 +1,6 @@
 -- Only a name of type 0 is tested. Assumes nothing.
 use borrow.Author.Needs.{needs}
-use Rattle.form_names.proofs.Records.{portable-other, portable-none, portable-letter}
+use Rattle.form_names.proofs.Records.{portable-other, portable-none, portable-one}
 use Rattle.form_names.proofs.portable_name.Statement.{statement}
 use Rattle.form_names.proofs.portable_name.Tie as tie
 
@@ -16,14 +16,14 @@ character-requires c κs = search needs
 returns-2 : tie.Need-returns-2
 returns-2 c = search portable-none
 
-sub-is-letter : tie.Need-sub-is-letter
-sub-is-letter c = search needs
+sub-portable-character : tie.Need-sub-portable-character
+sub-portable-character c = search needs
 
-is-letter-requires : tie.Need-is-letter-requires
-is-letter-requires c κs = search needs
+portable-character-requires : tie.Need-portable-character-requires
+portable-character-requires c κs = search needs
 
 returns-3 : tie.Need-returns-3
-returns-3 c = search portable-letter
+returns-3 c = search portable-one
 
 pub portable-name-spec : {M : Type 1} → statement M
 portable-name-spec =
@@ -33,6 +33,6 @@ portable-name-spec =
     bytes-requires
     character-requires
     returns-2
-    sub-is-letter
-    is-letter-requires
+    sub-portable-character
+    portable-character-requires
     returns-3)

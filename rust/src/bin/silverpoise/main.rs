@@ -19,20 +19,22 @@ use std::process::ExitCode;
 
 use notation::Written;
 use show::Paint;
+use silverpoise::Form;
 use source::{Fault, Spot};
 
-const USAGE: &str = "usage: silverpoise [--emit] [--] FORM WORD...";
+const USAGE: &str = "usage: silverpoise [--emit | --portable] [--] FORM WORD...";
 
 const HELP: &str = "\
 Reads the words as a command line by the form, and shows how it was read.
 
-usage: silverpoise [--emit] [--] FORM WORD...
+usage: silverpoise [--emit | --portable] [--] FORM WORD...
 
-  FORM       a file with one field a line; - is standard input
-  WORD...    the line; all words behind FORM belong to it
-  --emit     write the form as bytes, for `bench` and other programs; no words
-  --help     print this
-  --version  print the version
+  FORM        a file with one field a line; - is standard input
+  WORD...     the line; all words behind FORM belong to it
+  --emit      write the form as bytes, for `bench` and other programs; no words
+  --portable  say whether POSIX has such short options; no words
+  --help      print this
+  --version   print the version
 
 A form:
 
@@ -50,7 +52,7 @@ A form:
   catch (behind optional, many, some), adjacent (of text NAMES and number NAMES),
   strict and non-strict (of text and number without names)
 
-Exit status: 0 values, 1 the line is refused, 2 wrong use or a form at fault.
+Exit status: 0 values, 1 the line is refused or the form is not portable, 2 wrong use or a form at fault.
 docs/COMMAND.md says more.
 ";
 
@@ -58,6 +60,7 @@ enum Use<'a> {
     Help,
     Version,
     Emit(&'a OsStr),
+    Portable(&'a OsStr),
     Read(&'a OsStr, &'a [OsString]),
 }
 
@@ -76,13 +79,18 @@ fn main() -> ExitCode {
 
 /// What the command's own arguments ask for.
 fn wanted(args: &[OsString]) -> Result<Use<'_>, String> {
-    let mut emit = false;
+    let mut asked = None;
     let mut rest = args;
     while let [first, behind @ ..] = rest {
         match first.as_bytes() {
             b"--help" => return Ok(Use::Help),
             b"--version" => return Ok(Use::Version),
-            b"--emit" => emit = true,
+            b"--emit" | b"--portable" => {
+                if asked.is_some_and(|other| other != first) {
+                    return Err(format!("silverpoise: `--emit` and `--portable` do not go together\n{USAGE}"));
+                }
+                asked = Some(first);
+            }
             b"--" => {
                 rest = behind;
                 break;
@@ -92,11 +100,12 @@ fn wanted(args: &[OsString]) -> Result<Use<'_>, String> {
         }
         rest = behind;
     }
-    match rest {
-        [] => Err(format!("silverpoise: a form is needed\n{USAGE}")),
-        [form] if emit => Ok(Use::Emit(form)),
-        [_, ..] if emit => Err(format!("silverpoise: `--emit` takes no words behind the form\n{USAGE}")),
-        [form, line @ ..] => Ok(Use::Read(form, line)),
+    match (asked, rest) {
+        (_, []) => Err(format!("silverpoise: a form is needed\n{USAGE}")),
+        (None, [form, line @ ..]) => Ok(Use::Read(form, line)),
+        (Some(option), [form]) if option == "--emit" => Ok(Use::Emit(form)),
+        (Some(_), [form]) => Ok(Use::Portable(form)),
+        (Some(option), _) => Err(format!("silverpoise: `{}` takes no words behind the form\n{USAGE}", named(option))),
     }
 }
 
@@ -106,11 +115,28 @@ fn run(wanted: Use) -> Result<(u8, Vec<u8>), String> {
         Use::Help => Ok((0, HELP.into())),
         Use::Version => Ok((0, concat!("silverpoise ", env!("CARGO_PKG_VERSION"), "\n").into())),
         Use::Emit(file) => Ok((0, form(file)?.form.bytes().to_vec())),
+        Use::Portable(file) => {
+            let (status, text) = portable(&form(file)?.form);
+            Ok((status, text.into_bytes()))
+        }
         Use::Read(file, line) => {
             let (status, text) = read(&form(file)?, line, paint());
             Ok((status, text.into_bytes()))
         }
     }
+}
+
+/// The portable mark, and the short names that take it away.
+fn portable(form: &Form) -> (u8, String) {
+    if form.is_portable() {
+        return (0, "portable: every short option is one of 0..9, A..Z, a..z, and none is W\n".into());
+    }
+    let why = |name| match name {
+        'W' => "is reserved for vendor options",
+        _ => "is none of 0..9, A..Z, a..z",
+    };
+    let row = |name: char| format!("  `-{}` {}\n", shown::shown_char(name), why(name));
+    (1, format!("not portable:\n{}", form.unportable_names().into_iter().map(row).collect::<String>()))
 }
 
 fn print(bytes: &[u8]) -> Result<(), String> {
