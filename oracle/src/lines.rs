@@ -146,6 +146,8 @@ fn doubtful_splits(t: &mut Tests) {
     t.refused(LETTERS, &line, 9, Some(255));
     line.insert(0, b"a");
     t.refused(LETTERS, &line, 8, None);
+    line[255] = b"-vq";
+    t.refused(LETTERS, &line, 8, None);
     // a long cluster that is withdrawn is one Word, whatever room is left
     let mut cluster = vec![b'v'; 1000];
     cluster[0] = b'-';

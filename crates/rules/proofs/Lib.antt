@@ -44,6 +44,8 @@ pub mod CallsAnswer
 pub mod GivenLaws
 -- The portable mark
 pub mod PortableLaws
+-- Clusters
+pub mod ClusterLaws
 -- The demands
 pub mod Demand3Holds
 pub mod Demand1Holds

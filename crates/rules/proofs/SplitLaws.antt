@@ -49,7 +49,7 @@ letter-ok b s w = go (decode (b ∷ s)) refl
     go Bad e = absurd (false≢true (rw e at w))
     go (Char c n) e = (c, n, e, rw zero-add at (character (b ∷ s) 0 c n e .within), rw e at w)
 
-cluster-step :
+pub cluster-step :
     (k b c n : ℕ) (s : List ℕ) (ls : List Letter)
     → decode (b ∷ s) ≡ Char c n
     → n ≤ length (b ∷ s)
@@ -457,7 +457,7 @@ pub record-length : (begin end : ℕ) (x : Item) → length (itemWords begin end
 unfolding itemWords recordWords
 record-length begin end x = refl
 
-group-length : (begin end : ℕ) (is : List Item) → length (concatMap (itemWords begin end) is) ≡ 7 * length is
+pub group-length : (begin end : ℕ) (is : List Item) → length (concatMap (itemWords begin end) is) ≡ 7 * length is
 unfolding concatMap
 group-length begin end [] = refl
 group-length begin end (x ∷ is) =

@@ -24,3 +24,4 @@ pub mod WellMade
 pub mod Answered
 pub mod CallsAnswered
 pub mod Portable
+pub mod Clusters

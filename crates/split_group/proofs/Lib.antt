@@ -2,3 +2,4 @@ pub mod Stores
 pub mod Flags
 pub mod Records
 pub mod Groups
+pub mod Written

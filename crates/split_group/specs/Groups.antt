@@ -2,10 +2,11 @@
 use mathlib.Core.Path.{_≡_}
 use mathlib.Core.Bool.{true, false}
 use mathlib.Core.List.{List, [], _∷_, _++_}
+use mathlib.Core.Logic.{_⊎_}
 use mathlib.Core.Option.{some}
 use Prim.Native.Nat.{ℕ, _+_, _*_, _^_, _≤_, _<_}
 use lib.Dec.{leb}
-use lib.ListN.{length, take, drop}
+use lib.ListN.{length, take, drop, getElem?}
 use lib.Seq.{sets}
 use Rattle.utf8.specs.Utf8.{if_then_else_, wellFormed}
 use Rattle.rules.specs.Base.{concatMap}
@@ -77,3 +78,9 @@ pub record Makes (os : List ℕ) (begin at : ℕ) (before after : List ℕ) (r :
 abbrev pub MakesValue : List ℕ → ℕ → ℕ → ℕ → List ℕ → List ℕ → Group → Type 0
 MakesValue os begin body at before after r =
     (l : Letters) → Makes os begin at before after r (shortGroup l os (take 1 (drop 1 os)) (some (drop body os)))
+
+-- ---- where they write
+-- the words before the first of n items and behind the last are as they were
+pub record Untouched (before after : List ℕ) (at n : ℕ) : Type 0 where
+  pub long : length after ≡ length before
+  pub outside : (k : ℕ) → (k < 7 * at) ⊎ (7 * (at + n) ≤ k) → getElem? after k ≡ getElem? before k

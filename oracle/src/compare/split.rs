@@ -148,7 +148,16 @@ fn arguments(symbols: usize) -> Vec<Vec<u8>> {
     all
 }
 
-/// All lines of one argument of up to five symbols, of two of up to three, of three of up to two; then `count` random ones.
+/// Clusters of one letter repeated, then nothing, an unknown letter, an ambiguous one, or an argument's with a value.
+#[cfg(live)]
+fn long_clusters() -> Vec<Vec<u8>> {
+    let lengths = [1, 2, 3, 254, 255, 256, 257, 1000];
+    let ends: [&[u8]; 4] = [b"", b"x", b"b", b"w7"];
+    lengths.iter().flat_map(|n| ends.map(|end| [b"-", vec![b'v'; *n].as_slice(), end].concat())).collect()
+}
+
+/// All lines of one argument of up to five symbols, of two of up to three, of three of up to two; those of up to three symbols and
+/// the long clusters behind so many words that a few places are left, one or none; then `count` random ones.
 #[cfg(live)]
 pub fn compare(seed: u64, count: u64) -> Compared {
     let mut compared = Compared::default();
@@ -163,6 +172,11 @@ pub fn compare(seed: u64, count: u64) -> Compared {
     five.iter().for_each(|a| each(&[a]));
     three.iter().for_each(|a| three.iter().for_each(|b| each(&[a, b])));
     two.iter().for_each(|a| two.iter().for_each(|b| two.iter().for_each(|c| each(&[a, b, c]))));
+    let word = b"a".to_vec();
+    for words in [0, 1, 252, 253, 254, 255, 256] {
+        let before = vec![&word; words];
+        three.iter().chain(&long_clusters()).for_each(|last| each(&[before.as_slice(), &[last]].concat()));
+    }
     let mut rng = Rng::new(seed);
     cases::limits().iter().enumerate().for_each(|(k, case)| compared.split(case, length(k as u64)));
     for k in 0..count {
