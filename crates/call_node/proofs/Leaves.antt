@@ -14,12 +14,12 @@ use Rattle.utf8.specs.Utf8.{if_then_else_}
 use Rattle.rules.specs.Base.{occurrences, numbers, concatMap}
 use Rattle.rules.specs.Form.{Node, Form, readForm}
 use Rattle.rules.specs.Tree.{Tree}
-use Rattle.rules.specs.Accept.{Accepted, accepted, checkForm, treesAt, childrenOf, uses, usedOnce, leafCount}
+use Rattle.rules.specs.Accept.{Accepted, accepted, checkForm, treesAt, childrenOf, uses, usedOnce}
 use Rattle.rules.specs.Demands.{All}
 use Rattle.rules.specs.Sound.{leaves, allLeaves}
 use Rattle.rules.proofs.Acceptance.{Made, flagMade, argumentMade, positionalMade, optionalMade, manyMade, someMade, countMade, lastMade, choiceMade, fallbackMade, guardMade, Child, TreesAt}
 use Rattle.rules.proofs.Acceptance.{trees-made, trees-length, fields-step, no-fault, lookup-inside, numbers-all, Passed, accepted-passed, accepted-length, accepted-form}
-use Rattle.rules.proofs.Uses.{used-once, leaves-law}
+use Rattle.rules.proofs.Uses.{used-once, leaves-law, leaf-few}
 use Rattle.form_layout.proofs.Sizes.{sized, nodes-length}
 
 -- ---- a number that occurs in a list
@@ -132,15 +132,6 @@ fields-within ts (k ∷ ks) us n e l =
     )
 
 -- ---- every node
-leaf-few : (xs : List Node) → leafCount xs ≤ length xs
-unfolding leafCount if_then_else_
-leaf-few [] = omega arith
-leaf-few (x ∷ xs) = go (leb (x .kind) 3) refl (leaf-few xs)
-  where
-    go : (t : Bool) → leb (x .kind) 3 ≡ t → leafCount xs ≤ length xs → leafCount (x ∷ xs) ≤ suc (length xs)
-    go true e h = rw e (omega arith)
-    go false e h = rw e (omega arith)
-
 module _ (f : Form) (a : Accepted) (p : Passed f a) (n : ℕ) (few : allLeaves (a .fields) ≤ n) where
   used : (k : ℕ) → k < length (a .trees) → occurrences k (uses f) ≡ 0 → ⊥
   used k h z =

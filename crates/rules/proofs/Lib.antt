@@ -46,6 +46,8 @@ pub mod GivenLaws
 pub mod PortableLaws
 -- Clusters
 pub mod ClusterLaws
+-- Refusal 20
+pub mod MissingLaws
 -- The demands
 pub mod Demand3Holds
 pub mod Demand1Holds

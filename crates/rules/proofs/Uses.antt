@@ -241,3 +241,13 @@ pub leaves-law : (b : List ℕ) (a : Accepted) → checkForm b ≡ accepted a �
 leaves-law b a e =
     let p = accepted-passed b a e in
     passed-leaves (readForm b) a p ∙ ap (λ (f : Form). leafCount (f .nodes)) (sym (p .form))
+
+-- and no more than its nodes
+pub leaf-few : (xs : List Node) → leafCount xs ≤ length xs
+unfolding leafCount if_then_else_
+leaf-few [] = omega arith
+leaf-few (x ∷ xs) = go (leb (x .kind) 3) refl (leaf-few xs)
+  where
+    go : (t : Bool) → leb (x .kind) 3 ≡ t → leafCount xs ≤ length xs → leafCount (x ∷ xs) ≤ suc (length xs)
+    go true e h = rw e (omega arith)
+    go false e h = rw e (omega arith)

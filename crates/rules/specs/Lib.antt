@@ -25,3 +25,4 @@ pub mod Answered
 pub mod CallsAnswered
 pub mod Portable
 pub mod Clusters
+pub mod Missing

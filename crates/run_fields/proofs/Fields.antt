@@ -6,15 +6,13 @@ use mathlib.Core.Logic.{_⊎_, inl, ⊎-elim}
 use mathlib.Core.Path.{_≡_, refl, sym, ap, _∙_}
 use Prim.Native.Nat.{ℕ, zero, suc, _≤_, _<_}
 use native.Mathlib.Omega.{arith}
-use lib.Dec.{leb}
 use lib.ListN.{length, getElem?}
-use Rattle.utf8.specs.Utf8.{if_then_else_}
 use Rattle.rules.specs.Form.{Node, Form, nodeCount, fieldCount, readForm}
 use Rattle.rules.specs.Tree.{Tree, kindOf}
-use Rattle.rules.specs.Accept.{Accepted, accepted, checkForm, lengthGood, treesAt, leafCount}
+use Rattle.rules.specs.Accept.{Accepted, accepted, checkForm, lengthGood, treesAt}
 use Rattle.rules.specs.Sound.{Sound, leaves, allLeaves}
 use Rattle.rules.proofs.Acceptance.{All-at, fields-step, accepted-passed, accepted-length, accepted-form, accepted-sound, accepted-fields}
-use Rattle.rules.proofs.Uses.{leaves-law}
+use Rattle.rules.proofs.Uses.{leaves-law, leaf-few}
 use Rattle.form_layout.specs.Layout.{nodeOf}
 use Rattle.form_layout.specs.declared.Node as declared
 use Rattle.form_layout.proofs.Sizes.{sized, nodes-length, fields-length}
@@ -121,15 +119,6 @@ pub value-put :
 value-put o at o′ x len r w q = rw q (record { put = w; same = refl })
 
 -- ---- the fields of an accepted form
-leaf-few : (xs : List Node) → leafCount xs ≤ length xs
-unfolding leafCount if_then_else_
-leaf-few [] = omega arith
-leaf-few (x ∷ xs) = go (leb (x .kind) 3) refl (leaf-few xs)
-  where
-    go : (t : Bool) → leb (x .kind) 3 ≡ t → leafCount xs ≤ length xs → leafCount (x ∷ xs) ≤ suc (length xs)
-    go true e h = rw e (omega arith)
-    go false e h = rw e (omega arith)
-
 leaves-within : (ts : List Tree) (k : ℕ) (t : Tree) → getElem? ts k ≡ some t → leaves t ≤ allLeaves ts
 unfolding allLeaves
 leaves-within [] k t e = absurd (Option·none-ne-some t e)

@@ -1,0 +1,709 @@
+-- A refusal 20 leaves the state that was given, and its entries have that state's scope.
+use mathlib.Core.Bool.{Bool, true, false, not, _&&_, or-true, true≢false}
+use mathlib.Core.List.{List, [], _∷_, _++_}
+use mathlib.Core.Option.{Option, some, none}
+use mathlib.Core.Path.{_≡_, refl, sym, ap, _∙_, subst}
+use Prim.Native.Nat.{ℕ, zero, suc, _+_, _*_, _≤_}
+use native.Mathlib.Omega.{arith}
+use lib.Dec.{leb}
+use lib.ListN.{length, length-append, getElem?}
+use borrow.Author.Tests.{eq-eqb, ne-eqb}
+use Rattle.utf8.specs.Utf8.{if_then_else_}
+use Rattle.rules.specs.Base.{null, minus, write}
+use Rattle.rules.specs.Outcome.{Spot, Outcome, ok, refused, fault, panic, _>>=_, at, MissingItem, Refusal, refuse, isMissing, canCatch, wrongInput, combineWith}
+use Rattle.rules.specs.Outcome.{argsIter635, remove431, remove433, remove434, shortLong125, shortLong126, shortLong127}
+use Rattle.rules.specs.Outcome.{parseFlag559, takeArgument679, orElse305, orElse307}
+use Rattle.rules.specs.Value.{Base, yesNo, text, number, isYes, isText, isNumber, BaseValue, Value, base, absent, present as there, nil, cons, listOf}
+use Rattle.rules.specs.Tree.{Named, Position, unrestricted, strict, nonStrict, Tree, Flag, Argument, Positional, Optional, Many, Some, Count, Last, Choice, Fallback, Guard}
+use Rattle.rules.specs.Form.{Form}
+use Rattle.rules.specs.Accept.{Accepted, accepted, checkForm}
+use Rattle.rules.specs.Split.{Item}
+use Rattle.rules.specs.State.{State, Found, Picked, inScope, present, unused, get, findIn, find, first, used, remove, withCurrent}
+use Rattle.rules.specs.Take.{took, matchesArg, takeFlag, valueText, takeValue, takeArg, Operand, isOperand, operand, takePositionalWord}
+use Rattle.rules.specs.Eval.{Ran, ended, after, _then_, visit, leaf, refuseMissing, shownName, notFound, flagValue, evalFlag, numberOf, parseText, argumentValue, evalArgument}
+use Rattle.rules.specs.Eval.{wrongPosition, placedValue, positionalValue, evalPositional, fewer, swallowed, parseOption, evalOptional, idle, repeat, repeated}
+use Rattle.rules.specs.Eval.{evalMany, evalSome, evalCount, lastOf, evalLast, side, picksFirst, won, valueOf, picked, chosen, evalChoice, evalFallback, guarded, evalGuard, eval}
+use Rattle.rules.specs.Run.{runFields, leftOver, runAll}
+use Rattle.rules.specs.Demands.{All}
+use Rattle.rules.specs.Sound.{leaves, allLeaves}
+use Rattle.rules.specs.Missing.{LookedIn, Lacks, MissingTold}
+use Rattle.rules.proofs.Acceptance.{accepted-form}
+use Rattle.rules.proofs.Uses.{leaves-law, leaf-few}
+use Rattle.rules.proofs.WellMadeLaws.{node-count, well-made}
+
+-- ---- refusals with entries and without
+abbrev Tells : {A : Type 0} → ℕ → State → Outcome A → State → Type 0
+Tells n s (ok a) left = Unit {0}
+Tells n s (refused e) left = Lacks n s left e
+Tells n s (fault x) left = Unit {0}
+
+abbrev RanTells : {A : Type 0} → ℕ → State → Ran A → Type 0
+RanTells n s r = Tells n s (r .outcome) (r .state)
+
+-- no refusal is 20
+abbrev Never : {A : Type 0} → Outcome A → Type 0
+Never (ok a) = Unit {0}
+Never (refused e) = (isMissing e ≡ false) × (e .missing ≡ [])
+Never (fault x) = Unit {0}
+
+abbrev RanNever : {A : Type 0} → Ran A → Type 0
+RanNever r = Never (r .outcome)
+
+abbrev NoRefusal : {A : Type 0} → Outcome A → Type 0
+NoRefusal (ok a) = Unit {0}
+NoRefusal (refused e) = ⊥
+NoRefusal (fault x) = Unit {0}
+
+no-entries : (n : ℕ) (s left : State) (e : Refusal) → isMissing e ≡ false → e .missing ≡ [] → Lacks n s left e
+no-entries n s left e h m = record {
+  only = λ _. m;
+  unchanged = λ t. absurd (true≢false (sym t ∙ h));
+  scopes = rw m tt;
+  few = rw m (omega arith);
+}
+
+never-tells : {A : Type 0} (n : ℕ) (s left : State) (o : Outcome A) → Never o → Tells n s o left
+never-tells n s left (ok a) h = tt
+never-tells n s left (refused e) h = no-entries n s left e (h .0) (h .1)
+never-tells n s left (fault x) h = tt
+
+plain-never : (k : ℕ) (p : Option ℕ) → (k ≡ 20 → ⊥) → (isMissing (refuse k p) ≡ false) × (refuse k p .missing ≡ [])
+unfolding isMissing
+plain-never k p h = (ne-eqb k 20 h, refl)
+
+plain-tells : (n : ℕ) (s left : State) (k : ℕ) (p : Option ℕ) → (k ≡ 20 → ⊥) → Lacks n s left (refuse k p)
+plain-tells n s left k p h = let x = plain-never k p h in no-entries n s left (refuse k p) (x .0) (x .1)
+
+one-missing : (n : ℕ) (s : State) → Lacks 1 s s (refuseMissing n s)
+unfolding refuseMissing isMissing
+one-missing n s = record {
+  only = λ h. absurd (true≢false (sym (eq-eqb 20 20 refl) ∙ h));
+  unchanged = λ _. refl;
+  scopes = ((refl, refl), tt);
+  few = omega arith;
+}
+
+-- ---- what never refuses
+bind-none : {A B : Type 0} (o : Outcome A) (f : A → Outcome B) → NoRefusal o → ((a : A) → NoRefusal (f a)) → NoRefusal (o >>= f)
+unfolding _>>=_
+bind-none (ok a) f h g = g a
+bind-none (refused e) f h g = h
+bind-none (fault x) f h g = tt
+
+at-none : {A : Type 0} (spot : Spot) (o : Option A) → NoRefusal (at spot o)
+unfolding at
+at-none spot none = tt
+at-none spot (some a) = tt
+
+find-none : (is : List Item) (test : Item → Bool) (places : List ℕ) → NoRefusal (findIn is test places)
+unfolding findIn if_then_else_
+find-none is test [] = tt
+find-none is test (i ∷ places) =
+    bind-none (at argsIter635 (getElem? is i)) _ (at-none _ _) (λ x. go x (test x) (find-none is test places))
+  where
+    go :
+        (x : Item) (b : Bool)
+        → NoRefusal (findIn is test places)
+        → NoRefusal (if b then ok (some (record { place = i; item = x })) else findIn is test places)
+    go x true h = tt
+    go x false h = h
+
+remove-none : (mark : ℕ) (s : State) (i : ℕ) → NoRefusal (remove mark s i)
+unfolding remove if_then_else_
+remove-none mark s i = go (inScope s i)
+  where
+    there-none : (b : Bool) → NoRefusal (if b
+        then (at remove433 (minus (s .remaining) 1) >>= λ left. at remove434 (write (s .marks) i mark) >>= λ marks. ok (used s i marks left))
+        else ok s)
+    there-none true = bind-none (at remove433 (minus (s .remaining) 1)) _ (at-none _ _) (λ left. bind-none (at remove434 (write (s .marks) i mark)) _ (at-none _ _) (λ marks. tt))
+    there-none false = tt
+
+    go : (b : Bool) → NoRefusal (if b
+        then (at remove431 (getElem? (s .marks) i) >>= λ m. if present m
+        then (at remove433 (minus (s .remaining) 1) >>= λ left. at remove434 (write (s .marks) i mark) >>= λ marks. ok (used s i marks left))
+        else ok s)
+        else ok s)
+    go true = bind-none (at remove431 (getElem? (s .marks) i)) _ (at-none _ _) (λ m. there-none (present m))
+    go false = tt
+
+-- ---- leaves
+shown-none : (m : Named) → NoRefusal (shownName m)
+unfolding shownName if_then_else_
+shown-none m = go (null (m .shorts)) (null (m .longs))
+  where
+    go : (a b : Bool) → NoRefusal (if a
+        then (if b then ok false else (at shortLong125 (getElem? (m .longs) 0) >>= λ _. ok true))
+        else (if b
+        then (at shortLong126 (getElem? (m .shorts) 0) >>= λ _. ok true)
+        else (at shortLong127 (getElem? (m .shorts) 0) >>= λ _. at shortLong127 (getElem? (m .longs) 0) >>= λ _. ok true)))
+    go true true = tt
+    go true false = bind-none (at shortLong125 (getElem? (m .longs) 0)) _ (at-none _ _) (λ _. tt)
+    go false true = bind-none (at shortLong126 (getElem? (m .shorts) 0)) _ (at-none _ _) (λ _. tt)
+    go false false =
+        bind-none (at shortLong127 (getElem? (m .shorts) 0)) _ (at-none _ _) (λ _. bind-none (at shortLong127 (getElem? (m .longs) 0)) _ (at-none _ _) (λ _. tt))
+
+not-found-tells : (unnamed : Spot) (n : ℕ) (m : Named) (s : State) → Tells 1 s (notFound unnamed n m s) s
+unfolding notFound _>>=_ if_then_else_
+not-found-tells unnamed n m s = go (shownName m) (shown-none m)
+  where
+    go : (o : Outcome Bool) → NoRefusal o → Tells {A = Value} 1 s (o >>= λ shown. if shown then refused (refuseMissing n s) else fault (panic unnamed)) s
+    go (ok true) h = one-missing n s
+    go (ok false) h = tt
+    go (refused e) h = absurd h
+    go (fault x) h = tt
+
+parse-never : (b : Base) (i : ℕ) (t : List ℕ) (s : State) → Never (parseText b i t s)
+unfolding parseText
+parse-never yesNo i t s = tt
+parse-never text i t s = tt
+parse-never number i t s = go (numberOf t)
+  where
+    go : (o : Option ℕ) → Never {A = Value} (elim o [ none ↦ refused (refuse 25 (s .current)) | some n ↦ ok (base (isNumber n)) ])
+    go none = plain-never 25 (s .current) (λ e. omega arith)
+    go (some n) = tt
+
+-- `Flag`
+flag-used : (n : ℕ) (m : Named) (w : Bool) (s : State) (u : Outcome State) → NoRefusal u → RanTells 1 s (leaf s (u >>= λ t. took true t) (flagValue n m w))
+unfolding leaf took flagValue _>>=_ if_then_else_
+flag-used n m w s (ok t) h = tt
+flag-used n m w s (refused e) h = absurd h
+flag-used n m w s (fault x) h = tt
+
+flag-absent : (n : ℕ) (m : Named) (w : Bool) (s : State) → Tells 1 s (flagValue n m w false s) s
+unfolding flagValue if_then_else_
+flag-absent n m true s = tt
+flag-absent n m false s = not-found-tells parseFlag559 n m s
+
+flag-tells : (mark : ℕ) (is : List Item) (n : ℕ) (m : Named) (w : Bool) (s : State) → RanTells 1 s (evalFlag mark is n m w s)
+unfolding evalFlag takeFlag find leaf took _>>=_
+flag-tells mark is n m w s = go (findIn is (matchesArg m false) (unused s)) (find-none is (matchesArg m false) (unused s))
+  where
+    go :
+        (o : Outcome (Option Found))
+        → NoRefusal o
+        → RanTells 1 s (leaf s (o >>= λ x. elim x [ none ↦ took false s | some k ↦ remove mark s (k .place) >>= λ t. took true t ]) (flagValue n m w))
+    go (ok none) h = flag-absent n m w s
+    go (ok (some k)) h = flag-used n m w s (remove mark s (k .place)) (remove-none mark s (k .place))
+    go (refused e) h = absurd h
+    go (fault x) h = tt
+
+-- `Argument`
+argument-used :
+    (mark n : ℕ) (m : Named) (b : Base) (s : State) (key : ℕ) (o : Option (List ℕ))
+    → RanTells 1 s (leaf s (takeValue mark s key o) (argumentValue n m b))
+unfolding takeValue leaf argumentValue took _>>=_
+argument-used mark n m b s key none = plain-tells 1 s s 22 (some key) (λ e. omega arith)
+argument-used mark n m b s key (some t) =
+    first-used (remove mark (withCurrent (some (suc key)) s) key) (remove-none mark (withCurrent (some (suc key)) s) key)
+  where
+    second-used : (u : Outcome State) → NoRefusal u → RanTells 1 s (leaf s (u >>= λ v. took (some (record { place = suc key; text = t })) v) (argumentValue n m b))
+    second-used (ok v) h = never-tells 1 s v (parseText b (suc key) t v) (parse-never b (suc key) t v)
+    second-used (refused e) h = absurd h
+    second-used (fault x) h = tt
+
+    first-used :
+        (u : Outcome State)
+        → NoRefusal u
+        → RanTells 1 s (leaf s (u >>= λ v. remove mark v (suc key) >>= λ w. took (some (record { place = suc key; text = t })) w) (argumentValue n m b))
+    first-used (ok v) h = second-used (remove mark v (suc key)) (remove-none mark v (suc key))
+    first-used (refused e) h = absurd h
+    first-used (fault x) h = tt
+
+argument-tells :
+    (mark : ℕ) (is : List Item) (n : ℕ) (m : Named) (b : Base) (a : Bool) (s : State) → RanTells 1 s (evalArgument mark is n m b a s)
+unfolding evalArgument takeArg find leaf argumentValue took _>>=_
+argument-tells mark is n m b a s = go (findIn is (matchesArg m a) (unused s)) (find-none is (matchesArg m a) (unused s))
+  where
+    go :
+        (o : Outcome (Option Found))
+        → NoRefusal o
+        → RanTells 1 s (leaf s (o >>= λ x. elim x [ none ↦ took none s | some k ↦ takeValue mark s (k .place) (valueText (get is s (suc (k .place)))) ]) (argumentValue n m b))
+    go (ok none) h = not-found-tells takeArgument679 n m s
+    go (ok (some k)) h = argument-used mark n m b s (k .place) (valueText (get is s (suc (k .place))))
+    go (refused e) h = absurd h
+    go (fault x) h = tt
+
+-- `Positional`
+placed-never : (p : Position) (b : Base) (x : Operand) (s : State) → Never (placedValue p b x s)
+unfolding placedValue wrongPosition if_then_else_
+placed-never unrestricted b x s = parse-never b (x .place) (x .text) s
+placed-never strict b x s = go (x .strict)
+  where
+    go : (w : Bool) → Never {A = Value} (elim (wrongPosition strict w) [ none ↦ parseText b (x .place) (x .text) s | some n ↦ refused (refuse n (some (x .place))) ])
+    go true = parse-never b (x .place) (x .text) s
+    go false = plain-never 23 (some (x .place)) (λ e. omega arith)
+placed-never nonStrict b x s = go (x .strict)
+  where
+    go : (w : Bool) → Never {A = Value} (elim (wrongPosition nonStrict w) [ none ↦ parseText b (x .place) (x .text) s | some n ↦ refused (refuse n (some (x .place))) ])
+    go true = plain-never 24 (some (x .place)) (λ e. omega arith)
+    go false = parse-never b (x .place) (x .text) s
+
+positional-tells : (mark : ℕ) (is : List Item) (n : ℕ) (p : Position) (b : Base) (s : State) → RanTells 1 s (evalPositional mark is n p b s)
+unfolding evalPositional takePositionalWord find leaf positionalValue took _>>=_
+positional-tells mark is n p b s = go (findIn is isOperand (unused s)) (find-none is isOperand (unused s))
+  where
+    word-used :
+        (k : Found) (u : Outcome State)
+        → NoRefusal u
+        → RanTells 1 s (leaf s (u >>= λ t. took (some (operand k)) t) (positionalValue n p b))
+    word-used k (ok t) h = never-tells 1 s t (placedValue p b (operand k) t) (placed-never p b (operand k) t)
+    word-used k (refused e) h = absurd h
+    word-used k (fault x) h = tt
+
+    go :
+        (o : Outcome (Option Found))
+        → NoRefusal o
+        → RanTells 1 s (leaf s (o >>= λ x. elim x [
+          | none ↦ took none s
+          | some k ↦ remove mark (withCurrent (some (k .place)) s) (k .place) >>= λ t. took (some (operand k)) t
+        ]) (positionalValue n p b))
+    go (ok none) h = one-missing n s
+    go (ok (some k)) h =
+        word-used k (remove mark (withCurrent (some (k .place)) s) (k .place)) (remove-none mark (withCurrent (some (k .place)) s) (k .place))
+    go (refused e) h = absurd h
+    go (fault x) h = tt
+
+-- ---- optionals and repeats: 20 is swallowed, since it leaves the state that was given
+never-then : {A B : Type 0} (r : Ran A) (f : A → State → Ran B) → Never (r .outcome) → ((a : A) (t : State) → Never (f a t .outcome)) → Never ((r then f) .outcome)
+unfolding _then_ after ended
+never-then {A = A} {B = B} r f h g = go (r .outcome) h
+  where
+    go :
+        (o : Outcome A)
+        → Never o
+        → RanNever {A = B} (elim o [ ok v ↦ f v (r .state) | refused e ↦ ended (refused e) (r .state) | fault x ↦ ended (fault x) (r .state) ])
+    go (ok a) h = g a (r .state)
+    go (refused e) h = h
+    go (fault x) h = tt
+
+swallows-missing : (catch : Bool) (e : Refusal) (s : State) → isMissing e ≡ true → swallowed catch e s s ≡ true
+unfolding swallowed if_then_else_
+swallows-missing catch e s h = rw (h, eq-eqb (s .remaining) (s .remaining) refl, or-true (catch && not (wrongInput e)))
+
+option-never : (n : ℕ) (catch : Bool) (len : Option ℕ) (s : State) (r : Ran Value) → RanTells n s r → Never (parseOption catch len s r .outcome)
+unfolding parseOption after ended if_then_else_
+option-never n catch len s r h = go (r .outcome) h
+  where
+    refusal : (e : Refusal) → Lacks n s (r .state) e → (b : Bool) → swallowed catch e s (r .state) ≡ b → (m : Bool) → isMissing e ≡ m
+        → RanNever {A = Option Value} (if b then ended (ok none) s else ended (refused e) (r .state))
+    refusal e l true q m k = tt
+    refusal e l false q true k =
+        absurd (true≢false (sym (swallows-missing catch e s k) ∙ ap (λ (u : State). swallowed catch e s u) (sym (l .unchanged k)) ∙ q))
+    refusal e l false q false k = (k, l .only k)
+
+    go :
+        (o : Outcome Value)
+        → Tells n s o (r .state)
+        → RanNever {A = Option Value} (elim o [
+          | ok v ↦ ended (ok (if fewer (r .state .remaining) len then some v else none)) (r .state)
+          | refused e ↦ if swallowed catch e s (r .state) then ended (ok none) s else ended (refused e) (r .state)
+          | fault x ↦ ended (fault x) (r .state)
+        ])
+    go (ok v) h = tt
+    go (refused e) h = refusal e h (swallowed catch e s (r .state)) refl (isMissing e) refl
+    go (fault x) h = tt
+
+optional-never : (n : ℕ) (catch : Bool) (s : State) (r : Ran Value) → RanTells n s r → Never (evalOptional catch s r .outcome)
+unfolding evalOptional ended
+optional-never n catch s r h = never-then (parseOption catch none s r) _ (option-never n catch none s r h) (λ v t. tt)
+
+-- a run that goes on with a value ends as what it goes on with
+record GoesOn {A B : Type 0} (r : Ran A) (f : A → State → Ran B) (b : B) : Type 0 where
+  value : A
+  was : r .outcome ≡ ok value
+  goes : f value (r .state) .outcome ≡ ok b
+  left : (r then f) .state ≡ f value (r .state) .state
+
+then-ok : {A B : Type 0} (r : Ran A) (f : A → State → Ran B) (b : B) → (r then f) .outcome ≡ ok b → GoesOn r f b
+unfolding _then_ after ended
+then-ok {A = A} {B = B} r f b e = go (r .outcome) refl
+  where
+    go : (o : Outcome A) → r .outcome ≡ o → GoesOn r f b
+    go (ok a) q = record { value = a; was = q; goes = rw q at e; left = rw q }
+    go (refused x) q = absurd (let bad = rw q at e in let z : _≡_ {A = ℕ} 0 1 = cc in omega arith)
+    go (fault x) q = absurd (let bad = rw q at e in let z : _≡_ {A = ℕ} 0 1 = cc in omega arith)
+
+-- where nothing was there, the state is put back
+option-none : (catch : Bool) (s : State) (r : Ran Value) → parseOption catch none s r .outcome ≡ ok none → parseOption catch none s r .state ≡ s
+unfolding parseOption after ended if_then_else_ fewer
+option-none catch s r e = go (r .outcome) refl
+  where
+    swallow : (x : Refusal) → r .outcome ≡ refused x → (b : Bool) → swallowed catch x s (r .state) ≡ b → parseOption catch none s r .state ≡ s
+    swallow x q true g = rw (q, g)
+    swallow x q false g = absurd (let bad = rw (q, g) at e in let z : _≡_ {A = ℕ} 0 1 = cc in omega arith)
+
+    go : (o : Outcome Value) → r .outcome ≡ o → parseOption catch none s r .state ≡ s
+    go (ok v) q = absurd (let bad = rw q at e in let z : _≡_ {A = ℕ} 0 1 = cc in omega arith)
+    go (refused x) q = swallow x q (swallowed catch x s (r .state)) refl
+    go (fault x) q = absurd (let bad = rw q at e in let z : _≡_ {A = ℕ} 0 1 = cc in omega arith)
+
+module _ (n : ℕ) (catch stops : Bool) (run : State → Ran Value) (h : (s : State) → RanTells n s (run s)) where
+  repeat-never : (fuel : ℕ) (len : Option ℕ) (s : State) → Never (repeat catch stops fuel len run s .outcome)
+  unfolding repeat ended if_then_else_
+  repeat-never zero len s = tt
+  repeat-never (suc fuel) len s =
+      never-then (parseOption catch len s (run s)) _ (option-never n catch len s (run s) (h s)) (λ v t. go v t (repeat-never fuel (some (t .remaining)) t))
+    where
+      more : (x : Value) (t : State) (b : Bool) → Never (repeat catch stops fuel (some (t .remaining)) run t .outcome)
+          → RanNever {A = List Value} (if b
+          then ended (ok (x ∷ [])) t
+          else (repeat catch stops fuel (some (t .remaining)) run t then λ xs u. ended (ok (x ∷ xs)) u))
+      more x t true g = tt
+      more x t false g = never-then (repeat catch stops fuel (some (t .remaining)) run t) _ g (λ xs u. tt)
+
+      go : (v : Option Value) (t : State) → Never (repeat catch stops fuel (some (t .remaining)) run t .outcome)
+          → RanNever {A = List Value} (elim v [
+            | none ↦ ended (ok []) t
+            | some x ↦ if idle stops s t
+                then ended (ok (x ∷ [])) t
+                else (repeat catch stops fuel (some (t .remaining)) run t then λ xs u. ended (ok (x ∷ xs)) u)
+          ])
+      go none t g = tt
+      go (some x) t g = more x t (idle stops s t) g
+
+  repeated-never : (s : State) → Never (repeated catch stops run s .outcome)
+  unfolding repeated
+  repeated-never s = repeat-never (s .remaining + 2) none s
+
+  -- a repeat that counts nothing has put the state back
+  module _ (fuel : ℕ) (s : State) where
+    next : Option Value → State → Ran (List Value)
+    next v t = elim v [
+      | none ↦ ended (ok []) t
+      | some x ↦ if idle stops s t
+          then ended (ok (x ∷ [])) t
+          else (repeat catch stops fuel (some (t .remaining)) run t then λ xs u. ended (ok (x ∷ xs)) u)
+    ]
+
+    counts : (x : Value) (t : State) → next (some x) t .outcome ≡ ok [] → ⊥
+    unfolding next if_then_else_ ended
+    counts x t e = go (idle stops s t) refl
+      where
+        go : (b : Bool) → idle stops s t ≡ b → ⊥
+        go true q = let bad = rw q at e in let z : _≡_ {A = ℕ} 0 1 = cc in omega arith
+        go false q =
+            let on = then-ok (repeat catch stops fuel (some (t .remaining)) run t) (λ xs u. ended (ok (x ∷ xs)) u) [] (rw q at e) in
+            let bad = on .goes in
+            let z : _≡_ {A = ℕ} 0 1 = cc in omega arith
+
+  none-counted : (fuel : ℕ) (s : State) → repeat catch stops fuel none run s .outcome ≡ ok [] → repeat catch stops fuel none run s .state ≡ s
+  unfolding repeat next ended
+  none-counted zero s e = absurd (let z : _≡_ {A = ℕ} 0 1 = cc in omega arith)
+  none-counted (suc fuel) s e =
+      let on = then-ok (parseOption catch none s (run s)) (next fuel s) [] e in
+      on .left ∙ go (on .value) (on .was) (on .goes)
+    where
+      go :
+          (v : Option Value)
+          → parseOption catch none s (run s) .outcome ≡ ok v
+          → next fuel s v (parseOption catch none s (run s) .state) .outcome ≡ ok []
+          → next fuel s v (parseOption catch none s (run s) .state) .state ≡ s
+      go none q e = option-none catch s (run s) q
+      go (some x) q e = absurd (counts fuel s x (parseOption catch none s (run s) .state) e)
+
+-- `last` with no value: its child once more, on the state that was given
+last-none : (vs : List Value) → lastOf vs ≡ none → vs ≡ []
+unfolding lastOf
+last-none [] e = refl
+last-none (v ∷ vs) e = absurd (go (lastOf vs) refl)
+  where
+    go : (o : Option Value) → lastOf vs ≡ o → ⊥
+    go none q = let bad = rw q at e in let z : _≡_ {A = ℕ} 0 1 = cc in omega arith
+    go (some w) q = let bad = rw q at e in let z : _≡_ {A = ℕ} 0 1 = cc in omega arith
+
+last-tells : (n : ℕ) (run : State → Ran Value) → ((s : State) → RanTells n s (run s)) → (s : State) → RanTells n s (evalLast run s)
+unfolding evalLast _then_ after ended repeated
+last-tells n run h s = go (repeated false true run s .outcome) refl (repeated-never n false true run h s)
+  where
+    last-value : (vs : List Value) → repeated false true run s .outcome ≡ ok vs → (o : Option Value) → lastOf vs ≡ o
+        → RanTells {A = Value} n s (elim o [ none ↦ run (repeated false true run s .state) | some v ↦ ended (ok v) (repeated false true run s .state) ])
+    last-value vs q none e =
+        let back : repeated false true run s .state ≡ s = none-counted n false true run h (s .remaining + 2) s (q ∙ ap ok (last-none vs e)) in
+        rw back (h s)
+    last-value vs q (some v) e = tt
+
+    go :
+        (o : Outcome (List Value))
+        → repeated false true run s .outcome ≡ o
+        → Never o
+        → RanTells {A = Value} n s (elim o [
+          | ok vs ↦ elim (lastOf vs) [ none ↦ run (repeated false true run s .state) | some v ↦ ended (ok v) (repeated false true run s .state) ]
+          | refused e ↦ ended (refused e) (repeated false true run s .state)
+          | fault x ↦ ended (fault x) (repeated false true run s .state)
+        ])
+    go (ok vs) q k = last-value vs q (lastOf vs) refl
+    go (refused e) q k = no-entries n s (repeated false true run s .state) e (k .0) (k .1)
+    go (fault x) q k = tt
+
+-- ---- choice, fallback, guard
+all-append : {A : Type 0} (P : A → Type 0) (l m : List A) → All P l → All P m → All P (l ++ m)
+all-append P [] m h g = g
+all-append P (x ∷ l) m h g = (h .0, all-append P l m (h .1) g)
+
+-- on the state that was given, by as many leaves or more
+lacks-more : (n m : ℕ) (s left : State) (e : Refusal) → n ≤ m → Lacks n s left e → Lacks m s s e
+lacks-more n m s left e h l = record { only = l .only; unchanged = λ _. refl; scopes = l .scopes; few = let f = l .few in omega arith }
+
+twenty : (l : List MissingItem) → isMissing (record { number = 20; place = none; missing = l }) ≡ true
+unfolding isMissing
+twenty l = eq-eqb 20 20 refl
+
+combine-lacks :
+    (n m : ℕ) (s a b : State) (e d : Refusal) → Lacks n s a e → Lacks m s b d → (p q c : Bool) → isMissing e ≡ p → isMissing d ≡ q
+    → canCatch e ≡ c
+    → Lacks (n + m) s s (combineWith e d)
+unfolding combineWith if_then_else_
+combine-lacks n m s a b e d le ld true true c x y z = rw (x, y) (record {
+  only = λ h. absurd (true≢false (sym (twenty (e .missing ++ d .missing)) ∙ h));
+  unchanged = λ _. refl;
+  scopes = all-append (LookedIn s) (e .missing) (d .missing) (le .scopes) (ld .scopes);
+  few = let f = le .few in let g = ld .few in let k = length-append (e .missing) (d .missing) in omega arith;
+})
+combine-lacks n m s a b e d le ld true false c x y z = rw (x, y) (lacks-more m (n + m) s b d (omega arith) ld)
+combine-lacks n m s a b e d le ld false q true x y z = rw (x, z) (lacks-more m (n + m) s b d (omega arith) ld)
+combine-lacks n m s a b e d le ld false q false x y z = rw (x, z) (lacks-more n (n + m) s a e (omega arith) le)
+
+picked-tells : (n : ℕ) (s : State) (a b : Ran Value) (p : Picked) → RanTells n s (picked a b p)
+unfolding picked ended if_then_else_ at
+picked-tells n s a b p = go (p .first) (valueOf (a .outcome)) (valueOf (b .outcome))
+  where
+    go :
+        (f : Bool) (x y : Option Value)
+        → RanTells n s (if f
+        then ended (at orElse305 x) (won (a .state) (b .state) (p .place))
+        else ended (at orElse307 y) (won (b .state) (a .state) (p .place)))
+    go true none y = tt
+    go true (some v) y = tt
+    go false x none = tt
+    go false x (some v) = tt
+
+module _ (n m : ℕ) (s : State) (a b : Ran Value) where
+  abbrev ends : Outcome Picked → Ran Value
+  ends o = elim o [ ok p ↦ picked a b p | refused e ↦ ended (refused e) s | fault x ↦ ended (fault x) s ]
+
+  -- one side succeeded, and the other's refusal may win
+  one-side : (side-first : Bool) (e : Refusal) (c : Bool) → Lacks (n + m) s s e → RanTells (n + m) s (ends (if c then refused e else side side-first none))
+  unfolding ended if_then_else_ side
+  one-side f e true l = l
+  one-side f e false l = picked-tells (n + m) s a b (record { first = f; place = none })
+
+  both-sides :
+      (c : Bool) (p : Picked) → RanTells (n + m) s (ends (if c then side true none else ok p))
+  unfolding ended if_then_else_ side
+  both-sides true p = picked-tells (n + m) s a b (record { first = true; place = none })
+  both-sides false p = picked-tells (n + m) s a b p
+
+  sides :
+      (o u : Outcome Value)
+      → Tells n s o (a .state)
+      → Tells m s u (b .state)
+      → RanTells (n + m) s (ends (picksFirst s (a .state) (b .state) o u))
+  unfolding picksFirst ended
+  sides (ok v) (ok w) h g = both-sides _ _
+  sides (ok v) (refused e) h g = one-side true e _ (lacks-more m (n + m) s (b .state) e (omega arith) g)
+  sides (refused e) (ok w) h g = one-side false e _ (lacks-more n (n + m) s (a .state) e (omega arith) h)
+  sides (refused e) (refused d) h g =
+      combine-lacks n m s (a .state) (b .state) e d h g (isMissing e) (isMissing d) (canCatch e) refl refl refl
+  sides (fault x) u h g = tt
+  sides (ok v) (fault x) h g = tt
+  sides (refused e) (fault x) h g = tt
+
+  choice-tells : RanTells n s a → RanTells m s b → RanTells (n + m) s (evalChoice s a b)
+  unfolding evalChoice after chosen
+  choice-tells h g = sides (a .outcome) (b .outcome) h g
+
+fallback-tells : (n : ℕ) (v : BaseValue) (s : State) (r : Ran Value) → RanTells n s r → RanTells n s (evalFallback v s r)
+unfolding evalFallback after ended if_then_else_
+fallback-tells n v s r h = go (r .outcome) h
+  where
+    caught : (e : Refusal) → Lacks n s (r .state) e → (c : Bool) → Tells {A = Value} n s (if c then ok (base v) else refused e) s
+    caught e l true = tt
+    caught e l false = lacks-more n n s (r .state) e (omega arith) l
+
+    go :
+        (o : Outcome Value)
+        → Tells n s o (r .state)
+        → RanTells {A = Value} n s (elim o [
+          | ok w ↦ ended (ok w) (r .state)
+          | refused e ↦ ended (if canCatch e then ok (base v) else refused e) s
+          | fault x ↦ ended (fault x) s
+        ])
+    go (ok w) h = tt
+    go (refused e) h = caught e h (canCatch e)
+    go (fault x) h = tt
+
+guarded-never : (lo hi : ℕ) (v : Value) (s : State) → Never (guarded lo hi v s)
+unfolding guarded if_then_else_
+guarded-never lo hi (base (isYes b)) s = tt
+guarded-never lo hi (base (isText t)) s = tt
+guarded-never lo hi (base (isNumber n)) s = go (leb lo n && leb n hi)
+  where
+    go : (b : Bool) → Never {A = Value} (if b then ok (base (isNumber n)) else refused (refuse 26 (s .current)))
+    go true = tt
+    go false = plain-never 26 (s .current) (λ e. omega arith)
+guarded-never lo hi absent s = tt
+guarded-never lo hi (there v) s = tt
+guarded-never lo hi nil s = tt
+guarded-never lo hi (cons v w) s = tt
+
+guard-tells : (n lo hi : ℕ) (s : State) (r : Ran Value) → RanTells n s r → RanTells n s (evalGuard lo hi r)
+unfolding evalGuard _then_ after ended
+guard-tells n lo hi s r h = go (r .outcome) h
+  where
+    go :
+        (o : Outcome Value)
+        → Tells n s o (r .state)
+        → RanTells {A = Value} n s (elim o [
+          | ok v ↦ ended (guarded lo hi v (r .state)) (r .state)
+          | refused e ↦ ended (refused e) (r .state)
+          | fault x ↦ ended (fault x) (r .state)
+        ])
+    go (ok v) h = never-tells n s (r .state) (guarded lo hi v (r .state)) (guarded-never lo hi v (r .state))
+    go (refused e) h = h
+    go (fault x) h = tt
+
+-- ---- every node
+some-never : (n : ℕ) (catch : Bool) (run : State → Ran Value) → ((s : State) → RanTells n s (run s)) → (s : State) → Never (evalSome catch run s .outcome)
+unfolding evalSome ended if_then_else_
+some-never n catch run h s = never-then (repeated catch false run s) _ (repeated-never n catch false run h s) (λ vs t. go vs (null vs))
+  where
+    go : (vs : List Value) (b : Bool) → Never {A = Value} (if b then refused (refuse 21 none) else ok (listOf vs))
+    go vs true = plain-never 21 none (λ e. omega arith)
+    go vs false = tt
+
+eval-tells : (mark : ℕ) (is : List Item) (t : Tree) (s : State) → RanTells (leaves t) s (eval mark is t s)
+unfolding eval visit leaves evalMany evalCount ended
+eval-tells k is (Flag n m w) s = flag-tells k is n m w s
+eval-tells k is (Argument n m b a) s = argument-tells k is n m b a s
+eval-tells k is (Positional n p b) s = positional-tells k is n p b s
+eval-tells k is (Optional c t) s =
+    never-tells _ s _ (evalOptional c s (eval k is t s) .outcome) (optional-never (leaves t) c s (eval k is t s) (eval-tells k is t s))
+eval-tells k is (Many c t) s =
+    never-tells _ s _ (evalMany c (eval k is t) s .outcome)
+    (never-then (repeated c false (eval k is t) s) _ (repeated-never (leaves t) c false (eval k is t) (λ u. eval-tells k is t u) s) (λ vs u. tt))
+eval-tells k is (Some c t) s =
+    never-tells _ s _ (evalSome c (eval k is t) s .outcome) (some-never (leaves t) c (eval k is t) (λ u. eval-tells k is t u) s)
+eval-tells k is (Count t) s =
+    never-tells _ s _ (evalCount (eval k is t) s .outcome)
+    (never-then (repeated false true (eval k is t) s) _ (repeated-never (leaves t) false true (eval k is t) (λ u. eval-tells k is t u) s) (λ vs u. tt))
+eval-tells k is (Last t) s = last-tells (leaves t) (eval k is t) (λ u. eval-tells k is t u) s
+eval-tells k is (Choice t u) s =
+    choice-tells (leaves t) (leaves u) s (eval k is t s) (eval k is u s) (eval-tells k is t s) (eval-tells k is u s)
+eval-tells k is (Fallback v t) s = fallback-tells (leaves t) v s (eval k is t s) (eval-tells k is t s)
+eval-tells k is (Guard lo hi t) s = guard-tells (leaves t) lo hi s (eval k is t s) (eval-tells k is t s)
+
+-- ---- the fields of a form
+-- a run that goes on and is refused: at once, or by what it goes on with
+data Refuses {A B : Type 0} (r : Ran A) (f : A → State → Ran B) (e : Refusal) : Type 0 where
+  at-once : r .outcome ≡ refused e → (r then f) .state ≡ r .state → Refuses r f e
+  going-on : (a : A) → f a (r .state) .outcome ≡ refused e → (r then f) .state ≡ f a (r .state) .state → Refuses r f e
+
+then-refused : {A B : Type 0} (r : Ran A) (f : A → State → Ran B) (e : Refusal) → (r then f) .outcome ≡ refused e → Refuses r f e
+unfolding _then_ after ended
+then-refused {A = A} r f e q = go (r .outcome) refl
+  where
+    go : (o : Outcome A) → r .outcome ≡ o → Refuses r f e
+    go (ok a) k = going-on a (rw k at q) (rw k)
+    go (refused x) k = let same : x ≡ e = let bad = rw k at q in cc in at-once (k ∙ ap refused same) (rw k)
+    go (fault x) k = absurd (let bad = rw k at q in let z : _≡_ {A = ℕ} 0 1 = cc in omega arith)
+
+-- of the state that the refused field was given
+abbrev FieldLacks : ℕ → State → Refusal → Type 0
+FieldLacks n left e = (given : State) × Lacks n given left e
+
+few-more : (n m : ℕ) (s left : State) (e : Refusal) → n ≤ m → Lacks n s left e → Lacks m s left e
+few-more n m s left e h l = record { only = l .only; unchanged = l .unchanged; scopes = l .scopes; few = let f = l .few in omega arith }
+
+tree-lacks :
+    (mark : ℕ) (is : List Item) (t : Tree) (s : State) (e : Refusal)
+    → eval mark is t s .outcome ≡ refused e
+    → Lacks (leaves t) s (eval mark is t s .state) e
+tree-lacks mark is t s e q =
+    subst (λ (o : Outcome Value). Tells (leaves t) s o (eval mark is t s .state)) q (eval-tells mark is t s)
+
+module _ (mark : ℕ) (is : List Item) (t : Tree) (ts : List Tree) where
+  abbrev rest : Value → State → Ran (List Value)
+  rest v u = runFields mark is ts u then λ vs w. ended (ok (v ∷ vs)) w
+
+  module _ (h : (u : State) (e : Refusal) → runFields mark is ts u .outcome ≡ refused e → FieldLacks (allLeaves ts) (runFields mark is ts u .state) e) where
+    rest-lacks : (v : Value) (u : State) (e : Refusal) → rest v u .outcome ≡ refused e → FieldLacks (leaves t + allLeaves ts) (rest v u .state) e
+    unfolding ended
+    rest-lacks v u e q = go (then-refused (runFields mark is ts u) (λ vs w. ended (ok (v ∷ vs)) w) e q)
+      where
+        go : Refuses (runFields mark is ts u) (λ vs w. ended (ok (v ∷ vs)) w) e → FieldLacks (leaves t + allLeaves ts) (rest v u .state) e
+        go (at-once k l) =
+            let x = h u e k in
+            (x .0, rw l (few-more (allLeaves ts) (leaves t + allLeaves ts) (x .0) (runFields mark is ts u .state) e (omega arith) (x .1)))
+        go (going-on vs k l) = absurd (let z : _≡_ {A = ℕ} 0 1 = cc in omega arith)
+
+    first-lacks :
+        (s : State) (e : Refusal)
+        → (eval mark is t s then rest) .outcome ≡ refused e
+        → FieldLacks (leaves t + allLeaves ts) ((eval mark is t s then rest) .state) e
+    first-lacks s e q = go (then-refused (eval mark is t s) rest e q)
+      where
+        go : Refuses (eval mark is t s) rest e → FieldLacks (leaves t + allLeaves ts) ((eval mark is t s then rest) .state) e
+        go (at-once k l) =
+            (s, rw l (few-more (leaves t) (leaves t + allLeaves ts) s (eval mark is t s .state) e (omega arith) (tree-lacks mark is t s e k)))
+        go (going-on v k l) = rw l (rest-lacks v (eval mark is t s .state) e k)
+
+fields-lack :
+    (mark : ℕ) (is : List Item) (ts : List Tree) (s : State) (e : Refusal)
+    → runFields mark is ts s .outcome ≡ refused e
+    → FieldLacks (allLeaves ts) (runFields mark is ts s .state) e
+unfolding runFields allLeaves ended
+fields-lack mark is [] s e q = absurd (let z : _≡_ {A = ℕ} 0 1 = cc in omega arith)
+fields-lack mark is (t ∷ ts) s e q = first-lacks mark is t ts (λ u d k. fields-lack mark is ts u d k) s e q
+
+-- 27 has no entries
+left-never : (vs : List Value) (o : Outcome (Option Found)) → NoRefusal o → Never (o >>= leftOver vs)
+unfolding leftOver _>>=_
+left-never vs (ok none) h = tt
+left-never vs (ok (some x)) h = plain-never 27 (some (x .place)) (λ e. omega arith)
+left-never vs (refused e) h = absurd h
+left-never vs (fault x) h = tt
+
+run-lacks :
+    (mark : ℕ) (is : List Item) (ts : List Tree) (s : State) (e : Refusal)
+    → runAll mark is ts s .outcome ≡ refused e
+    → FieldLacks (allLeaves ts) (runAll mark is ts s .state) e
+unfolding runAll first find ended
+run-lacks mark is ts s e q = go (then-refused (runFields mark is ts s) (λ vs t. ended (first is t >>= leftOver vs) t) e q)
+  where
+    go :
+        Refuses (runFields mark is ts s) (λ vs t. ended (first is t >>= leftOver vs) t) e
+        → FieldLacks (allLeaves ts) ((runFields mark is ts s then λ vs t. ended (first is t >>= leftOver vs) t) .state) e
+    go (at-once k l) = rw l (fields-lack mark is ts s e k)
+    go (going-on vs k l) = rw l (over vs (runFields mark is ts s .state) k)
+      where
+        over :
+            (vs : List Value) (t : State)
+            → ended (first is t >>= leftOver vs) t .outcome ≡ refused e
+            → FieldLacks (allLeaves ts) (ended (first is t >>= leftOver vs) t .state) e
+        over vs t k =
+            let n = left-never vs (first is t) (find-none is (λ _. true) (unused t)) in
+            let none : Never {A = List Value} (refused e) = subst (λ (o : Outcome (List Value)). Never o) k n in
+            (t, no-entries (allLeaves ts) t t e (none .0) (none .1))
+
+-- an accepted form has 64 nodes at most
+accepted-few : (b : List ℕ) (a : Accepted) → checkForm b ≡ accepted a → allLeaves (a .fields) ≤ 64
+accepted-few b a e =
+    let law = leaves-law b a e in
+    let few = leaf-few (a .form .nodes) in
+    let nodes = ap (λ (f : Form). length (f .nodes)) (accepted-form b a e) ∙ node-count b in
+    let most = well-made b a e .counts .nodes .1 in
+    omega arith
+
+list-fits :
+    (b : List ℕ) (a : Accepted)
+    → checkForm b ≡ accepted a
+    → (mark : ℕ) (is : List Item) (s : State) (e : Refusal)
+    → runAll mark is (a .fields) s .outcome ≡ refused e
+    → 3 * length (e .missing) ≤ 192
+list-fits b a h mark is s e q =
+    let few = accepted-few b a h in
+    let entries = run-lacks mark is (a .fields) s e q .1 .few in
+    omega arith
+
+pub missing-told : MissingTold
+missing-told = record { lacks = tree-lacks; run = run-lacks; fits = list-fits }
