@@ -5,11 +5,11 @@ use mathlib.Core.Option.{Option, some, none}
 use mathlib.Core.Path.{_≡_, refl, sym, ap, _∙_, subst}
 use Prim.Native.Nat.{ℕ, zero, suc, _+_, _*_, _≤_}
 use native.Mathlib.Omega.{arith}
-use lib.Dec.{leb}
+use lib.Dec.{leb, eqb}
 use lib.ListN.{length, length-append, getElem?}
-use borrow.Author.Tests.{eq-eqb, ne-eqb}
+use borrow.Author.Tests.{eq-eqb, ne-eqb, eqb-true}
 use Rattle.utf8.specs.Utf8.{if_then_else_}
-use Rattle.rules.specs.Base.{null, minus, write}
+use Rattle.rules.specs.Base.{null, contains, minus, write}
 use Rattle.rules.specs.Outcome.{Spot, Outcome, ok, refused, fault, panic, _>>=_, at, MissingItem, Refusal, refuse, isMissing, canCatch, wrongInput, combineWith}
 use Rattle.rules.specs.Outcome.{argsIter635, remove431, remove433, remove434, shortLong125, shortLong126, shortLong127}
 use Rattle.rules.specs.Outcome.{parseFlag559, takeArgument679, orElse305, orElse307}
@@ -18,7 +18,7 @@ use Rattle.rules.specs.Tree.{Named, Position, unrestricted, strict, nonS
 use Rattle.rules.specs.Form.{Form}
 use Rattle.rules.specs.Accept.{Accepted, accepted, checkForm}
 use Rattle.rules.specs.Split.{Item}
-use Rattle.rules.specs.State.{State, Found, Picked, inScope, present, unused, get, findIn, find, first, used, remove, withCurrent}
+use Rattle.rules.specs.State.{State, Found, Picked, inScope, present, unused, get, findIn, find, first, used, remove, withCurrent, pickWinner}
 use Rattle.rules.specs.Take.{took, matchesArg, takeFlag, valueText, takeValue, takeArg, Operand, isOperand, operand, takePositionalWord}
 use Rattle.rules.specs.Eval.{Ran, ended, after, _then_, visit, leaf, refuseMissing, shownName, notFound, flagValue, evalFlag, numberOf, parseText, argumentValue, evalArgument}
 use Rattle.rules.specs.Eval.{wrongPosition, placedValue, positionalValue, evalPositional, fewer, swallowed, parseOption, evalOptional, idle, repeat, repeated}
@@ -26,19 +26,19 @@ use Rattle.rules.specs.Eval.{evalMany, evalSome, evalCount, lastOf, eval
 use Rattle.rules.specs.Run.{runFields, leftOver, runAll}
 use Rattle.rules.specs.Demands.{All}
 use Rattle.rules.specs.Sound.{leaves, allLeaves}
-use Rattle.rules.specs.Missing.{LookedIn, Lacks, MissingTold}
+use Rattle.rules.specs.Missing.{entry, endsMissing, lacking, LookedIn, Lacks, FieldLacks, MissingTold}
 use Rattle.rules.proofs.Acceptance.{accepted-form}
 use Rattle.rules.proofs.Uses.{leaves-law, leaf-few}
 use Rattle.rules.proofs.WellMadeLaws.{node-count, well-made}
 
 -- ---- refusals with entries and without
-abbrev Tells : {A : Type 0} → ℕ → State → Outcome A → State → Type 0
-Tells n s (ok a) left = Unit {0}
-Tells n s (refused e) left = Lacks n s left e
-Tells n s (fault x) left = Unit {0}
+abbrev Tells : {A : Type 0} → List MissingItem → State → Outcome A → State → Type 0
+Tells l s (ok a) left = Unit {0}
+Tells l s (refused e) left = Lacks l s left e
+Tells l s (fault x) left = Unit {0}
 
-abbrev RanTells : {A : Type 0} → ℕ → State → Ran A → Type 0
-RanTells n s r = Tells n s (r .outcome) (r .state)
+abbrev RanTells : {A : Type 0} → List MissingItem → State → Ran A → Type 0
+RanTells l s r = Tells l s (r .outcome) (r .state)
 
 -- no refusal is 20
 abbrev Never : {A : Type 0} → Outcome A → Type 0
@@ -54,33 +54,35 @@ NoRefusal (ok a) = Unit {0}
 NoRefusal (refused e) = ⊥
 NoRefusal (fault x) = Unit {0}
 
-no-entries : (n : ℕ) (s left : State) (e : Refusal) → isMissing e ≡ false → e .missing ≡ [] → Lacks n s left e
-no-entries n s left e h m = record {
+no-entries : (l : List MissingItem) (s left : State) (e : Refusal) → isMissing e ≡ false → e .missing ≡ [] → Lacks l s left e
+no-entries l s left e h m = record {
   only = λ _. m;
   unchanged = λ t. absurd (true≢false (sym t ∙ h));
-  scopes = rw m tt;
-  few = rw m (omega arith);
+  listed = λ t. absurd (true≢false (sym t ∙ h));
 }
 
-never-tells : {A : Type 0} (n : ℕ) (s left : State) (o : Outcome A) → Never o → Tells n s o left
-never-tells n s left (ok a) h = tt
-never-tells n s left (refused e) h = no-entries n s left e (h .0) (h .1)
-never-tells n s left (fault x) h = tt
+never-tells : {A : Type 0} (l : List MissingItem) (s left : State) (o : Outcome A) → Never o → Tells l s o left
+never-tells l s left (ok a) h = tt
+never-tells l s left (refused e) h = no-entries l s left e (h .0) (h .1)
+never-tells l s left (fault x) h = tt
 
 plain-never : (k : ℕ) (p : Option ℕ) → (k ≡ 20 → ⊥) → (isMissing (refuse k p) ≡ false) × (refuse k p .missing ≡ [])
 unfolding isMissing
 plain-never k p h = (ne-eqb k 20 h, refl)
 
-plain-tells : (n : ℕ) (s left : State) (k : ℕ) (p : Option ℕ) → (k ≡ 20 → ⊥) → Lacks n s left (refuse k p)
-plain-tells n s left k p h = let x = plain-never k p h in no-entries n s left (refuse k p) (x .0) (x .1)
+plain-tells : (l : List MissingItem) (s left : State) (k : ℕ) (p : Option ℕ) → (k ≡ 20 → ⊥) → Lacks l s left (refuse k p)
+plain-tells l s left k p h = let x = plain-never k p h in no-entries l s left (refuse k p) (x .0) (x .1)
 
-one-missing : (n : ℕ) (s : State) → Lacks 1 s s (refuseMissing n s)
-unfolding refuseMissing isMissing
+-- the entry of a leaf alone
+abbrev own : ℕ → State → List MissingItem
+own n s = entry n s ∷ []
+
+one-missing : (n : ℕ) (s : State) → Lacks (own n s) s s (refuseMissing n s)
+unfolding refuseMissing isMissing entry
 one-missing n s = record {
   only = λ h. absurd (true≢false (sym (eq-eqb 20 20 refl) ∙ h));
   unchanged = λ _. refl;
-  scopes = ((refl, refl), tt);
-  few = omega arith;
+  listed = λ _. refl;
 }
 
 -- ---- what never refuses
@@ -142,11 +144,11 @@ shown-none m = go (null (m .shorts)) (null (m .longs))
     go false false =
         bind-none (at shortLong127 (getElem? (m .shorts) 0)) _ (at-none _ _) (λ _. bind-none (at shortLong127 (getElem? (m .longs) 0)) _ (at-none _ _) (λ _. tt))
 
-not-found-tells : (unnamed : Spot) (n : ℕ) (m : Named) (s : State) → Tells 1 s (notFound unnamed n m s) s
+not-found-tells : (unnamed : Spot) (n : ℕ) (m : Named) (s : State) → Tells (own n s) s (notFound unnamed n m s) s
 unfolding notFound _>>=_ if_then_else_
 not-found-tells unnamed n m s = go (shownName m) (shown-none m)
   where
-    go : (o : Outcome Bool) → NoRefusal o → Tells {A = Value} 1 s (o >>= λ shown. if shown then refused (refuseMissing n s) else fault (panic unnamed)) s
+    go : (o : Outcome Bool) → NoRefusal o → Tells {A = Value} (own n s) s (o >>= λ shown. if shown then refused (refuseMissing n s) else fault (panic unnamed)) s
     go (ok true) h = one-missing n s
     go (ok false) h = tt
     go (refused e) h = absurd h
@@ -163,25 +165,25 @@ parse-never number i t s = go (numberOf t)
     go (some n) = tt
 
 -- `Flag`
-flag-used : (n : ℕ) (m : Named) (w : Bool) (s : State) (u : Outcome State) → NoRefusal u → RanTells 1 s (leaf s (u >>= λ t. took true t) (flagValue n m w))
+flag-used : (n : ℕ) (m : Named) (w : Bool) (s : State) (u : Outcome State) → NoRefusal u → RanTells (own n s) s (leaf s (u >>= λ t. took true t) (flagValue n m w))
 unfolding leaf took flagValue _>>=_ if_then_else_
 flag-used n m w s (ok t) h = tt
 flag-used n m w s (refused e) h = absurd h
 flag-used n m w s (fault x) h = tt
 
-flag-absent : (n : ℕ) (m : Named) (w : Bool) (s : State) → Tells 1 s (flagValue n m w false s) s
+flag-absent : (n : ℕ) (m : Named) (w : Bool) (s : State) → Tells (own n s) s (flagValue n m w false s) s
 unfolding flagValue if_then_else_
 flag-absent n m true s = tt
 flag-absent n m false s = not-found-tells parseFlag559 n m s
 
-flag-tells : (mark : ℕ) (is : List Item) (n : ℕ) (m : Named) (w : Bool) (s : State) → RanTells 1 s (evalFlag mark is n m w s)
+flag-tells : (mark : ℕ) (is : List Item) (n : ℕ) (m : Named) (w : Bool) (s : State) → RanTells (own n s) s (evalFlag mark is n m w s)
 unfolding evalFlag takeFlag find leaf took _>>=_
 flag-tells mark is n m w s = go (findIn is (matchesArg m false) (unused s)) (find-none is (matchesArg m false) (unused s))
   where
     go :
         (o : Outcome (Option Found))
         → NoRefusal o
-        → RanTells 1 s (leaf s (o >>= λ x. elim x [ none ↦ took false s | some k ↦ remove mark s (k .place) >>= λ t. took true t ]) (flagValue n m w))
+        → RanTells (own n s) s (leaf s (o >>= λ x. elim x [ none ↦ took false s | some k ↦ remove mark s (k .place) >>= λ t. took true t ]) (flagValue n m w))
     go (ok none) h = flag-absent n m w s
     go (ok (some k)) h = flag-used n m w s (remove mark s (k .place)) (remove-none mark s (k .place))
     go (refused e) h = absurd h
@@ -190,34 +192,34 @@ flag-tells mark is n m w s = go (findIn is (matchesArg m false) (unused s)) (fin
 -- `Argument`
 argument-used :
     (mark n : ℕ) (m : Named) (b : Base) (s : State) (key : ℕ) (o : Option (List ℕ))
-    → RanTells 1 s (leaf s (takeValue mark s key o) (argumentValue n m b))
+    → RanTells (own n s) s (leaf s (takeValue mark s key o) (argumentValue n m b))
 unfolding takeValue leaf argumentValue took _>>=_
-argument-used mark n m b s key none = plain-tells 1 s s 22 (some key) (λ e. omega arith)
+argument-used mark n m b s key none = plain-tells (own n s) s s 22 (some key) (λ e. omega arith)
 argument-used mark n m b s key (some t) =
     first-used (remove mark (withCurrent (some (suc key)) s) key) (remove-none mark (withCurrent (some (suc key)) s) key)
   where
-    second-used : (u : Outcome State) → NoRefusal u → RanTells 1 s (leaf s (u >>= λ v. took (some (record { place = suc key; text = t })) v) (argumentValue n m b))
-    second-used (ok v) h = never-tells 1 s v (parseText b (suc key) t v) (parse-never b (suc key) t v)
+    second-used : (u : Outcome State) → NoRefusal u → RanTells (own n s) s (leaf s (u >>= λ v. took (some (record { place = suc key; text = t })) v) (argumentValue n m b))
+    second-used (ok v) h = never-tells (own n s) s v (parseText b (suc key) t v) (parse-never b (suc key) t v)
     second-used (refused e) h = absurd h
     second-used (fault x) h = tt
 
     first-used :
         (u : Outcome State)
         → NoRefusal u
-        → RanTells 1 s (leaf s (u >>= λ v. remove mark v (suc key) >>= λ w. took (some (record { place = suc key; text = t })) w) (argumentValue n m b))
+        → RanTells (own n s) s (leaf s (u >>= λ v. remove mark v (suc key) >>= λ w. took (some (record { place = suc key; text = t })) w) (argumentValue n m b))
     first-used (ok v) h = second-used (remove mark v (suc key)) (remove-none mark v (suc key))
     first-used (refused e) h = absurd h
     first-used (fault x) h = tt
 
 argument-tells :
-    (mark : ℕ) (is : List Item) (n : ℕ) (m : Named) (b : Base) (a : Bool) (s : State) → RanTells 1 s (evalArgument mark is n m b a s)
+    (mark : ℕ) (is : List Item) (n : ℕ) (m : Named) (b : Base) (a : Bool) (s : State) → RanTells (own n s) s (evalArgument mark is n m b a s)
 unfolding evalArgument takeArg find leaf argumentValue took _>>=_
 argument-tells mark is n m b a s = go (findIn is (matchesArg m a) (unused s)) (find-none is (matchesArg m a) (unused s))
   where
     go :
         (o : Outcome (Option Found))
         → NoRefusal o
-        → RanTells 1 s (leaf s (o >>= λ x. elim x [ none ↦ took none s | some k ↦ takeValue mark s (k .place) (valueText (get is s (suc (k .place)))) ]) (argumentValue n m b))
+        → RanTells (own n s) s (leaf s (o >>= λ x. elim x [ none ↦ took none s | some k ↦ takeValue mark s (k .place) (valueText (get is s (suc (k .place)))) ]) (argumentValue n m b))
     go (ok none) h = not-found-tells takeArgument679 n m s
     go (ok (some k)) h = argument-used mark n m b s (k .place) (valueText (get is s (suc (k .place))))
     go (refused e) h = absurd h
@@ -238,22 +240,22 @@ placed-never nonStrict b x s = go (x .strict)
     go true = plain-never 24 (some (x .place)) (λ e. omega arith)
     go false = parse-never b (x .place) (x .text) s
 
-positional-tells : (mark : ℕ) (is : List Item) (n : ℕ) (p : Position) (b : Base) (s : State) → RanTells 1 s (evalPositional mark is n p b s)
+positional-tells : (mark : ℕ) (is : List Item) (n : ℕ) (p : Position) (b : Base) (s : State) → RanTells (own n s) s (evalPositional mark is n p b s)
 unfolding evalPositional takePositionalWord find leaf positionalValue took _>>=_
 positional-tells mark is n p b s = go (findIn is isOperand (unused s)) (find-none is isOperand (unused s))
   where
     word-used :
         (k : Found) (u : Outcome State)
         → NoRefusal u
-        → RanTells 1 s (leaf s (u >>= λ t. took (some (operand k)) t) (positionalValue n p b))
-    word-used k (ok t) h = never-tells 1 s t (placedValue p b (operand k) t) (placed-never p b (operand k) t)
+        → RanTells (own n s) s (leaf s (u >>= λ t. took (some (operand k)) t) (positionalValue n p b))
+    word-used k (ok t) h = never-tells (own n s) s t (placedValue p b (operand k) t) (placed-never p b (operand k) t)
     word-used k (refused e) h = absurd h
     word-used k (fault x) h = tt
 
     go :
         (o : Outcome (Option Found))
         → NoRefusal o
-        → RanTells 1 s (leaf s (o >>= λ x. elim x [
+        → RanTells (own n s) s (leaf s (o >>= λ x. elim x [
           | none ↦ took none s
           | some k ↦ remove mark (withCurrent (some (k .place)) s) (k .place) >>= λ t. took (some (operand k)) t
         ]) (positionalValue n p b))
@@ -280,11 +282,11 @@ swallows-missing : (catch : Bool) (e : Refusal) (s : State) → isMissing e ≡ 
 unfolding swallowed if_then_else_
 swallows-missing catch e s h = rw (h, eq-eqb (s .remaining) (s .remaining) refl, or-true (catch && not (wrongInput e)))
 
-option-never : (n : ℕ) (catch : Bool) (len : Option ℕ) (s : State) (r : Ran Value) → RanTells n s r → Never (parseOption catch len s r .outcome)
+option-never : (ls : List MissingItem) (catch : Bool) (len : Option ℕ) (s : State) (r : Ran Value) → RanTells ls s r → Never (parseOption catch len s r .outcome)
 unfolding parseOption after ended if_then_else_
-option-never n catch len s r h = go (r .outcome) h
+option-never ls catch len s r h = go (r .outcome) h
   where
-    refusal : (e : Refusal) → Lacks n s (r .state) e → (b : Bool) → swallowed catch e s (r .state) ≡ b → (m : Bool) → isMissing e ≡ m
+    refusal : (e : Refusal) → Lacks ls s (r .state) e → (b : Bool) → swallowed catch e s (r .state) ≡ b → (m : Bool) → isMissing e ≡ m
         → RanNever {A = Option Value} (if b then ended (ok none) s else ended (refused e) (r .state))
     refusal e l true q m k = tt
     refusal e l false q true k =
@@ -293,7 +295,7 @@ option-never n catch len s r h = go (r .outcome) h
 
     go :
         (o : Outcome Value)
-        → Tells n s o (r .state)
+        → Tells ls s o (r .state)
         → RanNever {A = Option Value} (elim o [
           | ok v ↦ ended (ok (if fewer (r .state .remaining) len then some v else none)) (r .state)
           | refused e ↦ if swallowed catch e s (r .state) then ended (ok none) s else ended (refused e) (r .state)
@@ -303,9 +305,9 @@ option-never n catch len s r h = go (r .outcome) h
     go (refused e) h = refusal e h (swallowed catch e s (r .state)) refl (isMissing e) refl
     go (fault x) h = tt
 
-optional-never : (n : ℕ) (catch : Bool) (s : State) (r : Ran Value) → RanTells n s r → Never (evalOptional catch s r .outcome)
+optional-never : (ls : List MissingItem) (catch : Bool) (s : State) (r : Ran Value) → RanTells ls s r → Never (evalOptional catch s r .outcome)
 unfolding evalOptional ended
-optional-never n catch s r h = never-then (parseOption catch none s r) _ (option-never n catch none s r h) (λ v t. tt)
+optional-never ls catch s r h = never-then (parseOption catch none s r) _ (option-never ls catch none s r h) (λ v t. tt)
 
 -- a run that goes on with a value ends as what it goes on with
 record GoesOn {A B : Type 0} (r : Ran A) (f : A → State → Ran B) (b : B) : Type 0 where
@@ -337,12 +339,12 @@ option-none catch s r e = go (r .outcome) refl
     go (refused x) q = swallow x q (swallowed catch x s (r .state)) refl
     go (fault x) q = absurd (let bad = rw q at e in let z : _≡_ {A = ℕ} 0 1 = cc in omega arith)
 
-module _ (n : ℕ) (catch stops : Bool) (run : State → Ran Value) (h : (s : State) → RanTells n s (run s)) where
+module _ (ls : State → List MissingItem) (catch stops : Bool) (run : State → Ran Value) (h : (s : State) → RanTells (ls s) s (run s)) where
   repeat-never : (fuel : ℕ) (len : Option ℕ) (s : State) → Never (repeat catch stops fuel len run s .outcome)
   unfolding repeat ended if_then_else_
   repeat-never zero len s = tt
   repeat-never (suc fuel) len s =
-      never-then (parseOption catch len s (run s)) _ (option-never n catch len s (run s) (h s)) (λ v t. go v t (repeat-never fuel (some (t .remaining)) t))
+      never-then (parseOption catch len s (run s)) _ (option-never (ls s) catch len s (run s) (h s)) (λ v t. go v t (repeat-never fuel (some (t .remaining)) t))
     where
       more : (x : Value) (t : State) (b : Bool) → Never (repeat catch stops fuel (some (t .remaining)) run t .outcome)
           → RanNever {A = List Value} (if b
@@ -411,14 +413,14 @@ last-none (v ∷ vs) e = absurd (go (lastOf vs) refl)
     go none q = let bad = rw q at e in let z : _≡_ {A = ℕ} 0 1 = cc in omega arith
     go (some w) q = let bad = rw q at e in let z : _≡_ {A = ℕ} 0 1 = cc in omega arith
 
-last-tells : (n : ℕ) (run : State → Ran Value) → ((s : State) → RanTells n s (run s)) → (s : State) → RanTells n s (evalLast run s)
+last-tells : (ls : State → List MissingItem) (run : State → Ran Value) → ((s : State) → RanTells (ls s) s (run s)) → (s : State) → RanTells (ls s) s (evalLast run s)
 unfolding evalLast _then_ after ended repeated
-last-tells n run h s = go (repeated false true run s .outcome) refl (repeated-never n false true run h s)
+last-tells ls run h s = go (repeated false true run s .outcome) refl (repeated-never ls false true run h s)
   where
     last-value : (vs : List Value) → repeated false true run s .outcome ≡ ok vs → (o : Option Value) → lastOf vs ≡ o
-        → RanTells {A = Value} n s (elim o [ none ↦ run (repeated false true run s .state) | some v ↦ ended (ok v) (repeated false true run s .state) ])
+        → RanTells {A = Value} (ls s) s (elim o [ none ↦ run (repeated false true run s .state) | some v ↦ ended (ok v) (repeated false true run s .state) ])
     last-value vs q none e =
-        let back : repeated false true run s .state ≡ s = none-counted n false true run h (s .remaining + 2) s (q ∙ ap ok (last-none vs e)) in
+        let back : repeated false true run s .state ≡ s = none-counted ls false true run h (s .remaining + 2) s (q ∙ ap ok (last-none vs e)) in
         rw back (h s)
     last-value vs q (some v) e = tt
 
@@ -426,50 +428,59 @@ last-tells n run h s = go (repeated false true run s .outcome) refl (repeated-ne
         (o : Outcome (List Value))
         → repeated false true run s .outcome ≡ o
         → Never o
-        → RanTells {A = Value} n s (elim o [
+        → RanTells {A = Value} (ls s) s (elim o [
           | ok vs ↦ elim (lastOf vs) [ none ↦ run (repeated false true run s .state) | some v ↦ ended (ok v) (repeated false true run s .state) ]
           | refused e ↦ ended (refused e) (repeated false true run s .state)
           | fault x ↦ ended (fault x) (repeated false true run s .state)
         ])
     go (ok vs) q k = last-value vs q (lastOf vs) refl
-    go (refused e) q k = no-entries n s (repeated false true run s .state) e (k .0) (k .1)
+    go (refused e) q k = no-entries (ls s) s (repeated false true run s .state) e (k .0) (k .1)
     go (fault x) q k = tt
 
 -- ---- choice, fallback, guard
-all-append : {A : Type 0} (P : A → Type 0) (l m : List A) → All P l → All P m → All P (l ++ m)
-all-append P [] m h g = g
-all-append P (x ∷ l) m h g = (h .0, all-append P l m (h .1) g)
+-- on the state that was given
+lacks-here : (l : List MissingItem) (s left : State) (e : Refusal) → Lacks l s left e → Lacks l s s e
+lacks-here l s left e h = record { only = h .only; unchanged = λ _. refl; listed = h .listed }
 
--- on the state that was given, by as many leaves or more
-lacks-more : (n m : ℕ) (s left : State) (e : Refusal) → n ≤ m → Lacks n s left e → Lacks m s s e
-lacks-more n m s left e h l = record { only = l .only; unchanged = λ _. refl; scopes = l .scopes; few = let f = l .few in omega arith }
+-- a refusal for wrong input is not 20
+wrong-not-missing : (e : Refusal) → wrongInput e ≡ true → isMissing e ≡ false
+unfolding wrongInput isMissing contains
+wrong-not-missing e h = go (eqb (e .number) 20) refl
+  where
+    go : (b : Bool) → eqb (e .number) 20 ≡ b → b ≡ false
+    go true q = absurd (let same = eqb-true (e .number) 20 q in let bad = rw same at h in true≢false (sym bad))
+    go false q = refl
 
 twenty : (l : List MissingItem) → isMissing (record { number = 20; place = none; missing = l }) ≡ true
 unfolding isMissing
 twenty l = eq-eqb 20 20 refl
 
-combine-lacks :
-    (n m : ℕ) (s a b : State) (e d : Refusal) → Lacks n s a e → Lacks m s b d → (p q c : Bool) → isMissing e ≡ p → isMissing d ≡ q
-    → canCatch e ≡ c
-    → Lacks (n + m) s s (combineWith e d)
-unfolding combineWith if_then_else_
-combine-lacks n m s a b e d le ld true true c x y z = rw (x, y) (record {
-  only = λ h. absurd (true≢false (sym (twenty (e .missing ++ d .missing)) ∙ h));
-  unchanged = λ _. refl;
-  scopes = all-append (LookedIn s) (e .missing) (d .missing) (le .scopes) (ld .scopes);
-  few = let f = le .few in let g = ld .few in let k = length-append (e .missing) (d .missing) in omega arith;
-})
-combine-lacks n m s a b e d le ld true false c x y z = rw (x, y) (lacks-more m (n + m) s b d (omega arith) ld)
-combine-lacks n m s a b e d le ld false q true x y z = rw (x, z) (lacks-more m (n + m) s b d (omega arith) ld)
-combine-lacks n m s a b e d le ld false q false x y z = rw (x, z) (lacks-more n (n + m) s a e (omega arith) le)
+module _ (l m : List MissingItem) (s : State) where
+  -- the entries of a choice, by whether its first side ended in 20
+  abbrev both : Bool → List MissingItem
+  both p = (if p then l else []) ++ m
 
-picked-tells : (n : ℕ) (s : State) (a b : Ran Value) (p : Picked) → RanTells n s (picked a b p)
+  combine-lacks :
+      (a b : State) (e d : Refusal) → Lacks l s a e → Lacks m s b d → (p q c : Bool) → isMissing e ≡ p → isMissing d ≡ q
+      → canCatch e ≡ c
+      → Lacks (both p) s s (combineWith e d)
+  unfolding combineWith if_then_else_
+  combine-lacks a b e d le ld true true c x y z = rw (x, y) (record {
+    only = λ h. absurd (true≢false (sym (twenty (e .missing ++ d .missing)) ∙ h));
+    unchanged = λ _. refl;
+    listed = λ _. rw (le .listed x, ld .listed y);
+  })
+  combine-lacks a b e d le ld true false c x y z = rw (x, y) (no-entries (both true) s s d y (ld .only y))
+  combine-lacks a b e d le ld false q true x y z = rw (x, z) (lacks-here m s b d ld)
+  combine-lacks a b e d le ld false q false x y z = rw (x, z) (no-entries (both false) s s e x (le .only x))
+
+picked-tells : (l : List MissingItem) (s : State) (a b : Ran Value) (p : Picked) → RanTells l s (picked a b p)
 unfolding picked ended if_then_else_ at
-picked-tells n s a b p = go (p .first) (valueOf (a .outcome)) (valueOf (b .outcome))
+picked-tells l s a b p = go (p .first) (valueOf (a .outcome)) (valueOf (b .outcome))
   where
     go :
         (f : Bool) (x y : Option Value)
-        → RanTells n s (if f
+        → RanTells l s (if f
         then ended (at orElse305 x) (won (a .state) (b .state) (p .place))
         else ended (at orElse307 y) (won (b .state) (a .state) (p .place)))
     go true none y = tt
@@ -477,59 +488,77 @@ picked-tells n s a b p = go (p .first) (valueOf (a .outcome)) (valueOf (b .outco
     go false x none = tt
     go false x (some v) = tt
 
-module _ (n m : ℕ) (s : State) (a b : Ran Value) where
+module _ (l m : List MissingItem) (s : State) (a b : Ran Value) where
   abbrev ends : Outcome Picked → Ran Value
   ends o = elim o [ ok p ↦ picked a b p | refused e ↦ ended (refused e) s | fault x ↦ ended (fault x) s ]
 
-  -- one side succeeded, and the other's refusal may win
-  one-side : (side-first : Bool) (e : Refusal) (c : Bool) → Lacks (n + m) s s e → RanTells (n + m) s (ends (if c then refused e else side side-first none))
+  -- one side succeeded, and the other's refusal wins if it is for wrong input
+  one-side :
+      (f : Bool) (e : Refusal) (k : List MissingItem) (left : State)
+      → Lacks k s left e
+      → (used wrong : Bool)
+      → wrongInput e ≡ wrong
+      → (ls : List MissingItem)
+      → RanTells ls s (ends (if used && wrong then refused e else side f none))
   unfolding ended if_then_else_ side
-  one-side f e true l = l
-  one-side f e false l = picked-tells (n + m) s a b (record { first = f; place = none })
+  one-side f e k left h true true q ls =
+      let x = wrong-not-missing e q in no-entries ls s s e x (h .only x)
+  one-side f e k left h true false q ls = picked-tells ls s a b (record { first = f; place = none })
+  one-side f e k left h false w q ls = picked-tells ls s a b (record { first = f; place = none })
 
-  both-sides :
-      (c : Bool) (p : Picked) → RanTells (n + m) s (ends (if c then side true none else ok p))
+  both-sides : (ls : List MissingItem) (c : Bool) (p : Picked) → RanTells ls s (ends (if c then side true none else ok p))
   unfolding ended if_then_else_ side
-  both-sides true p = picked-tells (n + m) s a b (record { first = true; place = none })
-  both-sides false p = picked-tells (n + m) s a b p
+  both-sides ls true p = picked-tells ls s a b (record { first = true; place = none })
+  both-sides ls false p = picked-tells ls s a b p
 
   sides :
       (o u : Outcome Value)
-      → Tells n s o (a .state)
+      → Tells l s o (a .state)
       → Tells m s u (b .state)
-      → RanTells (n + m) s (ends (picksFirst s (a .state) (b .state) o u))
-  unfolding picksFirst ended
-  sides (ok v) (ok w) h g = both-sides _ _
-  sides (ok v) (refused e) h g = one-side true e _ (lacks-more m (n + m) s (b .state) e (omega arith) g)
-  sides (refused e) (ok w) h g = one-side false e _ (lacks-more n (n + m) s (a .state) e (omega arith) h)
+      → RanTells (both l m s (endsMissing o)) s (ends (picksFirst s (a .state) (b .state) o u))
+  unfolding picksFirst ended endsMissing
+  sides (ok v) (ok w) h g =
+      both-sides (both l m s false) (eqb (s .remaining) (a .state .remaining) && eqb (s .remaining) (b .state .remaining)) (pickWinner (a .state) (b .state))
+  sides (ok v) (refused e) h g =
+      one-side true e m (b .state) g (eqb (s .remaining) (a .state .remaining)) (wrongInput e) refl (both l m s false)
+  sides (refused e) (ok w) h g =
+      one-side false e l (a .state) h (eqb (s .remaining) (b .state .remaining)) (wrongInput e) refl (both l m s (isMissing e))
   sides (refused e) (refused d) h g =
-      combine-lacks n m s (a .state) (b .state) e d h g (isMissing e) (isMissing d) (canCatch e) refl refl refl
+      combine-lacks l m s (a .state) (b .state) e d h g (isMissing e) (isMissing d) (canCatch e) refl refl refl
   sides (fault x) u h g = tt
   sides (ok v) (fault x) h g = tt
   sides (refused e) (fault x) h g = tt
 
-  choice-tells : RanTells n s a → RanTells m s b → RanTells (n + m) s (evalChoice s a b)
+  choice-tells : RanTells l s a → RanTells m s b → RanTells (both l m s (endsMissing (a .outcome))) s (evalChoice s a b)
   unfolding evalChoice after chosen
   choice-tells h g = sides (a .outcome) (b .outcome) h g
 
-fallback-tells : (n : ℕ) (v : BaseValue) (s : State) (r : Ran Value) → RanTells n s r → RanTells n s (evalFallback v s r)
-unfolding evalFallback after ended if_then_else_
-fallback-tells n v s r h = go (r .outcome) h
+catches-missing : (e : Refusal) → canCatch e ≡ false → isMissing e ≡ false
+unfolding canCatch isMissing contains
+catches-missing e h = go (eqb (e .number) 20) refl
   where
-    caught : (e : Refusal) → Lacks n s (r .state) e → (c : Bool) → Tells {A = Value} n s (if c then ok (base v) else refused e) s
-    caught e l true = tt
-    caught e l false = lacks-more n n s (r .state) e (omega arith) l
+    go : (b : Bool) → eqb (e .number) 20 ≡ b → b ≡ false
+    go true q = absurd (let same = eqb-true (e .number) 20 q in let bad = rw same at h in true≢false bad)
+    go false q = refl
+
+fallback-never : (ls : List MissingItem) (v : BaseValue) (s : State) (r : Ran Value) → RanTells ls s r → Never (evalFallback v s r .outcome)
+unfolding evalFallback after ended if_then_else_
+fallback-never ls v s r h = go (r .outcome) h
+  where
+    caught : (e : Refusal) → Lacks ls s (r .state) e → (c : Bool) → canCatch e ≡ c → Never {A = Value} (if c then ok (base v) else refused e)
+    caught e l true q = tt
+    caught e l false q = let x = catches-missing e q in (x, l .only x)
 
     go :
         (o : Outcome Value)
-        → Tells n s o (r .state)
-        → RanTells {A = Value} n s (elim o [
+        → Tells ls s o (r .state)
+        → RanNever {A = Value} (elim o [
           | ok w ↦ ended (ok w) (r .state)
           | refused e ↦ ended (if canCatch e then ok (base v) else refused e) s
           | fault x ↦ ended (fault x) s
         ])
     go (ok w) h = tt
-    go (refused e) h = caught e h (canCatch e)
+    go (refused e) h = caught e h (canCatch e) refl
     go (fault x) h = tt
 
 guarded-never : (lo hi : ℕ) (v : Value) (s : State) → Never (guarded lo hi v s)
@@ -546,51 +575,103 @@ guarded-never lo hi (there v) s = tt
 guarded-never lo hi nil s = tt
 guarded-never lo hi (cons v w) s = tt
 
-guard-tells : (n lo hi : ℕ) (s : State) (r : Ran Value) → RanTells n s r → RanTells n s (evalGuard lo hi r)
+guard-tells : (ls : List MissingItem) (lo hi : ℕ) (s : State) (r : Ran Value) → RanTells ls s r → RanTells ls s (evalGuard lo hi r)
 unfolding evalGuard _then_ after ended
-guard-tells n lo hi s r h = go (r .outcome) h
+guard-tells ls lo hi s r h = go (r .outcome) h
   where
     go :
         (o : Outcome Value)
-        → Tells n s o (r .state)
-        → RanTells {A = Value} n s (elim o [
+        → Tells ls s o (r .state)
+        → RanTells {A = Value} ls s (elim o [
           | ok v ↦ ended (guarded lo hi v (r .state)) (r .state)
           | refused e ↦ ended (refused e) (r .state)
           | fault x ↦ ended (fault x) (r .state)
         ])
-    go (ok v) h = never-tells n s (r .state) (guarded lo hi v (r .state)) (guarded-never lo hi v (r .state))
+    go (ok v) h = never-tells ls s (r .state) (guarded lo hi v (r .state)) (guarded-never lo hi v (r .state))
     go (refused e) h = h
     go (fault x) h = tt
 
 -- ---- every node
-some-never : (n : ℕ) (catch : Bool) (run : State → Ran Value) → ((s : State) → RanTells n s (run s)) → (s : State) → Never (evalSome catch run s .outcome)
+some-never : (ls : State → List MissingItem) (catch : Bool) (run : State → Ran Value) → ((s : State) → RanTells (ls s) s (run s)) → (s : State) → Never (evalSome catch run s .outcome)
 unfolding evalSome ended if_then_else_
-some-never n catch run h s = never-then (repeated catch false run s) _ (repeated-never n catch false run h s) (λ vs t. go vs (null vs))
+some-never ls catch run h s = never-then (repeated catch false run s) _ (repeated-never ls catch false run h s) (λ vs t. go vs (null vs))
   where
     go : (vs : List Value) (b : Bool) → Never {A = Value} (if b then refused (refuse 21 none) else ok (listOf vs))
     go vs true = plain-never 21 none (λ e. omega arith)
     go vs false = tt
 
-eval-tells : (mark : ℕ) (is : List Item) (t : Tree) (s : State) → RanTells (leaves t) s (eval mark is t s)
-unfolding eval visit leaves evalMany evalCount ended
+eval-tells : (mark : ℕ) (is : List Item) (t : Tree) (s : State) → RanTells (lacking mark is t s) s (eval mark is t s)
+unfolding eval visit lacking evalMany evalCount ended
 eval-tells k is (Flag n m w) s = flag-tells k is n m w s
 eval-tells k is (Argument n m b a) s = argument-tells k is n m b a s
 eval-tells k is (Positional n p b) s = positional-tells k is n p b s
 eval-tells k is (Optional c t) s =
-    never-tells _ s _ (evalOptional c s (eval k is t s) .outcome) (optional-never (leaves t) c s (eval k is t s) (eval-tells k is t s))
+    never-tells [] s _ (evalOptional c s (eval k is t s) .outcome) (optional-never (lacking k is t s) c s (eval k is t s) (eval-tells k is t s))
 eval-tells k is (Many c t) s =
-    never-tells _ s _ (evalMany c (eval k is t) s .outcome)
-    (never-then (repeated c false (eval k is t) s) _ (repeated-never (leaves t) c false (eval k is t) (λ u. eval-tells k is t u) s) (λ vs u. tt))
+    never-tells [] s _ (evalMany c (eval k is t) s .outcome)
+    (never-then (repeated c false (eval k is t) s) _ (repeated-never (lacking k is t) c false (eval k is t) (λ u. eval-tells k is t u) s) (λ vs u. tt))
 eval-tells k is (Some c t) s =
-    never-tells _ s _ (evalSome c (eval k is t) s .outcome) (some-never (leaves t) c (eval k is t) (λ u. eval-tells k is t u) s)
+    never-tells [] s _ (evalSome c (eval k is t) s .outcome) (some-never (lacking k is t) c (eval k is t) (λ u. eval-tells k is t u) s)
 eval-tells k is (Count t) s =
-    never-tells _ s _ (evalCount (eval k is t) s .outcome)
-    (never-then (repeated false true (eval k is t) s) _ (repeated-never (leaves t) false true (eval k is t) (λ u. eval-tells k is t u) s) (λ vs u. tt))
-eval-tells k is (Last t) s = last-tells (leaves t) (eval k is t) (λ u. eval-tells k is t u) s
+    never-tells [] s _ (evalCount (eval k is t) s .outcome)
+    (never-then (repeated false true (eval k is t) s) _ (repeated-never (lacking k is t) false true (eval k is t) (λ u. eval-tells k is t u) s) (λ vs u. tt))
+eval-tells k is (Last t) s = last-tells (lacking k is t) (eval k is t) (λ u. eval-tells k is t u) s
 eval-tells k is (Choice t u) s =
-    choice-tells (leaves t) (leaves u) s (eval k is t s) (eval k is u s) (eval-tells k is t s) (eval-tells k is u s)
-eval-tells k is (Fallback v t) s = fallback-tells (leaves t) v s (eval k is t s) (eval-tells k is t s)
-eval-tells k is (Guard lo hi t) s = guard-tells (leaves t) lo hi s (eval k is t s) (eval-tells k is t s)
+    choice-tells (lacking k is t s) (lacking k is u s) s (eval k is t s) (eval k is u s) (eval-tells k is t s) (eval-tells k is u s)
+eval-tells k is (Fallback v t) s =
+    never-tells [] s _ (evalFallback v s (eval k is t s) .outcome) (fallback-never (lacking k is t s) v s (eval k is t s) (eval-tells k is t s))
+eval-tells k is (Guard lo hi t) s = guard-tells (lacking k is t s) lo hi s (eval k is t s) (eval-tells k is t s)
+
+-- ---- the scopes of the entries, and how many they are
+all-append : {A : Type 0} (P : A → Type 0) (l m : List A) → All P l → All P m → All P (l ++ m)
+all-append P [] m h g = g
+all-append P (x ∷ l) m h g = (h .0, all-append P l m (h .1) g)
+
+kept-scopes : (s : State) (b : Bool) (l : List MissingItem) → All (LookedIn s) l → All (LookedIn s) (if b then l else [])
+unfolding if_then_else_
+kept-scopes s true l h = h
+kept-scopes s false l h = tt
+
+lacking-scopes : (mark : ℕ) (is : List Item) (t : Tree) (s : State) → All (LookedIn s) (lacking mark is t s)
+unfolding lacking entry
+lacking-scopes k is (Flag n m w) s = ((refl, refl), tt)
+lacking-scopes k is (Argument n m b a) s = ((refl, refl), tt)
+lacking-scopes k is (Positional n p b) s = ((refl, refl), tt)
+lacking-scopes k is (Optional c t) s = tt
+lacking-scopes k is (Many c t) s = tt
+lacking-scopes k is (Some c t) s = tt
+lacking-scopes k is (Count t) s = tt
+lacking-scopes k is (Last t) s = lacking-scopes k is t s
+lacking-scopes k is (Choice t u) s =
+    let missing = endsMissing (eval k is t s .outcome) in
+    all-append (LookedIn s) (if missing then lacking k is t s else []) (lacking k is u s)
+    (kept-scopes s missing (lacking k is t s) (lacking-scopes k is t s))
+    (lacking-scopes k is u s)
+lacking-scopes k is (Fallback v t) s = tt
+lacking-scopes k is (Guard lo hi t) s = lacking-scopes k is t s
+
+kept-few : (b : Bool) (l : List MissingItem) → length (if b then l else []) ≤ length l
+unfolding if_then_else_
+kept-few true l = omega arith
+kept-few false l = omega arith
+
+lacking-few : (mark : ℕ) (is : List Item) (t : Tree) (s : State) → length (lacking mark is t s) ≤ leaves t
+unfolding lacking leaves
+lacking-few k is (Flag n m w) s = omega arith
+lacking-few k is (Argument n m b a) s = omega arith
+lacking-few k is (Positional n p b) s = omega arith
+lacking-few k is (Optional c t) s = omega arith
+lacking-few k is (Many c t) s = omega arith
+lacking-few k is (Some c t) s = omega arith
+lacking-few k is (Count t) s = omega arith
+lacking-few k is (Last t) s = lacking-few k is t s
+lacking-few k is (Choice t u) s =
+    let first = if endsMissing (eval k is t s .outcome) then lacking k is t s else [] in
+    let both = length-append first (lacking k is u s) in
+    let one = kept-few (endsMissing (eval k is t s .outcome)) (lacking k is t s) in
+    omega (arith, lacking-few k is t s, lacking-few k is u s)
+lacking-few k is (Fallback v t) s = omega arith
+lacking-few k is (Guard lo hi t) s = lacking-few k is t s
 
 -- ---- the fields of a form
 -- a run that goes on and is refused: at once, or by what it goes on with
@@ -607,19 +688,33 @@ then-refused {A = A} r f e q = go (r .outcome) refl
     go (refused x) k = let same : x ≡ e = let bad = rw k at q in cc in at-once (k ∙ ap refused same) (rw k)
     go (fault x) k = absurd (let bad = rw k at q in let z : _≡_ {A = ℕ} 0 1 = cc in omega arith)
 
--- of the state that the refused field was given
-abbrev FieldLacks : ℕ → State → Refusal → Type 0
-FieldLacks n left e = (given : State) × Lacks n given left e
-
-few-more : (n m : ℕ) (s left : State) (e : Refusal) → n ≤ m → Lacks n s left e → Lacks m s left e
-few-more n m s left e h l = record { only = l .only; unchanged = l .unchanged; scopes = l .scopes; few = let f = l .few in omega arith }
+few-more : (n m : ℕ) (left : State) (e : Refusal) → n ≤ m → FieldLacks n left e → FieldLacks m left e
+few-more n m left e h f = record {
+  given = f .given;
+  entries = f .entries;
+  lacks = f .lacks;
+  scopes = f .scopes;
+  few = let k = f .few in omega arith;
+}
 
 tree-lacks :
     (mark : ℕ) (is : List Item) (t : Tree) (s : State) (e : Refusal)
     → eval mark is t s .outcome ≡ refused e
-    → Lacks (leaves t) s (eval mark is t s .state) e
+    → Lacks (lacking mark is t s) s (eval mark is t s .state) e
 tree-lacks mark is t s e q =
-    subst (λ (o : Outcome Value). Tells (leaves t) s o (eval mark is t s .state)) q (eval-tells mark is t s)
+    subst (λ (o : Outcome Value). Tells (lacking mark is t s) s o (eval mark is t s .state)) q (eval-tells mark is t s)
+
+field-lacks :
+    (mark : ℕ) (is : List Item) (t : Tree) (s : State) (e : Refusal)
+    → eval mark is t s .outcome ≡ refused e
+    → FieldLacks (leaves t) (eval mark is t s .state) e
+field-lacks mark is t s e q = record {
+  given = s;
+  entries = lacking mark is t s;
+  lacks = tree-lacks mark is t s e q;
+  scopes = lacking-scopes mark is t s;
+  few = lacking-few mark is t s;
+}
 
 module _ (mark : ℕ) (is : List Item) (t : Tree) (ts : List Tree) where
   abbrev rest : Value → State → Ran (List Value)
@@ -632,8 +727,7 @@ module _ (mark : ℕ) (is : List Item) (t : Tree) (ts : List Tree) where
       where
         go : Refuses (runFields mark is ts u) (λ vs w. ended (ok (v ∷ vs)) w) e → FieldLacks (leaves t + allLeaves ts) (rest v u .state) e
         go (at-once k l) =
-            let x = h u e k in
-            (x .0, rw l (few-more (allLeaves ts) (leaves t + allLeaves ts) (x .0) (runFields mark is ts u .state) e (omega arith) (x .1)))
+            rw l (few-more (allLeaves ts) (leaves t + allLeaves ts) (runFields mark is ts u .state) e (omega arith) (h u e k))
         go (going-on vs k l) = absurd (let z : _≡_ {A = ℕ} 0 1 = cc in omega arith)
 
     first-lacks :
@@ -644,7 +738,7 @@ module _ (mark : ℕ) (is : List Item) (t : Tree) (ts : List Tree) where
       where
         go : Refuses (eval mark is t s) rest e → FieldLacks (leaves t + allLeaves ts) ((eval mark is t s then rest) .state) e
         go (at-once k l) =
-            (s, rw l (few-more (leaves t) (leaves t + allLeaves ts) s (eval mark is t s .state) e (omega arith) (tree-lacks mark is t s e k)))
+            rw l (few-more (leaves t) (leaves t + allLeaves ts) (eval mark is t s .state) e (omega arith) (field-lacks mark is t s e k))
         go (going-on v k l) = rw l (rest-lacks v (eval mark is t s .state) e k)
 
 fields-lack :
@@ -683,7 +777,7 @@ run-lacks mark is ts s e q = go (then-refused (runFields mark is ts s) (λ vs t.
         over vs t k =
             let n = left-never vs (first is t) (find-none is (λ _. true) (unused t)) in
             let none : Never {A = List Value} (refused e) = subst (λ (o : Outcome (List Value)). Never o) k n in
-            (t, no-entries (allLeaves ts) t t e (none .0) (none .1))
+            record { given = t; entries = []; lacks = no-entries [] t t e (none .0) (none .1); scopes = tt; few = omega arith }
 
 -- an accepted form has 64 nodes at most
 accepted-few : (b : List ℕ) (a : Accepted) → checkForm b ≡ accepted a → allLeaves (a .fields) ≤ 64
@@ -702,8 +796,11 @@ list-fits :
     → 3 * length (e .missing) ≤ 192
 list-fits b a h mark is s e q =
     let few = accepted-few b a h in
-    let entries = run-lacks mark is (a .fields) s e q .1 .few in
-    omega arith
+    go (isMissing e) refl (run-lacks mark is (a .fields) s e q) few
+  where
+    go : (b : Bool) → isMissing e ≡ b → FieldLacks (allLeaves (a .fields)) (runAll mark is (a .fields) s .state) e → allLeaves (a .fields) ≤ 64 → 3 * length (e .missing) ≤ 192
+    go true x f few = let same = ap length (f .lacks .listed x) in let k = f .few in omega arith
+    go false x f few = let same = ap length (f .lacks .only x) in omega arith
 
 pub missing-told : MissingTold
-missing-told = record { lacks = tree-lacks; run = run-lacks; fits = list-fits }
+missing-told = record { lacks = tree-lacks; scopes = lacking-scopes; few = lacking-few; run = run-lacks; fits = list-fits }
