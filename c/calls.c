@@ -38,14 +38,26 @@ static const uint8_t FALLBACK[] = {
   NAME(SILVERPOISE_NAME_SHORT, 0, 1), letter
 static const uint8_t DIGIT[] = {SWITCH('6')}, VENDORS[] = {SWITCH('W')};
 static const uint8_t NO_ARGUMENTS[] = {U16(0), U16(0)};
+static const uint8_t THREE_WORDS[] = {U16(3), U16(0), U16(1), U16(2), U16(3), 'a', 'b', 'c'};
+// switch v, then required flag x: nodes 0 and 1
+static const uint8_t REQUIRED[] = {
+  U16(2), U16(2), U16(2), U16(2), U16(0), U16(1), NODE(SILVERPOISE_NODE_FLAG, 0, 1, SILVERPOISE_FLAG_SWITCH, 0, 0),
+  NODE(SILVERPOISE_NODE_FLAG, 1, 1, SILVERPOISE_FLAG_REQUIRED, 0, 0),
+  NAME(SILVERPOISE_NAME_SHORT, 0, 1), NAME(SILVERPOISE_NAME_SHORT, 1, 1), 'v', 'x'};
+// choice of text argument x and text argument y: nodes 0 and 1, and the choice 2
+static const uint8_t CHOICE[] = {
+  U16(3), U16(1), U16(2), U16(2), U16(2), NODE(SILVERPOISE_NODE_ARGUMENT, 0, 1, SILVERPOISE_VALUE_TEXT, 0, 0),
+  NODE(SILVERPOISE_NODE_ARGUMENT, 1, 1, SILVERPOISE_VALUE_TEXT, 0, 0), NODE(SILVERPOISE_NODE_CHOICE, 0, 1, 0, 0, 0),
+  NAME(SILVERPOISE_NAME_SHORT, 0, 1), NAME(SILVERPOISE_NAME_SHORT, 1, 1), 'x', 'y'};
 
 // Slices of exactly the lengths that are lent, on the heap, so that valgrind sees a read or write outside of them.
 static uint8_t *form, *sheet;
-static uint32_t *items, *answers;
+static uint32_t *items, *answers, *list;
 #define FORM form, sizeof FORM_BYTES
 #define SHEET sheet, sizeof SHEET_BYTES
 #define ITEMS items, SILVERPOISE_ITEM_SLICE
 #define ANSWERS answers, SILVERPOISE_ANSWER_SLICE
+#define LIST list, SILVERPOISE_LIST_SLICE
 
 static SilverpoiseState S, S0, S1, S2;
 
@@ -173,37 +185,82 @@ static void running(void) {
   const SilverpoiseState empty = {{0}, 0, 0, 0, 0, 0}, one_left = {{1}, 2, 1, 1, 0, 2};
 
   fill(ANSWERS, 7);
-  SilverpoiseRunAnswer a = silverpoise_run(FALLBACK, sizeof FALLBACK, NO_ARGUMENTS, sizeof NO_ARGUMENTS, ITEMS, ANSWERS);
+  SilverpoiseRunAnswer a =
+      silverpoise_run(FALLBACK, sizeof FALLBACK, NO_ARGUMENTS, sizeof NO_ARGUMENTS, ITEMS, ANSWERS, LIST);
   CHECK(ran(a, 0, 0, 1, 1, empty));
   CHECK(holds(ANSWERS, fallback, 1, 0));
   SilverpoiseTextPart part = silverpoise_text(FALLBACK, sizeof FALLBACK, NO_ARGUMENTS, sizeof NO_ARGUMENTS, ITEMS, answers[0]);
   CHECK(stands(part, 0, SILVERPOISE_SOURCE_FORM, sizeof FALLBACK - 2, 2));
 
   fill(ANSWERS, 7);
-  CHECK(ran(silverpoise_run(FORM, no_value, sizeof no_value, ITEMS, ANSWERS), 22, 2, 3, 0, one_left));
-  CHECK(items[0] == SILVERPOISE_ITEM_SHORT && holds(ANSWERS, NULL, 0, 0));
+  fill(LIST, 7);
+  CHECK(ran(silverpoise_run(FORM, no_value, sizeof no_value, ITEMS, ANSWERS, LIST), 22, 2, 3, 0, one_left));
+  CHECK(items[0] == SILVERPOISE_ITEM_SHORT && holds(ANSWERS, NULL, 0, 0) && holds(LIST, NULL, 0, 0));
 
   fill(ANSWERS, 7);
-  CHECK(ran(silverpoise_run(FORM, SHEET, ITEMS, answers, SILVERPOISE_ANSWER_SLICE - 1), 7, 0, 0, 0, empty));
-  CHECK(holds(ITEMS, NULL, 0, 0) && holds(answers, SILVERPOISE_ANSWER_SLICE - 1, NULL, 0, 0));
+  fill(LIST, 7);
+  CHECK(ran(silverpoise_run(FORM, SHEET, ITEMS, answers, SILVERPOISE_ANSWER_SLICE - 1, LIST), 7, 0, 0, 0, empty));
+  CHECK(holds(ITEMS, NULL, 0, 0) && holds(answers, SILVERPOISE_ANSWER_SLICE - 1, NULL, 0, 0) && holds(LIST, NULL, 0, 0));
 
   // last, since the checks that follow use the items that it leaves
   fill(ANSWERS, 7);
-  CHECK(ran(silverpoise_run(FORM, SHEET, ITEMS, ANSWERS), 0, 0, 5, 6, state(1, 1, 1, 0, 3)));
-  CHECK(holds(ANSWERS, values, 6, 0));
+  fill(LIST, 7);
+  CHECK(ran(silverpoise_run(FORM, SHEET, ITEMS, ANSWERS, LIST), 0, 0, 5, 6, state(1, 1, 1, 0, 3)));
+  CHECK(holds(ANSWERS, values, 6, 0) && holds(LIST, NULL, 0, 0));
   CHECK(stands(silverpoise_text(FORM, SHEET, ITEMS, 2), 0, SILVERPOISE_SOURCE_SHEET, 9, 1));
   CHECK(stands(silverpoise_text(FORM, SHEET, ITEMS, 3), 28, 0, 0, 0));
 }
 
+// The list of what is missing: node plus 1, scope start, scope end for each that looked in vain, the first side first.
+static void missing(void) {
+  static const uint32_t one[] = {2, 0, 3}, both_sides[] = {1, 0, 3, 2, 0, 3};
+  const SilverpoiseState all = state(0, 0, 0, 3, 0), empty = {{0}, 0, 0, 0, 0, 0};
+
+  fill(LIST, 7);
+  SilverpoiseRunAnswer a =
+      silverpoise_run(REQUIRED, sizeof REQUIRED, THREE_WORDS, sizeof THREE_WORDS, ITEMS, ANSWERS, LIST);
+  CHECK(ran(a, 20, 0, 2, 0, all));
+  CHECK(holds(ANSWERS, NULL, 0, 0) && holds(LIST, one, 3, 0));
+
+  fill(LIST, 7);
+  a = silverpoise_run(CHOICE, sizeof CHOICE, THREE_WORDS, sizeof THREE_WORDS, ITEMS, ANSWERS, LIST);
+  CHECK(ran(a, 20, 0, 2, 0, all));
+  CHECK(holds(ANSWERS, NULL, 0, 0) && holds(LIST, both_sides, 6, 0));
+
+  // 14 stands right behind 7, and leaves what 7 leaves; no word behind the slice is touched
+  fill(ITEMS, 7);
+  fill(ANSWERS, 7);
+  fill(LIST, 7);
+  CHECK(ran(silverpoise_run(FORM, SHEET, ITEMS, ANSWERS, list, SILVERPOISE_LIST_SLICE - 1), 14, 0, 0, 0, empty));
+  CHECK(holds(ITEMS, NULL, 0, 0) && holds(ANSWERS, NULL, 0, 0));
+  CHECK(holds(list, SILVERPOISE_LIST_SLICE - 1, NULL, 0, 0) && list[SILVERPOISE_LIST_SLICE - 1] == 7);
+  CHECK(silverpoise_run(FORM, SHEET, ITEMS, ANSWERS, NULL, 0).number == 14);
+  CHECK(silverpoise_run(FORM, SHEET, items, SILVERPOISE_ITEM_SLICE - 1, ANSWERS, NULL, 0).number == 7);
+}
+
 static void evaluation(void) {
-  static const uint32_t value[] = {1, 7};
+  static const uint32_t value[] = {1, 7}, in_scope[] = {5, 1, 3};
+  SilverpoiseState scoped = S;
+  scoped.start = 1;
+  scoped.remaining = 2;
+
   fill(ANSWERS, 9);
-  CHECK(ran(silverpoise_eval(FORM, SHEET, ITEMS, ANSWERS, S, 8), 28, 0, 0, 0, S));
-  CHECK(holds(ANSWERS, NULL, 0, 9));
-  CHECK(ran(silverpoise_eval(FORM, SHEET, ITEMS, ANSWERS, S2, 3), 22, 2, 1, 0, S2));
-  CHECK(holds(ANSWERS, NULL, 0, 0));
-  CHECK(ran(silverpoise_eval(FORM, SHEET, ITEMS, ANSWERS, S, 3), 0, 0, 1, 2, state(0, 1, 1, 1, 3)));
-  CHECK(holds(ANSWERS, value, 2, 0));
+  fill(LIST, 9);
+  CHECK(ran(silverpoise_eval(FORM, SHEET, ITEMS, ANSWERS, LIST, S, 8), 28, 0, 0, 0, S));
+  CHECK(ran(silverpoise_eval(FORM, SHEET, ITEMS, ANSWERS, list, SILVERPOISE_LIST_SLICE - 1, S, 8), 14, 0, 0, 0, S));
+  items[0] += SILVERPOISE_ITEM_POS_WORD; // a record at fault
+  CHECK(ran(silverpoise_eval(FORM, SHEET, ITEMS, ANSWERS, LIST, S, 3), 30, 0, 0, 0, S));
+  CHECK(ran(silverpoise_eval(FORM, SHEET, ITEMS, ANSWERS, list, SILVERPOISE_LIST_SLICE - 1, S, 3), 14, 0, 0, 0, S));
+  items[0] -= SILVERPOISE_ITEM_POS_WORD;
+  CHECK(holds(ANSWERS, NULL, 0, 9) && holds(LIST, NULL, 0, 9));
+  CHECK(ran(silverpoise_eval(FORM, SHEET, ITEMS, ANSWERS, LIST, S2, 3), 22, 2, 1, 0, S2));
+  CHECK(holds(ANSWERS, NULL, 0, 0) && holds(LIST, NULL, 0, 0));
+
+  fill(LIST, 9);
+  CHECK(ran(silverpoise_eval(FORM, SHEET, ITEMS, ANSWERS, LIST, scoped, 4), 20, 0, 1, 0, scoped));
+  CHECK(holds(ANSWERS, NULL, 0, 0) && holds(LIST, in_scope, 3, 0));
+  CHECK(ran(silverpoise_eval(FORM, SHEET, ITEMS, ANSWERS, LIST, S, 3), 0, 0, 1, 2, state(0, 1, 1, 1, 3)));
+  CHECK(holds(ANSWERS, value, 2, 0) && holds(LIST, NULL, 0, 0));
 }
 
 static void states(void) {
@@ -280,6 +337,7 @@ int main(void) {
   sheet = (uint8_t *)lend(SHEET_BYTES, sizeof SHEET_BYTES);
   items = (uint32_t *)lend(NULL, SILVERPOISE_ITEM_SLICE * sizeof *items);
   answers = (uint32_t *)lend(NULL, SILVERPOISE_ANSWER_SLICE * sizeof *answers);
+  list = (uint32_t *)lend(NULL, SILVERPOISE_LIST_SLICE * sizeof *list);
   S = state(0, 0, 0, 3, 0);
   S0 = state(1, 0, 0, 2, 1);
   S1 = state(0, 1, 0, 2, 2);
@@ -289,6 +347,7 @@ int main(void) {
   refusals();
   checks();
   splitting();
+  missing();
   running();
   evaluation();
   states();
@@ -300,5 +359,6 @@ int main(void) {
   free(sheet);
   free(items);
   free(answers);
+  free(list);
   return report();
 }

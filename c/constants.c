@@ -18,7 +18,7 @@
 #define ABOVE(child, kind, r) NODE(kind, child, 0, r, 0, 0)
 
 static uint8_t form[SILVERPOISE_MAX_FORM + 64], sheet[SILVERPOISE_MAX_SHEET + 64]; // with room for one more of everything
-static uint32_t items[SILVERPOISE_ITEM_SLICE], answers[SILVERPOISE_ANSWER_SLICE];
+static uint32_t items[SILVERPOISE_ITEM_SLICE], answers[SILVERPOISE_ANSWER_SLICE], list[SILVERPOISE_LIST_SLICE];
 
 static uint8_t *put_u16(uint8_t *to, size_t x) {
   to[0] = x & 255;
@@ -42,11 +42,12 @@ static size_t make_sheet(const char *line) {
   return (size_t)(to - sheet);
 }
 
-#define RUN(bytes, line) run(bytes, sizeof bytes, line)
+#define RUN(bytes, line) run(bytes, sizeof bytes, line, SILVERPOISE_LIST_SLICE)
 
-static SilverpoiseRunAnswer run(const uint8_t *bytes, size_t length, const char *line) {
+static SilverpoiseRunAnswer run(const uint8_t *bytes, size_t length, const char *line, size_t list_count) {
   size_t sheet_length = make_sheet(line);
-  return silverpoise_run(bytes, length, sheet, sheet_length, items, SILVERPOISE_ITEM_SLICE, answers, SILVERPOISE_ANSWER_SLICE);
+  return silverpoise_run(bytes, length, sheet, sheet_length, items, SILVERPOISE_ITEM_SLICE, answers, SILVERPOISE_ANSWER_SLICE,
+                         list, list_count);
 }
 
 static uint32_t item_kind(size_t place) { return items[SILVERPOISE_RECORD_WORDS * place]; }
@@ -118,6 +119,7 @@ static void refusals_of_input(void) {
   CHECK(RUN(node, "").number == SILVERPOISE_REFUSED_NODE);
   CHECK(RUN(use, "").number == SILVERPOISE_REFUSED_USE);
   CHECK(RUN(both, "-vv").number == SILVERPOISE_REFUSED_AMBIGUOUS);
+  CHECK(run(both, sizeof both, "-vv", SILVERPOISE_LIST_SLICE - 1).number == SILVERPOISE_REFUSED_LIST);
   CHECK(silverpoise_split(both, sizeof both, sheet, make_sheet(""), items, 0).number == SILVERPOISE_REFUSED_SLICE);
 }
 
@@ -222,6 +224,18 @@ static void marks(void) {
   CHECK(state.marks[2] == SILVERPOISE_MARK_CONFLICT + 0 && state.marks[3] == SILVERPOISE_MARK_UNPARSED);
 }
 
+// Neither side of the choice finds anything. Each has its entry: node plus 1, and the scope, here all of the two items.
+static void missing(void) {
+  static const uint8_t choice[] =
+      FORM(3, ARGUMENT_V(SILVERPOISE_VALUE_TEXT), POSITIONAL(SILVERPOISE_POSITIONAL_UNRESTRICTED, SILVERPOISE_VALUE_TEXT),
+           NODE(SILVERPOISE_NODE_CHOICE, 0, 1, 0, 0, 0));
+  const uint32_t *second = list + SILVERPOISE_ENTRY_WORDS, *third = second + SILVERPOISE_ENTRY_WORDS;
+  CHECK(RUN(choice, "-x --y").number == SILVERPOISE_REFUSED_MISSING);
+  CHECK(list[0] == 0 + 1 && list[1] == 0 && list[2] == 2);
+  CHECK(second[0] == 1 + 1 && second[1] == 0 && second[2] == 2);
+  CHECK(third[0] == 0 && third[1] == 0 && third[2] == 0);
+}
+
 int main(void) {
   limits();
   refusals_of_input();
@@ -230,5 +244,6 @@ int main(void) {
   all_kinds();
   value_kinds();
   marks();
+  missing();
   return report();
 }

@@ -48,6 +48,7 @@ struct line {
   size_t length; // of the sheet
   uint32_t items[SILVERPOISE_ITEM_SLICE];
   uint32_t answers[SILVERPOISE_ANSWER_SLICE];
+  uint32_t list[SILVERPOISE_LIST_SLICE]; // of what is missing
 };
 
 static void put_u16(uint8_t *to, size_t x) {
@@ -169,7 +170,8 @@ static int print_order(const struct line *line) {
 int main(int argc, char **argv) {
   static struct line line;
   line.length = make_sheet(line.sheet, argc > 0 ? argc - 1 : 0, argv + 1);
-  SilverpoiseRunAnswer answer = silverpoise_run(FORM, sizeof FORM, line.sheet, line.length, line.items,
-                                                SILVERPOISE_ITEM_SLICE, line.answers, SILVERPOISE_ANSWER_SLICE);
+  SilverpoiseRunAnswer answer =
+      silverpoise_run(FORM, sizeof FORM, line.sheet, line.length, line.items, SILVERPOISE_ITEM_SLICE, line.answers,
+                      SILVERPOISE_ANSWER_SLICE, line.list, SILVERPOISE_LIST_SLICE);
   return answer.number == SILVERPOISE_ACCEPTED ? print_order(&line) : refuse(&line, answer);
 }

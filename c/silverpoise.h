@@ -29,8 +29,10 @@ enum {
   // the least lengths of the slices that are lent, in uint32_t
   SILVERPOISE_ITEM_SLICE = 1792,   // 256 item records of seven words
   SILVERPOISE_ANSWER_SLICE = 8240, // the answer words of any form
+  SILVERPOISE_LIST_SLICE = 192,    // 64 entries of three words
 
   SILVERPOISE_RECORD_WORDS = 7, // the item at place k begins at word 7 * k of the item slice
+  SILVERPOISE_ENTRY_WORDS = 3,  // entry k of the list of what is missing begins at word 3 * k of the list slice
   SILVERPOISE_MAX_ITEMS = 256,
 
   // a sheet (2)
@@ -51,19 +53,20 @@ enum {
 enum SilverpoiseRefusal {
   SILVERPOISE_ACCEPTED = 0,
 
-  // because of the input, tested in this order but for 6, which comes before 5
+  // because of the input, tested in this order but for 6, which comes before 5, and 14, which comes before 8
   SILVERPOISE_REFUSED_FORM = 1,      // the form's length or counts
   SILVERPOISE_REFUSED_NAME = 2,      // a name record of the form; place: the lowest at fault
   SILVERPOISE_REFUSED_NODE = 3,      // a node of the form; place: the lowest at fault
   SILVERPOISE_REFUSED_USE = 4,       // a field number (no place), or a node that is not used once; place: the lowest such
   SILVERPOISE_REFUSED_SHEET = 5,     // the sheet's counts, offsets or length
   SILVERPOISE_REFUSED_ARGUMENTS = 6, // more than 256 arguments
-  SILVERPOISE_REFUSED_SLICE = 7,     // a lent slice is too short
+  SILVERPOISE_REFUSED_SLICE = 7,     // the item slice or the answer slice is too short
   SILVERPOISE_REFUSED_ITEMS = 8,     // more than 256 items
   SILVERPOISE_REFUSED_AMBIGUOUS = 9, // a letter in a cluster is both a flag's and an argument's; place: the cluster's Word
+  SILVERPOISE_REFUSED_LIST = 14,     // the list slice is too short
 
   // because of the state
-  SILVERPOISE_REFUSED_MISSING = 20,        // a required flag, an argument or a positional is not there
+  SILVERPOISE_REFUSED_MISSING = 20,        // a required flag, an argument or a positional is not there: see the list
   SILVERPOISE_REFUSED_PARSE_SOME = 21,     // `some` has no element
   SILVERPOISE_REFUSED_NO_ARGUMENT = 22,    // an argument has no value; place: its key
   SILVERPOISE_REFUSED_STRICT_POS = 23,     // a strict positional took a Word; place: the Word
@@ -272,18 +275,23 @@ SilverpoiseSplitAnswer silverpoise_split(const uint8_t *form, size_t form_count,
 //   optional           0; or 1 and then the value
 //   list               the count of elements, then each element
 //
-// The words behind the last value are 0. Refused: as silverpoise_split, then one of 20 to 27. Refused, the answer slice is all
-// 0 and so is `words`. After 1 to 9 item slice and state are as silverpoise_split leaves them, and `tries` is 0. After 20 to
-// 27 the item slice has the items, and `state` and `tries` are those reached.
+// The words behind the last value are 0. Refused: as silverpoise_split, with 14 right behind 7, then one of 20 to 27. Refused,
+// the answer slice is all 0 and so is `words`. After 1 to 9 item slice and state are as silverpoise_split leaves them, and
+// `tries` is 0; after 14 as after 7. After 20 to 27 the item slice has the items, and `state` and `tries` are those reached.
+//
+// After 20 `list` has what is missing (9.2): an entry of three words for each flag, argument and positional that looked in
+// vain, in the order in which they were evaluated. Its words are the number of the node PLUS 1, and the scope that was looked
+// in, from its start up to, not including, its end. The words behind the last entry are 0, and after every other answer all.
 SilverpoiseRunAnswer silverpoise_run(const uint8_t *form, size_t form_count, const uint8_t *sheet, size_t sheet_count,
-                                     uint32_t *items, size_t item_count, uint32_t *answers, size_t answer_count);
+                                     uint32_t *items, size_t item_count, uint32_t *answers, size_t answer_count,
+                                     uint32_t *list, size_t list_count);
 
-// One node on a state, any node of the form; its value is written to `answers`. Refused with 1 to 4, 6, 5, 7, 30, 29 or 28:
-// the answer slice is as it was and the state the given one. Refused with 20 to 26: the answer slice is all 0 and the state
-// the one that the node left.
+// One node on a state, any node of the form; its value is written to `answers`. Refused with 1 to 4, 6, 5, 7, 14, 30, 29 or
+// 28: answer slice and list slice are as they were and the state is the given one. Refused with 20 to 26: the answer slice is
+// all 0 and the state the one that the node left. Accepted, and after 20 to 26, `list` has what silverpoise_run writes there.
 SilverpoiseRunAnswer silverpoise_eval(const uint8_t *form, size_t form_count, const uint8_t *sheet, size_t sheet_count,
                                       const uint32_t *items, size_t item_count, uint32_t *answers, size_t answer_count,
-                                      SilverpoiseState state, size_t node);
+                                      uint32_t *list, size_t list_count, SilverpoiseState state, size_t node);
 
 // Where the text of an answer word stands. Any item's text is found by its place. Refused: 1 to 4, 6, 5, 7, 30, 28.
 SilverpoiseTextPart silverpoise_text(const uint8_t *form, size_t form_count, const uint8_t *sheet, size_t sheet_count,

@@ -40,11 +40,14 @@ fn show_run(ran: &Run) -> String {
         out.push_str(&format!("item {}\n", words.join(" ")));
     }
     out.push_str(&format!("state {}\n", show_state(&ran.state)));
+    for [node, start, end] in &ran.missing {
+        out.push_str(&format!("missing node {} scope {start} {end}\n", node - 1));
+    }
     out
 }
 
 fn answer(form: &[u8], sheet: &[u8], shown: bool) -> bool {
-    let ran = caught(|| run_bytes(form, sheet, Wanted { items: shown, probe: false }));
+    let ran = caught(|| run_bytes(form, sheet, Wanted { items: shown, ..Wanted::default() }));
     match &ran {
         Ok(ran) if shown => print!("{}", show_run(ran)),
         Ok(ran) => print!("{}", ran.answer),
@@ -149,7 +152,7 @@ struct Probe {
 
 impl Probe {
     fn case(&mut self, case: &Case) {
-        let ran = caught(|| run_bytes(&case.form, &case.sheet, Wanted { items: true, probe: true }));
+        let ran = caught(|| run_bytes(&case.form, &case.sheet, Wanted { items: true, probe: true, ..Wanted::default() }));
         self.cases += 1;
         let broken = match &ran {
             Ok(ran) => {
@@ -244,7 +247,7 @@ pub fn differences(path: &str) -> bool {
         let columns: Vec<&str> = row.split(" ; ").map(str::trim).collect();
         let [name, _, _, line, _, form, ours] = columns[..] else { panic!("a row of seven columns: {row}") };
         let sheet = Sheet { arguments: line.split(' ').map(unescaped).collect() };
-        let ran = run_bytes(&parsed(form).write(), &sheet.write(), Wanted { items: true, probe: false });
+        let ran = run_bytes(&parsed(form).write(), &sheet.write(), Wanted { items: true, ..Wanted::default() });
         let kinds: Vec<&str> = ran.records.iter().map(|r| KINDS[r[0] as usize]).collect();
         let answer = format!("{} {} {}", ran.answer.number, or_dash(ran.answer.place), kinds.join(" "));
         rows += 1;

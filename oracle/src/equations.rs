@@ -4,7 +4,7 @@
 use std::collections::BTreeMap;
 
 use bpaf::doc::harness::{run_bytes, View, Wanted};
-use line::{cases, cases::Case, cases::Rng, format::*};
+use line::{cases, cases::Case, cases::Rng, forged::too_short, format::*};
 
 use crate::{lists::short_case, script::Script};
 
@@ -19,6 +19,9 @@ const SPECS: [(&str, &[&str]); 3] = [
         ],
     ),
 ];
+
+/// The least lengths of the slices of items, answers and list.
+const LEAST: [usize; 3] = [1792, 8240, 192];
 
 /// What is shown of a run and of a call, in the definitions' own words.
 const SHOWN: &str = include_str!("equations.txt");
@@ -104,17 +107,20 @@ impl Equations {
         *self.covered.entry(what).or_default() += 1;
     }
 
-    /// A whole run: number, place, tries, words, state, item records.
-    fn run(&mut self, case: &Case, slices: (usize, usize)) {
-        let ran = match slices.0 < 1792 || slices.1 < 8240 {
-            true => refused_slices(case),
-            false => run_bytes(&case.form, &case.sheet, Wanted { items: true, probe: false }),
+    /// A whole run: number, place, tries, words, state, item records, every word of the list slice.
+    fn run(&mut self, case: &Case, slices: [usize; 3]) {
+        let ran = match too_short(slices[0], slices[1], slices[2]) {
+            Some(refusal) => refused_slices(case, refusal),
+            None => run_bytes(&case.form, &case.sheet, Wanted { items: true, ..Wanted::default() }),
         };
         let a = &ran.answer;
         let head = [a.number as usize, place(a.place), a.tries as usize, a.words.len()];
         let words = head.into_iter().chain(a.words.iter().map(|w| *w as usize)).chain(state_words(&ran.state));
-        let all = words.chain(ran.records.iter().flatten().map(|w| *w as usize));
-        let left = format!("shownRun (run {} {} {} {})", list(&case.form), list(&case.sheet), slices.0, slices.1);
+        let mut listed = ran.missing.concat();
+        listed.resize(slices[2], 0);
+        let all = words.chain(ran.records.iter().flatten().chain(&listed).map(|w| *w as usize));
+        let lengths = slices.map(|n| n.to_string()).join(" ");
+        let left = format!("shownRun (run {} {} {lengths})", list(&case.form), list(&case.sheet));
         self.add(&left, &list(all));
         self.cover(format!("answer {}", a.number));
         if let Ok(form) = Form::check(&case.form) {
@@ -144,13 +150,14 @@ impl Equations {
 }
 
 /// Slices that are too short are refused once form and sheet are accepted.
-fn refused_slices(case: &Case) -> bpaf::doc::harness::Run {
+fn refused_slices(case: &Case, refusal: Refusal) -> bpaf::doc::harness::Run {
     let mut ran = run_bytes(&case.form, &case.sheet, Wanted::default());
     if ran.answer.number == 0 || ran.answer.number > 6 {
-        ran.answer = Answer::refused(Refusal::new(7), 0);
+        ran.answer = Answer::refused(refusal, 0);
         ran.state = View::empty();
     }
     ran.records.clear();
+    ran.missing.clear();
     ran
 }
 
@@ -203,17 +210,17 @@ fn answer_words(answer: &str) -> Vec<usize> {
     let word = |w| match w {
         "-" | "no" => Some(0),
         "yes" => Some(1),
-        "done" | "refused" | "tries" | "words" => None,
+        "done" | "refused" | "tries" | "words" | "missing" => None,
         w => Some(number(w)),
     };
     answer.split(' ').filter_map(word).collect()
 }
 
-/// Cases that random ones seldom meet: 257 items, an ambiguous letter, a word on the wrong side of `--`, and lines that
-/// are split oddly.
+/// Cases that random ones seldom meet: 257 items, an ambiguous letter, a word on the wrong side of `--`, lines that are
+/// split oddly, and lists with more than one entry or with some dropped.
 fn rare() -> Vec<Case> {
     const LETTERS: &str = "switch(-v); switch(-q); optional(number(-w)); optional(flag(-b)); optional(text(-b)); many(operand)";
-    let lines: [(&str, &[&[u8]]); 9] = [
+    let lines: [(&str, &[&[u8]]); 13] = [
         (LETTERS, &[b"-vvv" as &[u8]; 86]),
         (LETTERS, &[]),
         (LETTERS, &[b"-vb", b"x"]),
@@ -223,6 +230,10 @@ fn rare() -> Vec<Case> {
         (LETTERS, &[b"-vqw7", b"-vw", b"9", b"--", b"--", b"-v"]),
         ("non-strict; operand", &[b"--", b"a"]),
         ("optional(non-strict); many(operand)", &[b"--", b"a", b"b"]),
+        ("choice(choice(text(-v), non-strict), text(-w))", &[b"--", b"x"]),
+        ("choice(text(-w), non-strict)", &[b"--", b"x"]),
+        ("choice(choice(text(-v), text(-w)), choice(last(text(-l)), operand))", &[b"-q"]),
+        ("optional(choice(flag(-v), flag(-q))); guard(fallback(number(-w), 3), 1..5); choice(flag(-x), flag(-y))", &[b"--"]),
     ];
     let case = |(form, arguments): &(&str, &[&[u8]])| Case {
         form: line::notation::parse(form).expect("a form").write(),
@@ -237,14 +248,14 @@ pub fn print(seed: u64, count: usize) {
     let (uses, unfolding) = header();
     let mut equations = Equations { unfolding, ..Equations::default() };
     for case in rare() {
-        equations.run(&case, (1792, 8240));
+        equations.run(&case, LEAST);
     }
-    for (items, answers) in [(1791, 8240), (1792, 8239)] {
-        equations.run(&short_case(&mut rng, 0), (items, answers));
+    for slices in [[1791, 8240, 192], [1792, 8239, 192], [1792, 8240, 191], [1792, 8239, 191], [1792, 8240, 0]] {
+        equations.run(&short_case(&mut rng, 0), slices);
     }
     for k in 0..count {
         let case = if k % 6 == 0 { short_damaged(&mut rng) } else { short_case(&mut rng, 0) };
-        equations.run(&case, (1792, 8240));
+        equations.run(&case, LEAST);
     }
     let mut calls = 0;
     while calls < count / 2 {

@@ -1,4 +1,4 @@
-//! What single calls refuse: 1 to 7 as far as the call has the input, then 30, 29 and 28. A reading of docs/FORMAT.md apart
+//! What single calls refuse: 1 to 7 and 14 as far as the call has the input, then 30, 29 and 28. A reading of docs/FORMAT.md apart
 //! from the Rattle code, for states and item tables that no split gives.
 
 use crate::format::*;
@@ -15,9 +15,18 @@ pub struct State {
     pub end: u32,
 }
 
-/// The words of the least item slice and of the least answer slice.
+/// The words of the least item slice, of the least answer slice and of the least list slice.
 pub const ITEM_WORDS: usize = 1792;
 pub const ANSWER_WORDS: usize = 8240;
+pub const LIST_WORDS: usize = 192;
+
+/// 7, then 14: the refusal of slices of these lengths, if one of them is too short.
+pub fn too_short(items: usize, answers: usize, list: usize) -> Option<Refusal> {
+    if items < ITEM_WORDS || answers < ANSWER_WORDS {
+        return Some(Refusal::new(7));
+    }
+    (list < LIST_WORDS).then_some(Refusal::new(14))
+}
 
 /// The whole records of an item slice, up to the last that is not all 0.
 pub fn records(items: &[u32]) -> Vec<[u32; 7]> {
@@ -77,8 +86,8 @@ pub enum Call {
     TakeFlag(usize),
     TakeArg(usize),
     TakeCmd(usize),
-    /// a node, and the length of the answer slice
-    Eval(usize, usize),
+    /// a node, and the lengths of the answer slice and of the list slice
+    Eval(usize, usize, usize),
     /// an answer word
     Text(u32),
 }
@@ -106,6 +115,14 @@ impl Call {
         }
     }
 
+    /// 7 and 14, of the slices that the call is lent.
+    fn too_short(&self, items: usize) -> Option<Refusal> {
+        match *self {
+            Call::Eval(_, answers, list) => too_short(items, answers, list),
+            _ => too_short(items, ANSWER_WORDS, LIST_WORDS),
+        }
+    }
+
     /// 28: whether what the call names is there.
     fn names_what_is_there(&self, form: Option<&Form>, count: usize) -> bool {
         let kind = |node: usize| form.and_then(|f| f.nodes.get(node)).map(|n| n.kind);
@@ -119,7 +136,7 @@ impl Call {
             Call::TakeFlag(node) => kind(node) == Some(FLAG),
             Call::TakeArg(node) => kind(node) == Some(ARGUMENT),
             Call::TakeCmd(record) => matches!(ty(record), Some(SHORT | LONG)),
-            Call::Eval(node, _) => kind(node).is_some(),
+            Call::Eval(node, ..) => kind(node).is_some(),
             Call::Text(word) if word < 256 => (word as usize) < count,
             Call::Text(word) => ty(word as usize - 256) == Some(TEXT),
             Call::PickWinner(_) | Call::AdjacentScope(_) | Call::Conflict | Call::TakePositional => true,
@@ -148,9 +165,8 @@ pub fn refusal(lent: &Lent, call: &Call) -> Option<Refusal> {
             Ok(sheet) => sheet,
             Err(r) => return Some(r),
         };
-        let answers_short = matches!(call, Call::Eval(_, answers) if *answers < ANSWER_WORDS);
-        if lent.items.len() < ITEM_WORDS || answers_short {
-            return Some(Refusal::new(7));
+        if let Some(r) = call.too_short(lent.items.len()) {
+            return Some(r);
         }
         let records = records(lent.items);
         let area = sheet.arguments.iter().map(Vec::len).sum();
@@ -221,6 +237,24 @@ mod tests {
         items.push(0);
         assert!(tail_good(&items));
         assert_eq!(records(&items).len(), 258);
+    }
+
+    #[test]
+    fn a_short_list_stands_behind_7_and_before_30() {
+        let form = crate::notation::parse("flag(-v)").expect("a form").write();
+        let sheet = Sheet::default().write();
+        let (good, mut forged) = (vec![0; ITEM_WORDS], vec![0; ITEM_WORDS]);
+        forged[0] = 9;
+        let number = |items: &[u32], answers: usize, list: usize| {
+            let lent = Lent { form: &form, sheet: &sheet, items, state: &state(&[]) };
+            refusal(&lent, &Call::Eval(0, answers, list)).map(|r| r.number)
+        };
+        assert_eq!(number(&good, ANSWER_WORDS, LIST_WORDS), None);
+        assert_eq!(number(&good, ANSWER_WORDS, LIST_WORDS - 1), Some(14));
+        assert_eq!(number(&good, ANSWER_WORDS - 1, LIST_WORDS - 1), Some(7));
+        assert_eq!(number(&good[1..], ANSWER_WORDS, 0), Some(7));
+        assert_eq!(number(&forged, ANSWER_WORDS, LIST_WORDS - 1), Some(14));
+        assert_eq!(number(&forged, ANSWER_WORDS, LIST_WORDS), Some(30));
     }
 
     #[test]

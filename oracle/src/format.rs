@@ -35,6 +35,9 @@ impl Refusal {
     }
 }
 
+/// A leaf that refusal 20 lists: its node number plus 1, and start and end of the scope that it looked in.
+pub type Entry = [u32; 3];
+
 /// Node kinds by their number.
 pub const FLAG: u16 = 1;
 pub const ARGUMENT: u16 = 2;

@@ -1,7 +1,8 @@
 //! The real bpaf on forms and sheets. Compiled as a module inside the bpaf crate, so that it sees `State` and its calls.
 //!
 //! Each node becomes the bpaf parser that it stands for. A leaf is wrapped so that tries are counted and the place of a
-//! text is known; in a probed run every node is wrapped by `Visit`, which looks at the states and the value.
+//! text is known; in a probed run every node is wrapped by `Visit`, which looks at the states and the value. A leaf carries its
+//! node number in its help or metavar, so that it is known again in what bpaf says is missing.
 
 use std::{
     cell::{Cell, RefCell},
@@ -17,7 +18,8 @@ use line::format::*;
 
 use crate::{
     args::{Arg, Args, State},
-    error::Message,
+    error::{Message, MissingItem},
+    item::Item,
     meta_help::Metavar,
     params::NamedArg,
     positional,
@@ -77,10 +79,12 @@ fn view(state: &State) -> View {
     }
 }
 
-/// What is shared by all nodes of one run: the count of tries and, if probed, the facts found broken.
+/// What is shared by all nodes of one run: the count of tries, the choices crossed (`Sides`) and, if probed, the facts found
+/// broken.
 #[derive(Default)]
 struct Watch {
     tries: Cell<u64>,
+    crossed: RefCell<Vec<usize>>,
     visits: Cell<u64>,
     longest: Cell<usize>,
     broken: RefCell<Vec<String>>,
@@ -122,6 +126,10 @@ impl Watch {
                 let missing = matches!(message, Message::Missing(_));
                 let used = given.remaining != left.remaining;
                 self.must(!(missing && used), || format!("node {node}: missing with something used"));
+                let listed = entries(message);
+                let scope = [given.scope.start as u32, given.scope.end as u32];
+                let whole = listed.is_empty() != missing && listed.iter().all(|e| e[1..] == scope);
+                self.must(whole, || format!("node {node}: {listed:?} is listed in {given:?}"));
             }
         }
     }
@@ -140,6 +148,46 @@ impl Parser<Value> for Visit {
         let given = view(args);
         let result = self.inner.eval(args);
         self.watch.evaluation(self.node, self.kind, &given, &view(args), &result);
+        result
+    }
+
+    fn meta(&self) -> Meta {
+        self.inner.meta()
+    }
+}
+
+/// One side of a choice, and the number that it was refused with last: 0 for none.
+struct Side {
+    inner: Node,
+    ended: Rc<Cell<u32>>,
+}
+
+impl Parser<Value> for Side {
+    fn eval(&self, args: &mut State) -> Result<Value, Error> {
+        let result = self.inner.eval(args);
+        self.ended.set(result.as_ref().err().map_or(0, |Error(message)| refusal(message).number));
+        result
+    }
+
+    fn meta(&self) -> Meta {
+        self.inner.meta()
+    }
+}
+
+/// A choice whose sides are looked at: it is crossed if the first is refused with 24 and the second with 20.
+struct Sides {
+    node: usize,
+    inner: ParseOrElse<Value>,
+    ended: [Rc<Cell<u32>>; 2],
+    watch: Rc<Watch>,
+}
+
+impl Parser<Value> for Sides {
+    fn eval(&self, args: &mut State) -> Result<Value, Error> {
+        let result = self.inner.eval(args);
+        if self.ended.iter().map(|side| side.get()).eq([24, 20]) {
+            self.watch.crossed.borrow_mut().push(self.node);
+        }
         result
     }
 
@@ -205,10 +253,11 @@ fn utf8(form: &Form, record: usize) -> &str {
     std::str::from_utf8(form.name(record)).expect("a checked name")
 }
 
-/// The names of a flag or argument node.
+/// The names of a flag or argument node, with its number as help.
 fn named(form: &Form, node: usize) -> NamedArg {
+    let help = Some(tag(node).into());
     let node = form.nodes[node];
-    let mut named = NamedArg { short: Vec::new(), long: Vec::new(), env: Vec::new(), help: None };
+    let mut named = NamedArg { short: Vec::new(), long: Vec::new(), env: Vec::new(), help };
     for record in node.p as usize..node.p as usize + node.q as usize {
         let name = utf8(form, record);
         match form.names[record].ty {
@@ -219,18 +268,40 @@ fn named(form: &Form, node: usize) -> NamedArg {
     named
 }
 
+/// The number of a node as bpaf carries it, in a help or a metavar: no evaluation looks at these.
+fn tag(node: usize) -> &'static str {
+    intern(&node.to_string())
+}
+
+/// The leaf that a missing item is of.
+fn leaf_of(item: &Item) -> u32 {
+    let tag = match item {
+        Item::Flag { help, .. } | Item::Argument { help, .. } => help.as_ref().expect("a named leaf has a help").plain(),
+        Item::Positional { metavar, .. } => metavar.0,
+        other => panic!("an item of no leaf: {other:?}"),
+    };
+    tag.parse().expect("the number of a node")
+}
+
+/// What bpaf says is missing, in its own order and with its own scopes; nothing unless it says so.
+fn entries(message: &Message) -> Vec<Entry> {
+    let Message::Missing(items) = message else { return Vec::new() };
+    let entry = |m: &MissingItem| [leaf_of(&m.item) + 1, m.scope.start as u32, m.scope.end as u32];
+    items.iter().map(entry).collect()
+}
+
 /// Builds the parser of a node out of those of its children.
 struct Builder<'a> {
     form: &'a Form,
     kinds: Vec<Kind>,
     watch: Rc<Watch>,
-    probe: bool,
+    wanted: Wanted,
 }
 
 impl Builder<'_> {
-    fn new(form: &Form, probe: bool) -> Builder<'_> {
+    fn new(form: &Form, wanted: Wanted) -> Builder<'_> {
         let kinds = form.kinds().expect("a checked form");
-        Builder { form, kinds, watch: Rc::new(Watch::default()), probe }
+        Builder { form, kinds, watch: Rc::new(Watch::default()), wanted }
     }
 
     fn node(&self, k: usize) -> Node {
@@ -238,7 +309,7 @@ impl Builder<'_> {
             FLAG | ARGUMENT | POSITIONAL => self.leaf(k),
             _ => self.combinator(k),
         };
-        if !self.probe {
+        if !self.wanted.probe {
             return inner;
         }
         Box::new(Visit { node: k, kind: self.kinds[k], inner, watch: self.watch.clone() })
@@ -255,14 +326,14 @@ impl Builder<'_> {
             (ARGUMENT, 2) => leaf(named(self.form, k).argument("A"), number, watch),
             (ARGUMENT, _) => leaf(named(self.form, k).argument("A").adjacent(), number, watch),
             (_, 0) => match node.p {
-                0 => leaf(positional("P"), text, watch),
-                1 => leaf(positional("P").strict(), text, watch),
-                _ => leaf(positional("P").non_strict(), text, watch),
+                0 => leaf(positional(tag(k)), text, watch),
+                1 => leaf(positional(tag(k)).strict(), text, watch),
+                _ => leaf(positional(tag(k)).non_strict(), text, watch),
             },
             _ => match node.p {
-                0 => leaf(positional("P"), number, watch),
-                1 => leaf(positional("P").strict(), number, watch),
-                _ => leaf(positional("P").non_strict(), number, watch),
+                0 => leaf(positional(tag(k)), number, watch),
+                1 => leaf(positional(tag(k)).strict(), number, watch),
+                _ => leaf(positional(tag(k)).non_strict(), number, watch),
             },
         }
     }
@@ -277,7 +348,7 @@ impl Builder<'_> {
             SOME => Box::new(ParseSome { inner, message: "some", catch }.map(Value::List)),
             COUNT => Box::new(ParseCount { inner, ctx: PhantomData::<Value> }.map(|n| Value::Number(n as u32))),
             LAST => Box::new(ParseLast { inner }),
-            CHOICE => Box::new(ParseOrElse { this: inner, that: self.node(node.q as usize) }),
+            CHOICE => self.choice(k, inner),
             FALLBACK => Box::new(ParseFallback { inner, value: self.fallback(k), value_str: String::new() }),
             _ => {
                 let check = move |value: &Value| match value {
@@ -287,6 +358,18 @@ impl Builder<'_> {
                 Box::new(ParseGuard { inner, check, message: "guard" })
             }
         }
+    }
+
+    /// A choice, with its sides looked at if that is wanted.
+    fn choice(&self, k: usize, this: Node) -> Node {
+        let that = self.node(self.form.nodes[k].q as usize);
+        if !self.wanted.sides {
+            return Box::new(ParseOrElse { this, that });
+        }
+        let ended: [Rc<Cell<u32>>; 2] = Default::default();
+        let side = |inner: Node, ended: &Rc<Cell<u32>>| Box::new(Side { inner, ended: ended.clone() });
+        let inner = ParseOrElse { this: side(this, &ended[0]), that: side(that, &ended[1]) };
+        Box::new(Sides { node: k, inner, ended, watch: self.watch.clone() })
     }
 
     fn fallback(&self, k: usize) -> Value {
@@ -417,8 +500,12 @@ fn record(arg: &Arg, argument: &[u8], start: usize) -> Record {
 #[derive(Clone, Debug, PartialEq, Eq)]
 pub struct Run {
     pub answer: Answer,
+    /// what is missing, with refusal 20
+    pub missing: Vec<Entry>,
     pub records: Vec<Record>,
     pub state: View,
+    /// the choices whose first side was refused with 24 and whose second with 20, if that was looked at
+    pub crossed: Vec<usize>,
     /// evaluations looked at, and the facts found broken, in a probed run
     pub visits: u64,
     pub broken: Vec<String>,
@@ -429,6 +516,7 @@ pub struct Run {
 pub struct Wanted {
     pub items: bool,
     pub probe: bool,
+    pub sides: bool,
 }
 
 /// A form and a sheet in bytes, run by the real bpaf; refusals 1 to 6 are those of `line::format`.
@@ -440,11 +528,14 @@ pub fn run_bytes(form: &[u8], sheet: &[u8], wanted: Wanted) -> Run {
     }
 }
 
-fn refused_run(refused: Refusal) -> Run {
+/// A run that was refused before anything was evaluated.
+pub fn refused_run(refused: Refusal) -> Run {
     Run {
         answer: Answer::refused(refused, 0),
+        missing: Vec::new(),
         records: Vec::new(),
         state: View::empty(),
+        crossed: Vec::new(),
         visits: 0,
         broken: Vec::new(),
     }
@@ -452,7 +543,7 @@ fn refused_run(refused: Refusal) -> Run {
 
 /// An accepted form on a sheet.
 pub fn run(form: &Form, sheet: &Sheet, wanted: Wanted) -> Run {
-    let builder = Builder::new(form, wanted.probe);
+    let builder = Builder::new(form, wanted);
     let fields = builder.fields();
     let (flags, args) = letters(&fields);
     let (mut state, refused) = construct(&sheet.arguments, &flags, &args);
@@ -461,36 +552,48 @@ pub fn run(form: &Form, sheet: &Sheet, wanted: Wanted) -> Run {
     }
     let records = if wanted.items { records(sheet, &state, &flags, &args) } else { Vec::new() };
     let ran = match refused {
-        Some(r) => Err(r),
+        Some(r) => Err((r, Vec::new())),
         None => run_fields(&fields, &mut state),
     };
     let watch = &builder.watch;
     if wanted.probe {
         probe_run(form, sheet, &flags, &args, watch, &state, refused.is_none());
     }
+    let (answer, missing) = ended(ran, watch.tries.get());
     Run {
-        answer: match ran {
-            Ok(words) => Answer { number: 0, place: None, tries: watch.tries.get(), words },
-            Err(r) => Answer::refused(r, watch.tries.get()),
-        },
+        answer,
+        missing,
         records,
         state: view(&state),
+        crossed: watch.crossed.take(),
         visits: watch.visits.get(),
         broken: watch.broken.take(),
     }
 }
 
+/// A refusal, and what is missing with it.
+type Refused = (Refusal, Vec<Entry>);
+
+fn refused_with(Error(message): Error) -> Refused {
+    (refusal(&message), entries(&message))
+}
+
+/// The answer to words or a refusal, and what is missing.
+fn ended(ran: Result<Vec<u32>, Refused>, tries: u64) -> (Answer, Vec<Entry>) {
+    match ran {
+        Ok(words) => (Answer { number: 0, place: None, tries, words }, Vec::new()),
+        Err((r, missing)) => (Answer::refused(r, tries), missing),
+    }
+}
+
 /// Each field's `eval` on one state, then `items_iter`.
-fn run_fields(fields: &[Node], state: &mut State) -> Result<Vec<u32>, Refusal> {
+fn run_fields(fields: &[Node], state: &mut State) -> Result<Vec<u32>, Refused> {
     let mut words = Vec::new();
     for field in fields {
-        match field.eval(state) {
-            Ok(value) => value.words(&mut words),
-            Err(Error(message)) => return Err(refusal(&message)),
-        }
+        field.eval(state).map_err(refused_with)?.words(&mut words);
     }
     match state.items_iter().next() {
-        Some((place, _)) => Err(Refusal::at(27, place)),
+        Some((place, _)) => Err((Refusal::at(27, place), Vec::new())),
         None => Ok(words),
     }
 }
@@ -533,7 +636,7 @@ pub fn run_inner(form: &Form, sheet: &Sheet) -> Whole {
         }
     }
     let os: Vec<OsString> = sheet.arguments.iter().map(|a| OsString::from_vec(a.clone())).collect();
-    match Fields(Builder::new(form, false).fields()).to_options().run_inner(&os[..]) {
+    match Fields(Builder::new(form, Wanted::default()).fields()).to_options().run_inner(&os[..]) {
         Ok(words) => Whole::Words(words),
         Err(crate::ParseFailure::Stdout(..)) => Whole::Printed,
         Err(_) => Whole::Refused,
@@ -549,7 +652,7 @@ pub struct Held {
 impl Held {
     /// The state and item records after splitting; 8 or 9 beside it.
     pub fn split(form: &Form, sheet: &Sheet) -> (Held, Vec<Record>, Option<Refusal>) {
-        let builder = Builder::new(form, false);
+        let builder = Builder::new(form, Wanted::default());
         let (flags, args) = letters(&builder.fields());
         let (state, refused) = construct(&sheet.arguments, &flags, &args);
         if refused.is_some_and(|r| r.number == 8) {
@@ -644,19 +747,16 @@ impl Held {
         self.state.take_cmd(utf8(form, record))
     }
 
-    /// One node's `eval` on this state: its words or its refusal, and the tries.
-    pub fn eval(&mut self, form: &Form, node: usize) -> Answer {
-        let builder = Builder::new(form, false);
-        let result = builder.node(node).eval(&mut self.state);
-        let tries = builder.watch.tries.get();
-        match result {
-            Ok(value) => {
-                let mut words = Vec::new();
-                value.words(&mut words);
-                Answer { number: 0, place: None, tries, words }
-            }
-            Err(Error(m)) => Answer::refused(refusal(&m), tries),
-        }
+    /// One node's `eval` on this state: its words or its refusal, and the tries; and what is missing.
+    pub fn eval(&mut self, form: &Form, node: usize) -> (Answer, Vec<Entry>) {
+        let builder = Builder::new(form, Wanted::default());
+        let result = builder.node(node).eval(&mut self.state).map_err(refused_with);
+        let words = |value: Value| {
+            let mut words = Vec::new();
+            value.words(&mut words);
+            words
+        };
+        ended(result.map(words), builder.watch.tries.get())
     }
 }
 

@@ -15,7 +15,7 @@ pub struct Tests {
 fn run(form: &str, arguments: &[&[u8]]) -> Run {
     let form = notation::parse(form).expect("a form of the tests").write();
     let sheet = Sheet { arguments: arguments.iter().map(|a| a.to_vec()).collect() }.write();
-    run_bytes(&form, &sheet, Wanted { items: true, probe: true })
+    run_bytes(&form, &sheet, Wanted { items: true, probe: true, ..Wanted::default() })
 }
 
 /// An item in words: `Short v adjacent "-vq"`.
@@ -77,6 +77,7 @@ pub fn all() -> Tests {
     doubtful_splits(&mut tests);
     doubtful_runs(&mut tests);
     doubtful_inputs(&mut tests);
+    known_lists(&mut tests);
     run_inner_findings(&mut tests);
     tests
 }
@@ -219,6 +220,88 @@ fn doubtful_inputs(t: &mut Tests) {
     let chain: Vec<Node> = std::iter::once(flag).chain((0..63).map(choice)).collect();
     t.equal("a chain of 63 shared choices", form(chain, vec![63]), Some(Refusal::at(4, 0)));
     t.equal("a field number past the nodes", form(vec![flag], vec![1]), Some(Refusal::new(4)));
+}
+
+/// A form, a line, and what is missing: node plus 1, scope start, scope end.
+pub type Listed = (Form, Sheet, Vec<Entry>);
+
+fn listed(form: Form, arguments: &[&[u8]], nodes: &[u32]) -> Listed {
+    let sheet = Sheet { arguments: arguments.iter().map(|a| a.to_vec()).collect() };
+    // each of these arguments is one item, and a run looks in all of them
+    let scope = arguments.len() as u32;
+    (form, sheet, nodes.iter().map(|node| [node + 1, 0, scope]).collect())
+}
+
+/// Lines whose lists are known, in the notation's own numbers.
+fn written_lists() -> Vec<Listed> {
+    type Written<'a> = (&'a str, &'a [&'a [u8]], &'a [u32]);
+    let lines: [Written; 19] = [
+        ("flag(-v)", &[b"a", b"--"], &[0]),
+        ("switch(-v); text(-w)", &[b"-v"], &[1]),
+        ("number=(-w)", &[b"-w", b"7"], &[0]),
+        ("strict", &[b"-v"], &[0]),
+        ("guard(operand#, 1..5)", &[], &[0]),
+        // a choice: the first side's, then the second's
+        ("choice(flag(-v), flag(-q))", &[], &[0, 1]),
+        ("choice(choice(flag(-v), flag(-q)), flag(-x))", &[b"a"], &[0, 1, 3]),
+        ("choice(flag(-v), choice(flag(-q), flag(-x)))", &[b"a"], &[0, 1, 2]),
+        ("choice(choice(text(-w), strict), choice(text(-l), operand))", &[b"--"], &[0, 1, 3, 4]),
+        // 24 and then 20: the second's alone, though v was missing too; 20 and then 24: none
+        ("choice(choice(text(-v), non-strict), text(-w))", &[b"--", b"x"], &[3]),
+        ("choice(non-strict, choice(text(-v), text(-w)))", &[b"--", b"x"], &[1, 2]),
+        ("choice(text(-w), non-strict)", &[b"--", b"x"], &[]),
+        ("choice(some(text(-w)), some(operand))", &[], &[]),
+        // `last` tries twice and lists what its second try lacks
+        ("last(flag(-v))", &[], &[0]),
+        ("last(choice(flag(-v), flag(-q)))", &[b"a"], &[0, 1]),
+        // what is swallowed is dropped
+        ("optional(choice(flag(-v), flag(-q))); flag(-x)", &[], &[4]),
+        ("choice(fallback(text(-v), \"d\"), text(-w))", &[], &[]),
+        ("many(flag(-v)); count(flag(-q)); some!(flag(-x))", &[], &[]),
+        ("fallback(flag(-v), no); choice(flag(-q), flag(-x))", &[], &[2, 3]),
+    ];
+    let form = |text: &str| notation::parse(text).expect("a form of the tests");
+    lines.iter().map(|(text, arguments, nodes)| listed(form(text), arguments, nodes)).collect()
+}
+
+/// A choice goes by p and q, whichever of its sides has the lower number.
+fn crossed_numbers() -> Vec<Listed> {
+    let form = |text: &str| notation::parse(text).expect("a form of the tests");
+    let mut two = form("choice(flag(-v), flag(-q))");
+    (two.nodes[2].p, two.nodes[2].q) = (1, 0);
+    let mut four = form("choice(choice(flag(-v), flag(-q)), choice(flag(-x), flag(-y)))");
+    (four.nodes[6].p, four.nodes[6].q) = (5, 2);
+    (four.nodes[2].p, four.nodes[2].q) = (1, 0);
+    vec![listed(two, &[], &[1, 0]), listed(four, &[b"a"], &[3, 4, 1, 0])]
+}
+
+/// As many entries as there can be: 32 flags under 31 choices, nested to the left and to the right.
+fn longest_lists() -> Vec<Listed> {
+    let flags: Vec<String> = ('a'..='z').chain('A'..='F').map(|c| format!("flag(-{c})")).collect();
+    let left = flags.iter().skip(1).fold(flags[0].clone(), |form, flag| format!("choice({form}, {flag})"));
+    let right = flags.iter().rev().skip(1).fold(flags[31].clone(), |form, flag| format!("choice({flag}, {form})"));
+    let leaves = |form: &Form| (0..63).filter(|k| form.nodes[*k as usize].kind == FLAG).collect::<Vec<u32>>();
+    let lists = [left, right].map(|text| {
+        let form = notation::parse(&text).expect("a form of the tests");
+        let leaves = leaves(&form);
+        listed(form, &[b"a"], &leaves)
+    });
+    lists.into()
+}
+
+/// Lines whose lists are known.
+pub fn lists() -> Vec<Listed> {
+    [written_lists(), crossed_numbers(), longest_lists()].concat()
+}
+
+fn known_lists(t: &mut Tests) {
+    for (form, sheet, want) in lists() {
+        let ran = run_bytes(&form.write(), &sheet.write(), Wanted { probe: true, ..Wanted::default() });
+        let name = notation::show(&form);
+        t.equal(&format!("{name}: what is missing"), &ran.missing, &want);
+        t.equal(&format!("{name}: a list comes with 20"), ran.answer.number == 20, !want.is_empty());
+        t.equal(&format!("{name}: probed facts"), ran.broken, Vec::new());
+    }
 }
 
 /// Why a run is compared with `construct`, `eval` and `items_iter`, and never with `run_inner`.

@@ -235,9 +235,10 @@ fn got(place: usize, said: &str, records: &[[u32; 7]]) -> (Vec<u32>, Vec<u32>) {
     (vec![number, 0, 0, 0, 0, 0, 0], record)
 }
 
-/// `eval`: number, place, tries and words, as the script writes them.
+/// `eval`: number, place, tries and words, as the script writes them; what is missing is in no fixed list.
 #[cfg(live)]
 fn evaluated(said: &str) -> (Vec<u32>, Vec<u32>) {
+    let said = said.split(" missing").next().unwrap_or(said);
     let numbers: Vec<Option<usize>> = said.split(' ').map(|w| w.parse().ok()).collect();
     let words: Vec<u32> = numbers[5..].iter().map(|w| w.expect("a word") as u32).collect();
     let answer = Answer {

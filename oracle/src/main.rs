@@ -22,7 +22,8 @@ use std::process::ExitCode;
 
 const USAGE: &str = "\
 oracle compare LAYER [SEED COUNT]  the proved code against the Rust, in this process: utf8, checks, portable, forged,
-                                   forged-lent, forged-eval, forged-tables, and live: split, calls, lent, eval, run
+                                   forged-lent, forged-eval, forged-tables, and live: split, calls, lent, eval, run,
+                                   missing (a million runs with a list; the gate's sample has fewer)
 oracle read FORM [ARGUMENT..]      a command line read under a form: items and values, by the proved code
 oracle split FORM [ARGUMENT..]     a command line split into items, by the proved code
 oracle utf8 [ARGUMENT..]           each argument's characters, by the proved code
@@ -86,10 +87,18 @@ fn compare(words: &[String]) -> bool {
             if !numbers.is_empty() {
                 println!("answered {}", numbers.join(", "));
             }
+            let met = compared.goals.iter().map(met).fold(true, |a, b| a && b);
             println!("{}: {} cases, {} differ", words[1], compared.cases, compared.differ);
-            count != Some(0) && compared.cases > 0 && compared.differ == 0
+            count != Some(0) && compared.cases > 0 && compared.differ == 0 && met
         }
     }
+}
+
+/// Whether the cases met what they must; every goal is printed.
+fn met(goal: &compare::Goal) -> bool {
+    let short = if goal.met < goal.least { " TOO FEW" } else { "" };
+    println!("{} {}, at least {}{short}", goal.met, goal.what, goal.least);
+    goal.met >= goal.least
 }
 
 fn print_list(words: &[String]) -> bool {

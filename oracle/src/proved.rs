@@ -126,6 +126,8 @@ extern "C" {
         m: usize,
         answers: *mut u32,
         l: usize,
+        list: *mut u32,
+        p: usize,
     ) -> RunAnswer;
 }
 
@@ -140,6 +142,8 @@ extern "C" {
         m: usize,
         answers: *mut u32,
         l: usize,
+        list: *mut u32,
+        p: usize,
         state: State,
         node: usize,
     ) -> RunAnswer;
@@ -269,15 +273,17 @@ pub fn split(form: &[u8], sheet: &[u8], items: &mut [u32]) -> SplitAnswer {
 }
 
 #[inline(always)]
-pub fn run(form: &[u8], sheet: &[u8], items: &mut [u32], answers: &mut [u32]) -> RunAnswer {
+pub fn run(form: &[u8], sheet: &[u8], items: &mut [u32], answers: &mut [u32], list: &mut [u32]) -> RunAnswer {
+    let (f, s) = ((form.as_ptr(), form.len()), (sheet.as_ptr(), sheet.len()));
     let (i, a) = ((items.as_mut_ptr(), items.len()), (answers.as_mut_ptr(), answers.len()));
-    unsafe { silverpoise_run(form.as_ptr(), form.len(), sheet.as_ptr(), sheet.len(), i.0, i.1, a.0, a.1) }
+    unsafe { silverpoise_run(f.0, f.1, s.0, s.1, i.0, i.1, a.0, a.1, list.as_mut_ptr(), list.len()) }
 }
 
-pub fn eval(lent: &Lent, answers: &mut [u32], node: usize) -> RunAnswer {
-    let (f, s, i) = (lent.form, lent.sheet, lent.items);
-    let a = (answers.as_mut_ptr(), answers.len());
-    unsafe { silverpoise_eval(f.as_ptr(), f.len(), s.as_ptr(), s.len(), i.as_ptr(), i.len(), a.0, a.1, *lent.state, node) }
+pub fn eval(lent: &Lent, answers: &mut [u32], list: &mut [u32], node: usize) -> RunAnswer {
+    let (f, s) = ((lent.form.as_ptr(), lent.form.len()), (lent.sheet.as_ptr(), lent.sheet.len()));
+    let (i, a) = ((lent.items.as_ptr(), lent.items.len()), (answers.as_mut_ptr(), answers.len()));
+    let l = (list.as_mut_ptr(), list.len());
+    unsafe { silverpoise_eval(f.0, f.1, s.0, s.1, i.0, i.1, a.0, a.1, l.0, l.1, *lent.state, node) }
 }
 
 pub fn text(lent: &Lent, word: u32) -> TextPart {

@@ -138,11 +138,9 @@ impl Script {
                 yes_no(self.state.take_cmd(&self.form, record))
             }
             ("eval", [node]) if *node < self.form.nodes.len() => {
-                let a = self.state.eval(&self.form, *node);
-                let words: Vec<String> = a.words.iter().map(u32::to_string).collect();
-                format!("{} {} tries {} words {}", a.number, or_dash(a.place), a.tries, words.join(" "))
-                    .trim_end()
-                    .to_string()
+                let (a, missing) = self.state.eval(&self.form, *node);
+                let (words, listed) = (spaced(&a.words), show_missing(&missing));
+                format!("{} {} tries {} words{words}{listed}", a.number, or_dash(a.place), a.tries)
             }
             _ => return Err(format!("no such call: {name} with {} numbers", numbers.len())),
         })
@@ -185,6 +183,19 @@ impl Script {
             TEXT => "conflict".to_string(),
             _ => format!("take_cmd {record}"),
         }
+    }
+}
+
+/// Each number behind a space.
+fn spaced(numbers: &[u32]) -> String {
+    numbers.iter().map(|n| format!(" {n}")).collect()
+}
+
+/// What refusal 20 lists, with the numbers of the list; nothing for any other answer.
+fn show_missing(missing: &[Entry]) -> String {
+    match missing {
+        [] => String::new(),
+        _ => format!(" missing{}", spaced(&missing.concat())),
     }
 }
 

@@ -1,8 +1,8 @@
 //! Generated forms and lines through the safe API of the crate, against the real bpaf, in one process.
 //!
 //! Built by `rust/test` with the libraries of `oracle/build`: `line` (formats and cases) and `bpaf` (with the harness).
-//! Compared for every line: number, place, tries, items, marks, values with their texts; that texts are parts of the caller's
-//! arguments; that each item's part of its argument is what it stands for; and the same form built from nodes.
+//! Compared for every line: number, place, tries, items, marks, what is missing, values with their texts; that texts are parts
+//! of the caller's arguments; that each item's part of its argument is what it stands for; and the same form built from nodes.
 
 use std::collections::BTreeMap;
 use std::ffi::{OsStr, OsString};
@@ -12,7 +12,7 @@ use std::process::ExitCode;
 use bpaf::doc::harness::{self, Wanted};
 use line::cases::{self, Case, Rng};
 use line::format::{self, Base, Kind};
-use silverpoise::{Item, ItemKind, Mark, Names, Node, ReadError, Reader, Takes, Value};
+use silverpoise::{Item, ItemKind, Mark, Missing, Names, Node, ReadError, Reader, Takes, Value};
 
 /// What is compared of one read.
 #[derive(Debug, PartialEq)]
@@ -75,6 +75,7 @@ impl Compared {
             Err(error) => error.items(),
         };
         self.items(case, &args, &theirs, &items);
+        self.missing(case, form, &theirs, read.as_ref().map_or_else(ReadError::missing, |_| &[]));
         if let Err(error) = &read {
             self.must(shown_well(error), case, || format!("shown {error}"));
         }
@@ -119,6 +120,14 @@ impl Compared {
         let in_order = numbers.first().is_none_or(|first| *first == 0) && numbers.windows(2).all(|two| two[1] - two[0] <= 1);
         self.must(whole && in_order, case, || format!("arguments of items: {numbers:?}"));
     }
+
+    /// What is missing, in order, each with the names that the form has for it.
+    fn missing(&mut self, case: &Case, form: &format::Form, theirs: &harness::Run, missing: &[Missing]) {
+        let entry = |m: &Missing| [m.node as u32 + 1, m.scope.start as u32, m.scope.end as u32];
+        let same = missing.iter().map(entry).eq(theirs.missing.iter().copied());
+        let named = missing.iter().all(|m| form.nodes.get(m.node).is_some_and(|node| m.names == given_names(form, node)));
+        self.must(same && named, case, || format!("missing {missing:?}, expected {:?}", theirs.missing));
+    }
 }
 
 fn mark(mark: Mark) -> u32 {
@@ -152,21 +161,29 @@ fn stands_for(item: &Item, part: &[u8]) -> bool {
     }
 }
 
-/// A sentence alone, or a sentence, the line and carets. What may be missing is always named.
+/// A sentence alone, or a sentence, the line and carets; for 20 perhaps both, an unknown option first. What is missing is
+/// always named, and nothing is for any other refusal.
 fn shown_well(error: &ReadError) -> bool {
-    let text = error.to_string();
-    if text == "something required was not found" {
+    let (text, number) = (error.to_string(), error.number());
+    let named = error.missing().iter().all(|missing| text.contains(&missing.to_string()));
+    if text == "something required was not found" || !named || error.missing().is_empty() == (number == 20) {
         return false;
     }
     let lines: Vec<&str> = text.split('\n').collect();
     match (error.place(), &lines[..]) {
         (None, [sentence]) => !sentence.is_empty(),
-        (Some(_), [_, line, carets]) => {
-            let under = carets.chars().count() <= line.chars().count() + 1;
-            under && carets.trim_start().chars().all(|c| c == '^') && carets.contains('^')
+        (None, [unknown, line, carets, _]) => {
+            number == 20 && unknown.ends_with(" is not a known option") && under(line, carets)
         }
+        (Some(_), [_, line, carets]) => under(line, carets),
         _ => false,
     }
+}
+
+/// Whether there are carets, and all of them stand under the line or right behind it.
+fn under(line: &str, carets: &str) -> bool {
+    let within = carets.chars().count() <= line.chars().count() + 1;
+    within && carets.trim_start().chars().all(|c| c == '^') && carets.contains('^')
 }
 
 /// Whether every text of a value is a part of the arguments' own bytes, or of the form's for a fallback.
@@ -290,12 +307,23 @@ fn node(form: &format::Form, number: u16) -> Node {
 
 fn names(form: &format::Form, node: &format::Node) -> Names {
     (node.p..node.p + node.q).fold(Names::default(), |names, record| {
-        let name = std::str::from_utf8(form.name(record as usize)).expect("a name is UTF-8");
+        let name = utf8(form, record);
         match form.names[record as usize].ty {
             format::SHORT => names.short(name.chars().next().expect("one character")),
             _ => names.long(name),
         }
     })
+}
+
+/// The names of a leaf as they are given on a line; a positional has none.
+fn given_names(form: &format::Form, leaf: &format::Node) -> Vec<String> {
+    let records = if leaf.kind == format::POSITIONAL { 0..0 } else { leaf.p..leaf.p + leaf.q };
+    let dashes = |record: u16| if form.names[record as usize].ty == format::SHORT { "-" } else { "--" };
+    records.map(|record| format!("{}{}", dashes(record), utf8(form, record))).collect()
+}
+
+fn utf8(form: &format::Form, record: u16) -> &str {
+    std::str::from_utf8(form.name(record as usize)).expect("a name is UTF-8")
 }
 
 fn main() -> ExitCode {

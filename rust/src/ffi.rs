@@ -4,9 +4,10 @@
 //! outside it and keeps no pointer. Only `&mut` slices are written, and the borrow checker keeps them apart from all others. A
 //! slice of length 0 has a pointer that is not null and is not read. Every struct is numbers alone, so any bits are a value.
 
-/// Words of the least item slice and of the least answer slice that `run` accepts.
+/// Words of the least item slice, of the least answer slice and of the least list slice that `run` accepts.
 pub const ITEM_WORDS: usize = 1792;
 pub const ANSWER_WORDS: usize = 8240;
+pub const LIST_WORDS: usize = 192;
 
 /// A place is handed over as itself plus 1, and none as 0.
 pub fn place(code: u32) -> Option<usize> {
@@ -62,6 +63,8 @@ extern "C" {
         item_count: usize,
         answers: *mut u32,
         answer_count: usize,
+        list: *mut u32,
+        list_count: usize,
     ) -> RunAnswer;
 }
 
@@ -80,13 +83,23 @@ pub fn portable(form: &[u8]) -> Told {
     unsafe { silverpoise_portable(form.as_ptr(), form.len()) }
 }
 
-/// The whole run: it checks form, sheet and the lengths of both slices before it does anything else.
-pub fn run(form: &[u8], sheet: &[u8], items: &mut [u32], answers: &mut [u32]) -> RunAnswer {
-    let (item_count, answer_count) = (items.len(), answers.len());
-    let (items, answers) = (items.as_mut_ptr(), answers.as_mut_ptr());
-    let (form_count, sheet_count) = (form.len(), sheet.len());
+/// The whole run: it checks form, sheet and the lengths of the three slices before it does anything else.
+pub fn run(form: &[u8], sheet: &[u8], items: &mut [u32], answers: &mut [u32], list: &mut [u32]) -> RunAnswer {
     // SAFETY: as said above
-    unsafe { silverpoise_run(form.as_ptr(), form_count, sheet.as_ptr(), sheet_count, items, item_count, answers, answer_count) }
+    unsafe {
+        silverpoise_run(
+            form.as_ptr(),
+            form.len(),
+            sheet.as_ptr(),
+            sheet.len(),
+            items.as_mut_ptr(),
+            items.len(),
+            answers.as_mut_ptr(),
+            answers.len(),
+            list.as_mut_ptr(),
+            list.len(),
+        )
+    }
 }
 
 #[cfg(test)]
@@ -119,13 +132,26 @@ mod tests {
         assert_eq!(form_check(FORM), Refused { number: 0, place: 0 });
         assert_eq!(kind(FORM, 1), Told { number: 0, place: 0, answer: 3 });
         assert_eq!(portable(FORM), Told { number: 0, place: 0, answer: 1 });
-        let (mut items, mut answers) = ([9; ITEM_WORDS], [9; ANSWER_WORDS]);
-        let ran = run(FORM, SHEET, &mut items, &mut answers);
+        let (mut items, mut answers, mut list) = ([9; ITEM_WORDS], [9; ANSWER_WORDS], [9; LIST_WORDS]);
+        let ran = run(FORM, SHEET, &mut items, &mut answers, &mut list);
         assert_eq!((ran.number, ran.place, ran.tries, ran.words, answers[0]), (0, 0, 3, 1, 2));
         let s = ran.state;
         assert_eq!((s.count, s.remaining, s.current, s.start, s.end), (2, 0, 2, 0, 2));
         assert_eq!((s.marks[..3].to_vec(), items[..7].to_vec()), (vec![1, 1, 0], vec![1, 0, 118, 0, 0, 0, 3]));
-        assert!(items[14..].iter().chain(&answers[1..]).all(|word| *word == 0));
+        assert!(items[14..].iter().chain(&answers[1..]).chain(&list).all(|word| *word == 0));
+    }
+
+    /// What is missing: node plus 1, scope start, scope end, and zeros behind. Here the flag itself, on `-x` and `a`.
+    #[test]
+    fn the_list() {
+        let (mut items, mut answers, mut list) = ([9; ITEM_WORDS], [9; ANSWER_WORDS], [9; LIST_WORDS]);
+        // node 1 is a last instead of a count
+        let mut last = FORM.to_vec();
+        last[26] = 8;
+        let ran = run(&last, b"\x02\0\0\0\x02\0\x03\0-xa", &mut items, &mut answers, &mut list);
+        assert_eq!((ran.number, ran.place, ran.tries, ran.words), (20, 0, 2, 0));
+        assert_eq!((&list[..3], &answers[..]), (&[1, 0, 2][..], &[0; ANSWER_WORDS][..]));
+        assert!(list[3..].iter().all(|word| *word == 0));
     }
 
     /// A slice of length 0 is answered like any other.
@@ -134,19 +160,32 @@ mod tests {
         assert_eq!(form_check(&[]), Refused { number: 1, place: 0 });
         assert_eq!(kind(&[], 0), Told { number: 1, place: 0, answer: 0 });
         assert_eq!(portable(&[]), Told { number: 1, place: 0, answer: 0 });
-        let (mut items, mut answers) = (vec![9; ITEM_WORDS], vec![9; ANSWER_WORDS]);
-        assert_eq!(run(&[], SHEET, &mut items, &mut answers).number, 1);
-        assert_eq!(run(FORM, &[], &mut items, &mut answers).number, 5);
-        assert_eq!(run(FORM, SHEET, &mut [], &mut answers).number, 7);
-        assert_eq!(run(FORM, SHEET, &mut items, &mut []).number, 7);
-        assert_eq!(run(&[], &[], &mut [], &mut []).number, 1);
+        let (mut items, mut answers, mut list) = (vec![9; ITEM_WORDS], vec![9; ANSWER_WORDS], vec![9; LIST_WORDS]);
+        assert_eq!(run(&[], SHEET, &mut items, &mut answers, &mut list).number, 1);
+        assert_eq!(run(FORM, &[], &mut items, &mut answers, &mut list).number, 5);
+        assert_eq!(run(FORM, SHEET, &mut [], &mut answers, &mut list).number, 7);
+        assert_eq!(run(FORM, SHEET, &mut items, &mut [], &mut list).number, 7);
+        assert_eq!(run(FORM, SHEET, &mut items, &mut [], &mut []).number, 7);
+        assert_eq!(run(FORM, SHEET, &mut items, &mut answers, &mut []).number, 14);
+        assert_eq!(run(&[], &[], &mut [], &mut [], &mut []).number, 1);
     }
 
     /// A slice that is too short is refused, and no word behind it is touched.
     #[test]
     fn short_slices() {
-        let (mut items, mut answers) = ([9; ITEM_WORDS], [9; ANSWER_WORDS]);
-        assert_eq!(run(FORM, SHEET, &mut items[..ITEM_WORDS - 1], &mut answers).number, 7);
-        assert_eq!((items[ITEM_WORDS - 2], items[ITEM_WORDS - 1], answers[ANSWER_WORDS - 1]), (0, 9, 0));
+        let (mut items, mut answers, mut list) = ([9; ITEM_WORDS], [9; ANSWER_WORDS], [9; LIST_WORDS]);
+        assert_eq!(run(FORM, SHEET, &mut items[..ITEM_WORDS - 1], &mut answers, &mut list).number, 7);
+        assert_eq!((items[ITEM_WORDS - 2], items[ITEM_WORDS - 1]), (0, 9));
+        assert_eq!((answers[ANSWER_WORDS - 1], list[LIST_WORDS - 1]), (0, 0));
+    }
+
+    /// A list slice that is too short is refused with 14, which leaves what 7 leaves.
+    #[test]
+    fn a_short_list() {
+        let (mut items, mut answers, mut list) = ([9; ITEM_WORDS], [9; ANSWER_WORDS], [9; LIST_WORDS]);
+        let ran = run(FORM, SHEET, &mut items, &mut answers, &mut list[..LIST_WORDS - 1]);
+        assert_eq!((ran.number, ran.place, ran.tries, ran.words, ran.state.count), (14, 0, 0, 0, 0));
+        assert!(items.iter().chain(&answers).chain(&list[..LIST_WORDS - 1]).all(|word| *word == 0));
+        assert_eq!(list[LIST_WORDS - 1], 9);
     }
 }

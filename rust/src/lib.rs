@@ -33,7 +33,8 @@
 //! - **Types**: [`TypedForm`] over [`Parser`]s; wrong combinations do not compile, and what types cannot say is a
 //!   [`FormError`]. [`TypedForm::with_help`] adds `-h` and `-V`.
 //! - **Without types**: [`Form`] over [`Node`]s, for options that are known only at run time; its values are [`Value`]s.
-//! - **What was read**: [`TypedForm::read_line`] and [`ReadError`] have the items, which of them were used, and the tries.
+//! - **What was read**: [`TypedForm::read_line`] and [`ReadError`] have the items, which of them were used, and the tries;
+//!   [`ReadError::missing`] what looked in vain.
 //! - **Many lines**: a [`Reader`] keeps the buffers.
 //!
 //! What each parser does, and the numbers of the refusals, are in the project's docs/FORMAT.md.
@@ -69,6 +70,8 @@ mod form;
 mod needs;
 
 // lines: run, and what is told of them
+mod missing;
+
 mod run;
 
 mod line;
@@ -91,6 +94,7 @@ pub use form_error::FormError;
 pub use help::{Answer, HelpForm};
 pub use item::{Item, ItemKind, Mark};
 pub use line::Line;
+pub use missing::Missing;
 pub use names::{long, short, Names};
 pub use node::{Fallback, Node, Takes};
 pub use parser::{positional, Base, Element, Kind, Parser, Taken, Text};

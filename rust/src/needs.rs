@@ -4,10 +4,13 @@ use crate::form_words::names;
 use crate::layout::Layout;
 use crate::node::{kind, Record};
 
-/// What the fields ask for that would be refused with this number (20, or 21 for a some) where it is not found.
-pub(crate) fn required(layout: Layout, number: u32) -> Vec<String> {
+/// What an unrestricted, a strict and a non-strict positional look for.
+const OPERANDS: [&str; 3] = ["an operand", "an operand behind `--`", "an operand before `--`"];
+
+/// What the fields ask for that would be refused with 21 where it is not found: a some has no list of what is missing.
+pub(crate) fn some_required(layout: Layout) -> Vec<String> {
     let fields = (0..layout.fields()).map(|field| layout.field(field));
-    fields.filter(|node| need(layout, *node) == Some(number)).map(|node| words(layout, node)).collect()
+    fields.filter(|node| need(layout, *node) == Some(21)).map(|node| either(&parts(layout, node))).collect()
 }
 
 /// The number of the refusal where what a node of an accepted form asks for is not found; none if it asks for nothing.
@@ -26,18 +29,31 @@ fn need(layout: Layout, node: usize) -> Option<u32> {
     }
 }
 
-/// What a node looks for.
-fn words(layout: Layout, node: usize) -> String {
+/// What a node looks for: one of these.
+fn parts(layout: Layout, node: usize) -> Vec<String> {
     let record = layout.node(node);
-    let named = || format!("`{}`", names(layout, &record, "`/`"));
     match record.kind {
-        kind::ARGUMENT if record.r & 1 == 1 => format!("{} with its value in the same argument", named()),
-        kind::FLAG | kind::ARGUMENT => named(),
-        kind::POSITIONAL => ["an operand", "an operand behind `--`", "an operand before `--`"][record.p].to_string(),
-        kind::SOME => format!("{} (one at least)", words(layout, record.p)),
-        kind::CHOICE => format!("{} or {}", words(layout, record.p), words(layout, record.q)),
-        _ => words(layout, record.p),
+        kind::FLAG | kind::ARGUMENT | kind::POSITIONAL => vec![leaf_words(layout, &record)],
+        kind::SOME => vec![format!("{} (one at least)", either(&parts(layout, record.p)))],
+        kind::CHOICE => [parts(layout, record.p), parts(layout, record.q)].concat(),
+        _ => parts(layout, record.p),
     }
+}
+
+/// What a flag, an argument or a positional looks for.
+pub(crate) fn leaf_words(layout: Layout, leaf: &Record) -> String {
+    let named = || format!("`{}`", names(layout, leaf, "` or `"));
+    match leaf.kind {
+        kind::ARGUMENT if leaf.r & 1 == 1 => format!("{} with its value in the same argument", named()),
+        kind::POSITIONAL => OPERANDS[leaf.p].to_string(),
+        _ => named(),
+    }
+}
+
+/// One of several. A comma stands before each `or` where a part is more than a name, so that one sees where the next begins.
+pub(crate) fn either(parts: &[String]) -> String {
+    let plain = |part: &String| part == OPERANDS[0] || !part.contains(' ');
+    parts.join(if parts.iter().all(plain) { " or " } else { ", or " })
 }
 
 /// Whether a flag or an argument of the form has this short or long name.

@@ -7,11 +7,13 @@ use std::os::unix::ffi::OsStrExt;
 
 use crate::ffi;
 use crate::item::{Area, Item};
-use crate::read_words::{sentence, spot};
+use crate::missing::Missing;
+use crate::read_words::{said, Said};
 use crate::run::Run;
 use crate::shown::{underlined, ShownArgument};
 
-/// Why a line was refused. Its `Display` says in words what was refused, and shows the line with the place underlined.
+/// Why a line was refused. Its `Display` says in words what was refused, and shows the line with the place underlined. Where
+/// something is missing (20) an option that the form does not have is said before it, since it may be that, mistyped.
 ///
 /// It owns what it shows, so that it can be handed up with `?`.
 #[derive(Clone, PartialEq, Eq)]
@@ -22,9 +24,8 @@ struct Inner {
     number: u32,
     place: Option<usize>,
     tries: u32,
-    sentence: String,
-    /// the argument that is shown, and which bytes of it
-    spot: Option<(usize, Range<usize>)>,
+    missing: Vec<Missing>,
+    said: Vec<Said>,
     program: Option<OsString>,
     /// empty where the line was not split
     args: Vec<OsString>,
@@ -35,14 +36,14 @@ struct Inner {
 impl ReadError {
     pub(crate) fn new(run: &Run) -> ReadError {
         let answer = &run.answer;
-        let (place, items) = (ffi::place(answer.place), run.items());
+        let (place, items, missing) = (ffi::place(answer.place), run.items(), run.missing());
         let split = !run.records.is_empty();
         ReadError(Box::new(Inner {
             number: answer.number,
             place,
             tries: answer.tries,
-            sentence: sentence(run, &items, place),
-            spot: spot(run, &items, place),
+            said: said(run, &items, place, &missing),
+            missing,
             program: None,
             args: if split { run.args.iter().map(OsString::from).collect() } else { Vec::new() },
             records: run.records.to_vec(),
@@ -69,6 +70,23 @@ impl ReadError {
     /// How often a flag, an argument or a positional was evaluated.
     pub fn tries(&self) -> u32 {
         self.0.tries
+    }
+
+    /// What is missing, where the refusal is 20 (docs/FORMAT.md, section 9): each flag, argument and positional that looked in
+    /// vain, in the order in which they were evaluated. One of them is enough for its field. Empty for every other refusal.
+    ///
+    /// ```
+    /// use silverpoise::{positional, short, Text, TypedForm};
+    ///
+    /// let form = TypedForm::of((short('v').switch(), short('l').long("label").argument::<Text>().or(positional::<Text>())))?;
+    /// let error = form.read(&["-v"]).unwrap_err();
+    /// assert_eq!(error.missing()[0].names, ["-l", "--label"]);
+    /// assert_eq!(error.missing()[1].to_string(), "an operand");
+    /// assert_eq!(error.to_string(), "`-l` or `--label`, or an operand is required, and was not found");
+    /// # Ok::<(), silverpoise::FormError>(())
+    /// ```
+    pub fn missing(&self) -> &[Missing] {
+        &self.0.missing
     }
 
     /// The items of the line, each with whether it was used. None where the line could not be split (5 to 8); for 9 those up
@@ -103,11 +121,13 @@ impl Inner {
 
 impl fmt::Display for ReadError {
     fn fmt(&self, f: &mut fmt::Formatter<'_>) -> fmt::Result {
-        f.write_str(&self.0.sentence)?;
-        match &self.0.spot {
-            Some((argument, part)) => write!(f, "\n{}", self.0.line(*argument, part)),
-            None => Ok(()),
+        for (k, Said { sentence, spot }) in self.0.said.iter().enumerate() {
+            write!(f, "{}{sentence}", if k > 0 { "\n" } else { "" })?;
+            if let Some((argument, part)) = spot {
+                write!(f, "\n{}", self.0.line(*argument, part))?;
+            }
         }
+        Ok(())
     }
 }
 

@@ -4,22 +4,39 @@ use std::ops::Range;
 use std::os::unix::ffi::OsStrExt;
 
 use crate::item::{Item, ItemKind, Mark};
-use crate::needs::{has_option, required};
+use crate::missing::Missing;
+use crate::needs::{either, has_option, some_required};
 use crate::node::{LONG, SHORT};
 use crate::run::{Run, ARGUMENTS};
 use crate::shown::quoted;
 
+/// A sentence, and the argument and the bytes of it that are shown below it.
+#[derive(Clone, PartialEq, Eq)]
+pub(crate) struct Said {
+    pub sentence: String,
+    pub spot: Option<(usize, Range<usize>)>,
+}
+
+/// What is said of a refused line, in order: what was refused, and where something is missing an unknown option before it. No
+/// field takes such an option, so it stays wrong when what is missing is given; and it may be just that, mistyped.
+pub(crate) fn said(run: &Run, items: &[Item], place: Option<usize>, missing: &[Missing]) -> Vec<Said> {
+    let refused = Said { sentence: sentence(run, items, place, missing), spot: spot(run, items, place) };
+    let first = items.iter().find(|item| run.answer.number == 20 && unknown(run, item));
+    let mistyped = first.map(|item| Said { sentence: not_known(item), spot: Some((item.argument, item.part.clone())) });
+    mistyped.into_iter().chain([refused]).collect()
+}
+
 /// What was refused, in a sentence.
-pub(crate) fn sentence(run: &Run, items: &[Item], place: Option<usize>) -> String {
+fn sentence(run: &Run, items: &[Item], place: Option<usize>, missing: &[Missing]) -> String {
     let item = place.and_then(|place| items.get(place));
     match (run.answer.number, item) {
         (5, _) => format!("the arguments have {} bytes together, and at most 32768 are read", bytes(run)),
         (6, _) => format!("there are {} arguments, and at most {ARGUMENTS} are read", run.args.len()),
-        (7, _) => "a buffer is too short".to_string(),
+        (7 | 14, _) => "a buffer is too short".to_string(),
         (8, _) => "the arguments are more than 256 options and words".to_string(),
         (9, Some(item)) => ambiguous(run, items, item),
-        (20, _) => missing(&required(run.form.layout(), 20)),
-        (21, _) => missing(&required(run.form.layout(), 21)),
+        (20, _) => not_found(&[either(&missing.iter().map(Missing::to_string).collect::<Vec<_>>())]),
+        (21, _) => not_found(&some_required(run.form.layout())),
         (22, Some(key)) => no_value(key, place.and_then(|place| items.get(place + 1))),
         (23, Some(item)) => format!("{} must stand behind `--`", name(item)),
         (24, Some(item)) => format!("{} stands behind `--`, and must stand before it", name(item)),
@@ -32,7 +49,7 @@ pub(crate) fn sentence(run: &Run, items: &[Item], place: Option<usize>) -> Strin
 }
 
 /// The argument and the bytes of it that a refusal is about.
-pub(crate) fn spot(run: &Run, items: &[Item], place: Option<usize>) -> Option<(usize, Range<usize>)> {
+fn spot(run: &Run, items: &[Item], place: Option<usize>) -> Option<(usize, Range<usize>)> {
     let item = items.get(place?)?;
     let part = if run.answer.number == 9 { ambiguous_letter(run, items, item) } else { item.part.clone() };
     Some((item.argument, part))
@@ -68,7 +85,7 @@ fn ambiguous(run: &Run, items: &[Item], word: &Item) -> String {
     )
 }
 
-fn missing(required: &[String]) -> String {
+fn not_found(required: &[String]) -> String {
     match required {
         [] => "something required was not found".to_string(),
         [one] => format!("{one} is required, and was not found"),
@@ -106,7 +123,7 @@ fn left_over(run: &Run, items: &[Item], item: &Item) -> String {
         return format!("{shown} cannot be given together with {}", name(&items[winner]));
     }
     match item.kind {
-        ItemKind::Short(_) | ItemKind::Long(_) if !known(run, item) => format!("{shown} is not a known option"),
+        _ if unknown(run, item) => not_known(item),
         ItemKind::ArgWord => format!("{} is taken as a flag, and {shown} is given to it as a value", key_of(items, item)),
         ItemKind::Word if item.text.len() > 1 && item.text.as_bytes()[0] == b'-' => {
             format!("{shown} is not expected here: it is read as a word, not as options")
@@ -115,11 +132,15 @@ fn left_over(run: &Run, items: &[Item], item: &Item) -> String {
     }
 }
 
-/// Whether the form has an option of this name.
-fn known(run: &Run, item: &Item) -> bool {
+fn not_known(option: &Item) -> String {
+    format!("{} is not a known option", name(option))
+}
+
+/// Whether this is an option, and the form has none of its name.
+fn unknown(run: &Run, item: &Item) -> bool {
     match item.kind {
-        ItemKind::Short(letter) => has_option(run.form.layout(), SHORT, letter.to_string().as_bytes()),
-        ItemKind::Long(name) => has_option(run.form.layout(), LONG, name.as_bytes()),
+        ItemKind::Short(letter) => !has_option(run.form.layout(), SHORT, letter.to_string().as_bytes()),
+        ItemKind::Long(name) => !has_option(run.form.layout(), LONG, name.as_bytes()),
         _ => false,
     }
 }

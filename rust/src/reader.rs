@@ -16,15 +16,15 @@ use crate::value::{Value, Words};
 pub struct Reader {
     sheet: Vec<u8>,
     starts: Vec<usize>,
-    items: Vec<u32>,
-    answers: Vec<u32>,
+    /// item slice, answer slice and list slice, one behind the other
+    words: Vec<u32>,
 }
 
 impl Reader {
     /// A reader with buffers of its own, about 40 KB.
     pub fn new() -> Reader {
-        let (items, answers) = (vec![0; ffi::ITEM_WORDS], vec![0; ffi::ANSWER_WORDS]);
-        Reader { sheet: Vec::new(), starts: Vec::new(), items, answers }
+        let words = vec![0; ffi::ITEM_WORDS + ffi::ANSWER_WORDS + ffi::LIST_WORDS];
+        Reader { sheet: Vec::new(), starts: Vec::new(), words }
     }
 
     /// Reads a line under an untyped form, as [`Form::read_values`] does.
@@ -43,10 +43,12 @@ impl Reader {
     pub(crate) fn run<'r, 'a, A: AsRef<OsStr>>(&'r mut self, form: &'a Form, args: &'a [A]) -> Result<Run<'r, 'a>, ReadError> {
         let args: Vec<&OsStr> = args.iter().map(AsRef::as_ref).collect();
         self.write_sheet(&args);
-        let answer = ffi::run(form.bytes(), &self.sheet, &mut self.items, &mut self.answers);
-        let records = &self.items[..7 * answer.state.count as usize];
-        let words = &self.answers[..answer.words as usize];
-        let run = Run { form, args, answer, starts: &self.starts, records, words };
+        let (items, rest) = self.words.split_at_mut(ffi::ITEM_WORDS);
+        let (answers, list) = rest.split_at_mut(ffi::ANSWER_WORDS);
+        let answer = ffi::run(form.bytes(), &self.sheet, items, answers, list);
+        let records = &items[..7 * answer.state.count as usize];
+        let words = &answers[..answer.words as usize];
+        let run = Run { form, args, answer, starts: &self.starts, records, words, list };
         match answer.number {
             0 => Ok(run),
             _ => Err(ReadError::new(&run)),
@@ -99,11 +101,32 @@ mod tests {
     #[test]
     fn short_buffers_are_refused() {
         let form = Form::of([Node::switch(short('v'))]).unwrap();
+        let refused = |error: ReadError, number: u32| {
+            assert_eq!((error.number(), error.to_string()), (number, "a buffer is too short".to_string()));
+            assert_eq!((error.place(), error.tries(), error.items(), error.missing()), (None, 0, vec![], &[][..]));
+        };
         let mut reader = Reader::new();
-        reader.items.pop();
-        let error = reader.read_values(&form, &["-v"]).unwrap_err();
-        assert_eq!((error.number(), error.to_string()), (7, "a buffer is too short".to_string()));
-        assert_eq!((error.place(), error.tries(), error.items()), (None, 0, vec![]));
+        reader.words.pop();
+        refused(reader.read_values(&form, &["-v"]).unwrap_err(), 14);
+        let (items, rest) = reader.words.split_at_mut(ffi::ITEM_WORDS - 1);
+        let answer = ffi::run(form.bytes(), &reader.sheet, items, rest, &mut []);
+        let args = vec![OsStr::new("-v")];
+        refused(ReadError::new(&Run { form: &form, args, answer, starts: &[0], records: &[], words: &[], list: &[] }), 7);
+    }
+
+    /// What is missing on one line is gone from the list on the next.
+    #[test]
+    fn an_accepted_line_misses_nothing() {
+        let form = Form::of([Node::switch(short('v')), Node::flag(short('x'))]).unwrap();
+        let mut reader = Reader::new();
+        let list = ffi::ITEM_WORDS + ffi::ANSWER_WORDS..;
+        assert_eq!(reader.read_values(&form, &["-v"]).unwrap_err().missing().len(), 1);
+        assert_eq!(reader.words[list.clone()][..4], [2, 0, 1, 0]);
+        for args in [&["-x"][..], &["-x", "-v"], &["-vx"]] {
+            assert!(reader.read_values(&form, args).is_ok());
+            assert_eq!(reader.words[list.clone()], [0; ffi::LIST_WORDS]);
+        }
+        assert_eq!(reader.read_values(&form, &["-x", "y"]).unwrap_err().missing(), []);
     }
 
     /// The sheets of docs/FORMAT.md, section 2, and those that say too much.

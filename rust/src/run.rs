@@ -6,6 +6,7 @@ use std::os::unix::ffi::OsStrExt;
 use crate::ffi::RunAnswer;
 use crate::form::Form;
 use crate::item::{Area, Item};
+use crate::missing::{self, Missing};
 
 /// The most arguments of a line.
 pub(crate) const ARGUMENTS: usize = 256;
@@ -20,6 +21,8 @@ pub struct Run<'r, 'a> {
     /// the records of the items
     pub(crate) records: &'r [u32],
     pub(crate) words: &'r [u32],
+    /// what looked in vain, as entries with zeros behind them
+    pub(crate) list: &'r [u32],
 }
 
 impl<'a> Run<'_, 'a> {
@@ -29,6 +32,10 @@ impl<'a> Run<'_, 'a> {
 
     pub(crate) fn items(&self) -> Vec<Item<'a>> {
         self.area().items(self.records, &self.answer.state.marks)
+    }
+
+    pub(crate) fn missing(&self) -> Vec<Missing> {
+        missing::read(self.form.layout(), self.list)
     }
 
     /// The text that an answer word stands for: an item's, or from 256 on a name record's.

@@ -146,6 +146,45 @@ refused with 27 at place 1 in 4 tries
     shows("bench.form", &["-v=7"], 1, expected);
 }
 
+/// Each that looked in vain is named, in order.
+#[test]
+fn something_missing() {
+    let expected = "
+line  -1
+   0  ^^  Short  used
+
+refused with 20 in 8 tries
+  an operand is required, and was not found
+";
+    shows("wear.form", &["-1"], 1, expected);
+    let form = b"verbose: switch -v\nstand: (text -s --stand or text), last\n";
+    let printed = command(&["-", "-v"], form);
+    let expected = "line  -v
+   0  ^^  Short  used
+
+refused with 20 in 5 tries
+  `-s` or `--stand`, or an operand is required, and was not found
+";
+    assert_eq!((printed.status.code(), String::from_utf8_lossy(&printed.stdout).as_ref()), (Some(1), expected));
+}
+
+/// A mistyped option is said before what is missing.
+#[test]
+fn an_unknown_option_and_something_missing() {
+    let expected = "
+line  --limt=7
+   0  ^^^^^^    Long, adjacent  not used
+   1         ^  ArgWord         not used
+
+refused with 20 in 8 tries
+  `--limt` is not a known option
+    --limt=7
+    ^^^^^^
+  an operand is required, and was not found
+";
+    shows("wear.form", &["--limt=7"], 1, expected);
+}
+
 /// Quotes about what is empty or has a space, escapes, the nothing behind a `=`, and the word `--`, used from the start.
 #[test]
 fn every_kind_of_item_and_escapes() {

@@ -14,7 +14,7 @@ use Rattle.rules.specs.Form.{formEnd}
 use Rattle.rules.specs.Accept.{Accepted}
 use Rattle.rules.specs.Eval.{Ran}
 use Rattle.rules.specs.Run.{Line, Report, split, runLine, padded, refusedInput, reportWith, report, run}
-use Rattle.rules.specs.Given.{roomIn, inputIn}
+use Rattle.rules.specs.Given.{roomIn, listRoomIn, inputIn}
 use Rattle.rules.specs.Bench.{firstLine, wordLine, benchText, bench}
 use Rattle.rules.specs.Codes.{placeOf}
 use Rattle.rules.proofs.CodeLaws.{place-code}
@@ -35,25 +35,25 @@ bind-padded na (ok a) f h = h a
 bind-padded na (refused e) f h = tt
 bind-padded na (fault x) f h = tt
 
-module _ (ni na : ℕ) where
-  refused-padded : (n : ℕ) (k : Option ℕ) → Padded na (ok (refusedInput ni na n k))
+module _ (ni na nl : ℕ) where
+  refused-padded : (n : ℕ) (k : Option ℕ) → Padded na (ok (refusedInput ni na nl n k))
   unfolding refusedInput
   refused-padded n k = refl
 
-  report-padded : (l : Line) (r : Ran (List Value)) → Padded na (report ni na l r)
+  report-padded : (l : Line) (r : Ran (List Value)) → Padded na (report ni na nl l r)
   unfolding report reportWith
   report-padded l r = go (r .outcome) refl
     where
-      go : (o : Outcome (List Value)) → r .outcome ≡ o → Padded na (report ni na l r)
+      go : (o : Outcome (List Value)) → r .outcome ≡ o → Padded na (report ni na nl l r)
       go (ok vs) e = rw (e, report) refl
       go (refused x) e = rw (e, report) refl
       go (fault x) e = rw (e, report) tt
 
-  run-padded : (b s : List ℕ) → Padded na (run b s ni na)
+  run-padded : (b s : List ℕ) → Padded na (run b s ni na nl)
   unfolding run
-  run-padded b s = go (inputIn b s ni >>= λ a. roomIn 8240 na >>= λ _. ok a) refl
+  run-padded b s = go (inputIn b s ni >>= λ a. roomIn 8240 na >>= λ _. listRoomIn nl >>= λ _. ok a) refl
     where
-      go : (o : Outcome Accepted) → (inputIn b s ni >>= λ a. roomIn 8240 na >>= λ _. ok a) ≡ o → Padded na (run b s ni na)
+      go : (o : Outcome Accepted) → (inputIn b s ni >>= λ a. roomIn 8240 na >>= λ _. listRoomIn nl >>= λ _. ok a) ≡ o → Padded na (run b s ni na nl)
       go (ok a) e = rw (e, run) (bind-padded na (split (a .form) s) _ (λ l. report-padded l (runLine (a .fields) l)))
       go (refused x) e = rw (e, run) (refused-padded (x .number) (x .place))
       go (fault x) e = rw (e, run) tt
@@ -68,9 +68,9 @@ pub record Says (r : RunAnswer) (answers : List ℕ) (o : Outcome Report) : Type
   pub words : r .words ≡ length (report .words)
   pub slice : answers ≡ report .answers
 
-says : (r : RunAnswer) (items answers : List ℕ) (o : Outcome Report) → runAnswer o ≡ ended r items answers → Says r answers o
+says : (r : RunAnswer) (items answers list : List ℕ) (o : Outcome Report) → runAnswer o ≡ ended r items answers list → Says r answers o
 unfolding runAnswer
-says r items answers (ok x) e =
+says r items answers list (ok x) e =
     let same = Option·some-injective _ _ e in
     record {
       report = x;
@@ -81,8 +81,8 @@ says r items answers (ok x) e =
       words = sym (ap (λ (y : Ended). y .answer .words) same);
       slice = sym (ap (λ (y : Ended). y .answers) same);
     }
-says r items answers (refused x) e = absurd (Option·none-ne-some _ e)
-says r items answers (fault x) e = absurd (Option·none-ne-some _ e)
+says r items answers list (refused x) e = absurd (Option·none-ne-some _ e)
+says r items answers list (fault x) e = absurd (Option·none-ne-some _ e)
 
 module _ (r : RunAnswer) (answers : List ℕ) (na : ℕ) (o : Outcome Report) (h : Says r answers o) (p : Padded na o) where
   there : answers ≡ h .report .words ++ replicate (na - length (h .report .words)) 0
@@ -101,14 +101,14 @@ module _ (r : RunAnswer) (answers : List ℕ) (na : ℕ) (o : Outcome Report) (h
   unfolding benchText firstLine lineText
   text-there = rw (h .number, h .place, h .tries, words-there, h .words)
 
-module _ (b form sheet : List ℕ) (ni na : ℕ) (ef : form ≡ take (formEnd b) b) (es : sheet ≡ drop (formEnd b) b) (ei : ni ≡ 1792) (ea : na ≡ 8240)
-    (r : RunAnswer) (items answers : List ℕ) (same : runAnswer (run form sheet ni na) ≡ ended r items answers) where
-  told : Says r answers (run form sheet ni na)
-  told = says r items answers (run form sheet ni na) same
+module _ (b form sheet : List ℕ) (ni na nl : ℕ) (ef : form ≡ take (formEnd b) b) (es : sheet ≡ drop (formEnd b) b) (ei : ni ≡ 1792) (ea : na ≡ 8240)
+    (el : nl ≡ 192) (r : RunAnswer) (items answers list : List ℕ) (same : runAnswer (run form sheet ni na nl) ≡ ended r items answers list) where
+  told : Says r answers (run form sheet ni na nl)
+  told = says r items answers list (run form sheet ni na nl) same
 
   module _ (long : length answers ≡ na) (count : ℕ) (ec : count ≡ r .words) where
     pub few-words : count ≤ length answers
-    few-words = omega (arith, words-few r answers na _ told (run-padded ni na form sheet) long)
+    few-words = omega (arith, words-few r answers na _ told (run-padded ni na nl form sheet) long)
 
     pub share-length : count ≡ length (take count answers)
     share-length = sym (length-take-le count answers few-words)
@@ -119,8 +119,8 @@ module _ (b form sheet : List ℕ) (ni na : ℕ) (ef : form ≡ take (formEnd b)
   bench-text : bench b ≡ ok (lineText (r .number) (placeOf (r .place)) (r .tries) (r .words) ++ concatMap wordLine (take (r .words) answers))
   unfolding bench _>>=_
   bench-text =
-      let whole : run (take (formEnd b) b) (drop (formEnd b) b) 1792 8240 ≡ run form sheet ni na = rw (ef, es, ei, ea) in
-      rw (whole ∙ told .same, _>>=_) (ap ok (text-there r answers na _ told (run-padded ni na form sheet)))
+      let whole : run (take (formEnd b) b) (drop (formEnd b) b) 1792 8240 192 ≡ run form sheet ni na nl = rw (ef, es, ei, ea, el) in
+      rw (whole ∙ told .same, _>>=_) (ap ok (text-there r answers na _ told (run-padded ni na nl form sheet)))
 
   pub bench-appends :
       (o o₁ : List ℕ) (e₁ : ℕ)

@@ -5,6 +5,7 @@ ghost use lib.ListN.{length, take};
 ghost use Rattle.io.specs.Counts.{Counts};
 ghost use Rattle.rules.specs.Outcome.{ok};
 ghost use Rattle.rules.specs.Bench.{bench};
+use eval_missing::MISSING_WORDS;
 use run_fields::ANSWER_WORDS;
 use split_arg::ITEM_WORDS;
 
@@ -38,9 +39,10 @@ fn answer(input: &[u8], out: &mut [u8]) -> usize
 {
     let mut items = [0u32; ITEM_WORDS];
     let mut answers = [0u32; ANSWER_WORDS];
+    let mut list = [0u32; MISSING_WORDS]; // which is not printed
     let form = bench_input::form_part(input);
     let sheet = bench_input::sheet_part(input);
-    let ran = run::run(form, sheet, &mut items, &mut answers);
+    let ran = run::run(form, sheet, &mut items, &mut answers, &mut list);
     let end = output::first_line(out, ran.number, ran.place, ran.tries, ran.words);
     let count = size(ran.words);
     output::append_words(out, end, &answers[..count])

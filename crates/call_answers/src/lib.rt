@@ -4,9 +4,11 @@ ghost use Prim.Native.Nat.{_≤_};
 ghost use Rattle.call_answers.specs.Answers.{coded, yesNo, answerWith, stateWith};
 use rules::State;
 
-// The refusals of single calls: a slice is too short; no word is left for a positional, a key has no value; there is no such
+// The refusals of single calls: a slice, or the list, is too short; no word is left for a positional, a key has no value; there is no such
 // node, name, place or scope; a state, or an item record, breaks its rule.
 pub const SHORT_SLICE: u32 = 7;
+
+pub const SHORT_LIST: u32 = 14;
 
 pub const MISSING: u32 = 20;
 

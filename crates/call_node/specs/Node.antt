@@ -22,10 +22,11 @@ use Rattle.eval_told.specs.Nodes.{treeAt}
 use Rattle.call_table.specs.Given.{Holds}
 use Rattle.run_fields.specs.declared.RunAnswer.{RunAnswer}
 
--- ---- what is handed back: numbers and a state, and the words of the answer slice
+-- ---- what is handed back: numbers and a state, and the words of the answer slice and of the list
 pub record Answered : Type 0 where
   pub answer : RunAnswer
   pub answers : List ℕ
+  pub list : List ℕ
 
 -- a fault has none
 unfoldable pub evaluatedAnswer : Outcome Evaluated → Option Answered
@@ -38,6 +39,7 @@ evaluatedAnswer (ok x) = some (record {
     state = x .state;
   };
   answers = x .answers;
+  list = x .list;
 })
 evaluatedAnswer (refused e) = none
 evaluatedAnswer (fault f) = none
@@ -56,30 +58,32 @@ answerOf r m = record {
   state = rawOf m (r .numbers);
 }
 
--- ---- the input, once every test is passed. The answer slice has n words
-pub record Admitted (b s words : List ℕ) (n : ℕ) (x : Raw) (k : ℕ) : Type 0 where
+-- ---- the input, once every test is passed. The answer slice has na words, the list nl
+pub record Admitted (b s words : List ℕ) (na nl : ℕ) (x : Raw) (k : ℕ) : Type 0 where
   pub result : Accepted
   pub accepts : checkForm b ≡ accepted result
   pub made : sheetFault s ≡ 0
   pub wide : 1792 ≤ length words
-  pub room : 8240 ≤ n
+  pub room : 8240 ≤ na
+  pub entries : 192 ≤ nl
   pub holds : Holds (sheetArea s) words (x .count)
   pub good : stateIn (x .count) x ≡ ok (fromRaw x)
   pub tree : Tree
   pub node : treeAt b k ≡ some tree
 
 -- what the tests tell: number 0, or the refusal
-pub record Admits (b s words answers : List ℕ) (x : Raw) (k : ℕ) (r : Refused) : Type 0 where
-  pub good : r .number ≡ 0 → Admitted b s words (length answers) x k
-  pub bad : (r .number ≡ 0 → ⊥) → evalIn b s words answers x k ≡ refused (refusalOf r)
+pub record Admits (b s words answers list : List ℕ) (x : Raw) (k : ℕ) (r : Refused) : Type 0 where
+  pub good : r .number ≡ 0 → Admitted b s words (length answers) (length list) x k
+  pub bad : (r .number ≡ 0 → ⊥) → evalIn b s words answers list x k ≡ refused (refusalOf r)
 
--- and an answer slice that is all 0
-pub record ClearedAnswers (b s words o : List ℕ) (x : Raw) (k : ℕ) : Type 0 where
-  pub input : Admitted b s words (length o) x k
+-- and an answer slice and a list that are all 0
+pub record ClearedAnswers (b s words o l : List ℕ) (x : Raw) (k : ℕ) : Type 0 where
+  pub input : Admitted b s words (length o) (length l) x k
   pub zeros : o ≡ replicate (length o) 0
+  pub unlisted : l ≡ replicate (length l) 0
 
 -- ---- the run, for the items of the words and the node's tree
-abbrev pub Runs : List ℕ → List ℕ → List ℕ → ℕ → Raw → ℕ → List ℕ → RunAnswer → Type 0
-Runs b s words n x k o′ r =
+abbrev pub Runs : List ℕ → List ℕ → List ℕ → ℕ → ℕ → Raw → ℕ → List ℕ → List ℕ → RunAnswer → Type 0
+Runs b s words na nl x k o′ l′ r =
     (is : List Item) (t : Tree) → itemsIn (sheetArea s) words ≡ ok is → treeAt b k ≡ some t
-    → evaluatedAnswer (evaluated n (eval parsedMark is t (fromRaw x))) ≡ some (record { answer = r; answers = o′ })
+    → evaluatedAnswer (evaluated na nl (eval parsedMark is t (fromRaw x))) ≡ some (record { answer = r; answers = o′; list = l′ })

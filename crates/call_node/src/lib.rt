@@ -9,8 +9,11 @@ ghost use Rattle.form_layout.specs.Layout.{GoodNames};
 ghost use Rattle.take_table.specs.Known.{Known};
 ghost use Rattle.call_table.specs.Given.{Holds};
 ghost use Rattle.call_node.specs.Node.{evaluatedAnswer, unchangedBy, answerOf, Admits, ClearedAnswers, Runs};
+use call_answers::SHORT_LIST;
 use call_answers::SHORT_SLICE;
 use eval_list::Field;
+use eval_missing::MISSING;
+use eval_missing::MISSING_WORDS;
 use eval_told::Ran;
 use rules::Refused;
 use rules::State;
@@ -37,16 +40,17 @@ fn refused(number: u32) -> Refused
     Refused { number, place: 0 }
 }
 
-// Refusals 1 to 7, then 30, 29 and 28, in this order; number 0 if there is none.
+// Refusals 1 to 7, then 14, 30, 29 and 28, in this order; number 0 if there is none.
 fn admit(
     form: &[u8],
     sheet: &[u8],
     items: &[u32],
     answers: &[u32],
+    list: &[u32],
     s: State,
     node: usize,
 ) -> Refused
-    ensures { λ r. ⌜ Admits (now (form .entry)) (now (sheet .entry)) (now (items .entry)) (now (answers .entry)) s node r ⌝ }
+    ensures { λ r. ⌜ Admits (now (form .entry)) (now (sheet .entry)) (now (items .entry)) (now (answers .entry)) (now (list .entry)) s node r ⌝ }
 {
     let checked = form_check::check(form);
     if checked.number != 0 {
@@ -61,6 +65,9 @@ fn admit(
     }
     if answers.len() < ANSWER_WORDS {
         return refused(SHORT_SLICE);
+    }
+    if list.len() < MISSING_WORDS {
+        return refused(SHORT_LIST);
     }
     let held = call_table::check(sheet, items);
     if !held.good {
@@ -102,17 +109,19 @@ fn unchanged(r: Refused, s: State) -> RunAnswer
     }
 }
 
-// The run, on input that was not refused. The words go to the front of an answer slice that is all 0.
+// The run, on input that was not refused. The words go to the front of an answer slice that is all 0, and what is missing to the
+// front of a list that is all 0.
 fn run_admitted(
     form: &[u8],
     sheet: &[u8],
     items: &[u32],
     answers: &mut [u32],
+    list: &mut [u32],
     s: State,
     node: usize,
 ) -> RunAnswer
-    requires { ⌜ ClearedAnswers (now form) (now sheet) (now items) (now answers) s node ⌝ }
-    ensures { λ r. ⌜ Runs (now (form .entry)) (now (sheet .entry)) (now (items .entry)) (length (now (answers .entry))) s node (now (answers .exit)) r ⌝ }
+    requires { ⌜ ClearedAnswers (now form) (now sheet) (now items) (now answers) (now list) s node ⌝ }
+    ensures { λ r. ⌜ Runs (now (form .entry)) (now (sheet .entry)) (now (items .entry)) (length (now (answers .entry))) (length (now (list .entry))) s node (now (answers .exit)) (now (list .exit)) r ⌝ }
 {
     let known = known_of(form, sheet, items, wide(s.count));
     let mut marks = s.marks;
@@ -130,25 +139,32 @@ fn run_admitted(
         answers,
         mark,
     );
+    if ran.number == MISSING {
+        let left = ran.numbers;
+        eval_missing::list_missing(form, &known, sheet, items, &marks, left, node, list, mark);
+        return answered(ran, marks);
+    }
     answered(ran, marks)
 }
 
-// The evaluation of one node on a state over the items of a slice. Refused with 1 to 7 or 28 to 30, nothing is changed; else
-// the answer slice holds the words of the value and 0 behind them.
+// The evaluation of one node on a state over the items of a slice. Refused with 1 to 7, 14 or 28 to 30, nothing is changed; else
+// the answer slice holds the words of the value, the list what is missing, and each 0 behind them.
 pub fn eval(
     form: &[u8],
     sheet: &[u8],
     items: &[u32],
     answers: &mut [u32],
+    list: &mut [u32],
     s: State,
     node: usize,
 ) -> RunAnswer
-    ensures { λ r. ⌜ evaluatedAnswer (callEval (now (form .entry)) (now (sheet .entry)) (now (items .entry)) (now (answers .entry)) s node) ≡ some (record { answer = r; answers = now (answers .exit) }) ⌝ }
+    ensures { λ r. ⌜ evaluatedAnswer (callEval (now (form .entry)) (now (sheet .entry)) (now (items .entry)) (now (answers .entry)) (now (list .entry)) s node) ≡ some (record { answer = r; answers = now (answers .exit); list = now (list .exit) }) ⌝ }
 {
-    let tested = admit(form, sheet, items, answers, s, node);
+    let tested = admit(form, sheet, items, answers, list, s, node);
     if tested.number != 0 {
         return unchanged(tested, s);
     }
     wire::fill(answers, 0, answers.len(), 0);
-    run_admitted(form, sheet, items, answers, s, node)
+    wire::fill(list, 0, list.len(), 0);
+    run_admitted(form, sheet, items, answers, list, s, node)
 }

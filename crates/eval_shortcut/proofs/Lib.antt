@@ -6,3 +6,4 @@ pub mod Undone
 pub mod Absent
 pub mod OneSide
 pub mod Wraps
+pub mod Shapes

@@ -1,9 +1,9 @@
 // What is known of a node before it is run, and what a node makes of the result of the leaf beneath it.
 ghost use mathlib.Core.Path.{_≡_};
-ghost use mathlib.Core.Bool.{true};
+ghost use mathlib.Core.Bool.{true, not};
 ghost use mathlib.Core.Option.{some};
-ghost use Rattle.rules.specs.Tree.{Tree};
-ghost use Rattle.eval_told.specs.Nodes.{treeAt};
+ghost use Rattle.rules.specs.Tree.{Tree, kindOf};
+ghost use Rattle.eval_told.specs.Nodes.{treeAt, isScalar};
 ghost use Rattle.eval_shortcut.specs.Marks.{undoes, keepsLeaf, keepsMarks, isLeaf, HasTree};
 ghost use Rattle.eval_shortcut.specs.Children.{leafBelow, Searched, LeafRan, HandsOn};
 ghost use Rattle.eval_shortcut.specs.OneSide.{Searchable, missesBy, staysBy, aloneBy, Misses, Stays, Alone};
@@ -152,4 +152,21 @@ pub fn wrap(form: &[u8], child: usize, leaf: usize, ran: Ran, p: Numbers) -> Ran
     let made = eval_combine::optional_unchanged(ran, p, x.r == 1);
     let answer = made.ran;
     answer
+}
+
+// Whether the value of a node is a list or an optional list: through optionals and choices to what is beneath.
+pub fn is_list(form: &[u8], node: usize) -> bool
+    requires { ⌜ ((t : Tree) × (treeAt (now form) node ≡ some t)) ⌝ }
+    ensures { λ r. ⌜ ((t : Tree) → treeAt (now (form .entry)) node ≡ some t → not r ≡ isScalar (kindOf t)) ⌝ }
+{
+    let mut n = node;
+    loop {
+        let x = form_layout::node_at(form, n);
+        let kind = x.kind;
+        match kind {
+            4 | 9 => n = x.p,
+            5 | 6 => return true,
+            _ => return false,
+        }
+    }
 }

@@ -102,8 +102,9 @@ pub extern "C" fn silverpoise_run(
     sheet: &[u8],
     items: &mut [u32],
     answers: &mut [u32],
+    list: &mut [u32],
 ) -> RunAnswer
-    ensures { λ r. ⌜ runAnswer (Run.run (now (form .entry)) (now (sheet .entry)) (length (now (items .entry))) (length (now (answers .entry)))) ≡ some (record { answer = r; items = now (items .exit); answers = now (answers .exit) }) ⌝ }
+    ensures { λ r. ⌜ runAnswer (Run.run (now (form .entry)) (now (sheet .entry)) (length (now (items .entry))) (length (now (answers .entry))) (length (now (list .entry)))) ≡ some (record { answer = r; items = now (items .exit); answers = now (answers .exit); list = now (list .exit) }) ⌝ }
 {
-    run::run(form, sheet, items, answers)
+    run::run(form, sheet, items, answers, list)
 }

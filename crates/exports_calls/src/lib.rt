@@ -176,12 +176,13 @@ pub extern "C" fn silverpoise_eval(
     sheet: &[u8],
     items: &[u32],
     answers: &mut [u32],
+    list: &mut [u32],
     s: State,
     node: usize,
 ) -> RunAnswer
-    ensures { λ r. ⌜ evaluatedAnswer (callEval (now (form .entry)) (now (sheet .entry)) (now (items .entry)) (now (answers .entry)) s node) ≡ some (record { answer = r; answers = now (answers .exit) }) ⌝ }
+    ensures { λ r. ⌜ evaluatedAnswer (callEval (now (form .entry)) (now (sheet .entry)) (now (items .entry)) (now (answers .entry)) (now (list .entry)) s node) ≡ some (record { answer = r; answers = now (answers .exit); list = now (list .exit) }) ⌝ }
 {
-    call_node::eval(form, sheet, items, answers, s, node)
+    call_node::eval(form, sheet, items, answers, list, s, node)
 }
 
 #[no_mangle]

@@ -63,14 +63,16 @@ module _ (form sheet : List ℕ) (ni : ℕ) (ei : 1792 ≡ ni) where
   pub run-told :
       (na : ℕ)
       → 8240 ≡ na
-      → (answer : RunAnswer) (items answers : List ℕ)
-      → runAnswer (Run.run form sheet ni na) ≡ ended answer items answers
+      → (nl : ℕ)
+      → 192 ≡ nl
+      → (answer : RunAnswer) (items answers list : List ℕ)
+      → runAnswer (Run.run form sheet ni na nl) ≡ ended answer items answers list
       → (b words : List ℕ)
       → AnswerAt b (answer .number ∷ answer .place ∷ answer .tries ∷ answer .words ∷ 0 ∷ 0 ∷ 0 ∷ []) (answer .state)
       → Stands words 0 answers
       → WholeRunTold form sheet b words
-  run-told na ea answer items answers says b words same written =
-      record { answer = answer; items = items; answers = answers; says = rw (ei, ea) says; same = same; written = written }
+  run-told na ea nl el answer items answers list says b words same written =
+      record { answer = answer; items = items; answers = answers; list = list; says = rw (ei, ea, el) says; same = same; written = written }
 
   module _ (split : SplitAnswer) (items : List ℕ) (splits : callSplit form sheet ni ≡ ok (splittingOf split items)) (b words : List ℕ) where
     pub split-told : AnswerAt b (split .number ∷ split .place ∷ 0 ∷ 0 ∷ 0 ∷ 0 ∷ 0 ∷ []) (split .state) → Stands words 0 items → SplitTold form sheet b words

@@ -40,9 +40,12 @@ pub record GetTold (sheet items : List ℕ) (s : State) (m : ℕ) (b words : Lis
 pub record EvalTold (form sheet items : List ℕ) (s : State) (m : ℕ) (b words : List ℕ) : Type 0 where
   pub before : List ℕ
   pub long : 8240 ≡ length before
+  pub unlisted : List ℕ
+  pub wide : 192 ≡ length unlisted
   pub answer : RunAnswer
   pub answers : List ℕ
-  pub says : evaluatedAnswer (callEval form sheet items before s m) ≡ some (record { answer = answer; answers = answers })
+  pub list : List ℕ
+  pub says : evaluatedAnswer (callEval form sheet items before unlisted s m) ≡ some (record { answer = answer; answers = answers; list = list })
   pub same : AnswerAt b (answer .number ∷ answer .place ∷ answer .tries ∷ answer .words ∷ 0 ∷ 0 ∷ 0 ∷ []) (answer .state)
   pub written : Stands words 0 answers
 

@@ -50,7 +50,8 @@ pub record WholeRunTold (form sheet b words : List ℕ) : Type 0 where
   pub answer : RunAnswer
   pub items : List ℕ
   pub answers : List ℕ
-  pub says : runAnswer (Run.run form sheet 1792 8240) ≡ ended answer items answers
+  pub list : List ℕ
+  pub says : runAnswer (Run.run form sheet 1792 8240 192) ≡ ended answer items answers list
   pub same : AnswerAt b (answer .number ∷ answer .place ∷ answer .tries ∷ answer .words ∷ 0 ∷ 0 ∷ 0 ∷ []) (answer .state)
   pub written : Stands words 0 answers
 

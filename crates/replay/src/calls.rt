@@ -52,7 +52,8 @@ fn eval(
     ensures { λ r. ⌜ (r ≡ true → EvalTold (now (form .entry)) (now (sheet .entry)) (now (items .entry)) s node (now (numbers .entry)) (now (words .entry))) ⌝ }
 {
     let mut answers = cases::answer_slice();
-    let ran = call_node::eval(form, sheet, items, &mut answers, s, node);
+    let mut list = cases::list_slice();
+    let ran = call_node::eval(form, sheet, items, &mut answers, &mut list, s, node);
     let left = ran.state;
     let told = [ran.number, ran.place, ran.tries, ran.words, 0, 0, 0];
     if !words::answer_same(numbers, told, left) {

@@ -7,6 +7,7 @@ ghost use Rattle.replay.specs.Cases.{utf8Words, checkWords, SplitTold, W
 use crate::calls;
 use crate::words;
 use crate::words::Head;
+use eval_missing::MISSING_WORDS;
 use run_fields::ANSWER_WORDS;
 use split_arg::ITEM_WORDS;
 use utf8::Decoded;
@@ -22,6 +23,12 @@ pub fn answer_slice() -> [u32; ANSWER_WORDS]
     ensures { λ r. ⌜ 8240 ≡ length r ⌝ }
 {
     [0xffff_ffff; ANSWER_WORDS]
+}
+
+pub fn list_slice() -> [u32; MISSING_WORDS]
+    ensures { λ r. ⌜ 192 ≡ length r ⌝ }
+{
+    [0xffff_ffff; MISSING_WORDS]
 }
 
 fn flag(yes: bool) -> u32
@@ -78,7 +85,8 @@ fn run(form: &[u8], sheet: &[u8], numbers: &[u8], words: &[u8]) -> bool
 {
     let mut items = item_slice();
     let mut answers = answer_slice();
-    let ran = run::run(form, sheet, &mut items, &mut answers);
+    let mut list = list_slice();
+    let ran = run::run(form, sheet, &mut items, &mut answers, &mut list);
     let s = ran.state;
     let told = [ran.number, ran.place, ran.tries, ran.words, 0, 0, 0];
     if !words::answer_same(numbers, told, s) {

@@ -62,16 +62,16 @@ module _ (s c : List ℕ) (h : 33284 < length s) where
       go true e = (too-many (s ++ c) long (ap (ltb 256) same ∙ e) ∙ sym (too-many s h e), omega (arith, too-many s h e))
       go false e = (too-long (s ++ c) long (ap (ltb 256) same ∙ e) ∙ sym (too-long s h e), omega (arith, too-long s h e))
 
-  run-behind : (b : List ℕ) (ni na : ℕ) → run b (s ++ c) ni na ≡ run b s ni na
-  run-behind b ni na = go (checkForm b) refl
+  run-behind : (b : List ℕ) (ni na nl : ℕ) → run b (s ++ c) ni na nl ≡ run b s ni na nl
+  run-behind b ni na nl = go (checkForm b) refl
     where
-      go : (o : Checked Accepted) → checkForm b ≡ o → run b (s ++ c) ni na ≡ run b s ni na
-      go (refusedAt n k) e = run-form b (s ++ c) ni n k e na ∙ sym (run-form b s ni n k e na)
+      go : (o : Checked Accepted) → checkForm b ≡ o → run b (s ++ c) ni na nl ≡ run b s ni na nl
+      go (refusedAt n k) e = run-form b (s ++ c) ni n k e na nl ∙ sym (run-form b s ni n k e na nl)
       go (accepted a) e =
           let (same, more) = sheet-behind in
-          run-sheet b (s ++ c) ni a e (λ z. omega arith) na
-          ∙ ap (λ (n : ℕ). ok (refusedInput ni na n none)) same
-          ∙ sym (run-sheet b s ni a e (λ z. omega arith) na)
+          run-sheet b (s ++ c) ni a e (λ z. omega arith) na nl
+          ∙ ap (λ (n : ℕ). ok (refusedInput ni na nl n none)) same
+          ∙ sym (run-sheet b s ni a e (λ z. omega arith) na nl)
 
 -- ---- the form
 module _ (b c : List ℕ) (h : 8 ≤ length b) where
@@ -105,7 +105,7 @@ unfolding formLength areaAt namesAt nodesAt
 form-most b e = let (nodes, fields, names, area) = counts-limits b e in omega arith
 
 -- counts out of limits: all form, and 1
-counts-bad : (b : List ℕ) → countsGood b ≡ false → bench b ≡ ok (benchText (refusedInput 1792 8240 1 none))
+counts-bad : (b : List ℕ) → countsGood b ≡ false → bench b ≡ ok (benchText (refusedInput 1792 8240 192 1 none))
 unfolding bench run formEnd checkForm lengthGood if_then_else_ _>>=_ inputIn formIn
 counts-bad b e = rw (e, take-length b, run, e)
 
@@ -124,7 +124,7 @@ module _ (b c : List ℕ) (h : length b ≡ 39213) where
         le-leb k (length (b ++ c)) (omega (arith, most, h, length-append b c)),
         take-append-le k b c (omega arith),
         drop-append-le k b c (omega arith),
-        run-behind (drop k b) c (omega arith) (take k b) 1792 8240,
+        run-behind (drop k b) c (omega arith) (take k b) 1792 8240 192,
       )
 
   -- what stands behind the first 39,213 bytes changes nothing

@@ -8,13 +8,13 @@ use mathlib.Core.Path.{_≡_, refl, sym, ap, _∙_}
 use Prim.Native.Nat.{ℕ, zero, suc, _+_, _-_, _≤_, _<_}
 use native.Mathlib.Nat.{eq-or-lt-of-le}
 use native.Mathlib.Omega.{arith}
-use borrow.Author.Tests.{leb-true, ltb-true, ltb-false, le-ltb, le-leb, eq-eqb, eqb-true, eqb-false}
+use borrow.Author.Tests.{leb-true, ltb-true, ltb-false, le-ltb, le-leb, eq-eqb, ne-eqb, eqb-true, eqb-false}
 use lib.Dec.{leb, ltb, eqb}
 use lib.ListN.{length, getElem?, take, drop, length-reverse}
 use lib.Seq.{length-take-le}
 use Rattle.utf8.specs.Utf8.{if_then_else_}
 use Rattle.rules.specs.Base.{null, all, contains, numbers, minus, slice, sliceFrom, _>>?_}
-use Rattle.rules.specs.Outcome.{Outcome, ok, refused, fault, _>>=_, at, Refusal, refuse}
+use Rattle.rules.specs.Outcome.{Outcome, ok, refused, fault, _>>=_, at, Refusal, refuse, isMissing}
 use Rattle.rules.specs.Value.{Kind, Value, words}
 use Rattle.rules.specs.Eval.{Ran, eval}
 use Rattle.rules.specs.Sheet.{sheetFault, sheetArea}
@@ -25,7 +25,7 @@ use Rattle.rules.specs.Split.{Item, Short, Long, ArgWord, Word, PosWord}
 use Rattle.rules.specs.State.{State, Scope, Found, position, matchShort, matchLong, sameName, before, onlyOnce, parsed, stateGood, emptyState, first, conflict, remove, setScope}
 use Rattle.rules.specs.State.{adjacentScope}
 use Rattle.rules.specs.Take.{Took, took, Operand, isCommand, takeCommand, takeArg, takePositionalWord, takeCmd}
-use Rattle.rules.specs.Given.{roomIn}
+use Rattle.rules.specs.Given.{roomIn, listRoomIn}
 use Rattle.rules.specs.Run.{Line, parsedMark, padded, split}
 use Rattle.rules.specs.Calls.{callRemove, callPickWinner, callSaveConflicts, callSetScope, callAdjacentScope, callAvailableFrom, onItems, callGet, callConflict, operandOr20}
 use Rattle.rules.specs.Calls.{callTakePositional, callOnlyOnce, onForm, keyOf, flagNames, argumentKey, commandName, callMatches, callTakeFlag, callTakeArg, callTakeCmd, callKind}
@@ -43,7 +43,8 @@ use Rattle.rules.proofs.EvalSound.{eval-sound}
 use Rattle.rules.proofs.Acceptance.{All-at, accepted-form, accepted-trees-sound}
 use Rattle.rules.proofs.WellMadeLaws.{well-made, check-fault, check-numbers}
 use Rattle.rules.proofs.SheetLaws.{sheet-made, sheet-fault}
-use Rattle.rules.proofs.InputFaults.{padded-nil, fault-small, cleared-left, bind-ok, line-fault, line-left}
+use Rattle.rules.proofs.InputFaults.{padded-nil, no-entries-listed, fault-small, cleared-left, bind-ok, line-fault, line-left}
+use Rattle.rules.proofs.MissingLaws.{missing-told}
 use Rattle.rules.proofs.SplitLaws.{ok-injective, some≢none, split-line}
 
 -- ---- numbers
@@ -140,6 +141,10 @@ sheet-answers s = go (eqb (sheetFault s) 0) refl
 slice-answers : (n : ℕ) (l : List ℕ) → Answers (7 ∷ []) (sliceIn n l)
 unfolding sliceIn roomIn all contains
 slice-answers n l = bind-answers (roomIn n (length l)) _ (if-answers 7 (leb n (length l)) (length l)) refl (λ _ _. answers l)
+
+list-answers : (n : ℕ) → Answers (14 ∷ []) (listRoomIn n)
+unfolding listRoomIn
+list-answers n = if-answers 14 (leb 192 n) n
 
 items-answers : (area l : List ℕ) → Answers (30 ∷ []) (itemsIn area l)
 unfolding itemsIn
@@ -463,7 +468,7 @@ portable-called form = bind-answers (formIn form) _ (form-answers form) refl (λ
 -- ---- `eval` of a node
 -- before the evaluation, and of the evaluation
 abbrev early : List ℕ
-early = 1 ∷ 2 ∷ 3 ∷ 4 ∷ 6 ∷ 5 ∷ 7 ∷ 30 ∷ 29 ∷ 28 ∷ []
+early = 1 ∷ 2 ∷ 3 ∷ 4 ∷ 6 ∷ 5 ∷ 7 ∷ 14 ∷ 30 ∷ 29 ∷ 28 ∷ []
 
 abbrev late : List ℕ
 late = 20 ∷ 21 ∷ 22 ∷ 23 ∷ 24 ∷ 25 ∷ 26 ∷ []
@@ -487,59 +492,78 @@ ends-answers m k (ok v) h = answers v
 ends-answers m k (refused e) h = refuses e (numbers-contain 7 20 (e .number) (h .0) (omega (arith, h .1)))
 ends-answers m k (fault x) h = absurd h
 
-module _ (form sheet slice buffer : List ℕ) (x : Raw) (k : ℕ) where
-  eval-in : Answers early (evalIn form sheet slice buffer x k)
+module _ (form sheet slice buffer list : List ℕ) (x : Raw) (k : ℕ) where
+  eval-in : Answers early (evalIn form sheet slice buffer list x k)
   unfolding evalIn all contains
   eval-in =
       bind-answers (formIn form) _ (form-answers form) refl
       (λ a _. bind-answers (sheetIn sheet) _ (sheet-answers sheet) refl
       (λ area _. bind-answers (sliceIn 1792 slice) _ (slice-answers 1792 slice) refl
       (λ l _. bind-answers (sliceIn 8240 buffer) _ (slice-answers 8240 buffer) refl
+      (λ _ _. bind-answers (listRoomIn (length list)) _ (list-answers (length list)) refl
       (λ _ _. bind-answers (itemsIn area l) _ (items-answers area l) refl
       (λ is _. bind-answers (stateIn (length is) x) _ (state-answers (length is) x) refl
-      (λ s _. bind-answers (asked (getElem? (a .trees) k)) _ (asked-answers _) refl (λ t _. answers _)))))))
+      (λ s _. bind-answers (asked (getElem? (a .trees) k)) _ (asked-answers _) refl (λ t _. answers _))))))))
 
-  eval-ended : (r : Ran Value) → evalIn form sheet slice buffer x k ≡ ok r → Answers late (r .outcome)
+  -- how the evaluation ended, and that only 20 has entries
+  eval-ended :
+      (r : Ran Value)
+      → evalIn form sheet slice buffer list x k ≡ ok r
+      → Answers late (r .outcome) × ((e : Refusal) → r .outcome ≡ refused e → isMissing e ≡ false → e .missing ≡ [])
   unfolding evalIn parsedMark parsed
   eval-ended r e =
       let (a, p, e₁) = bind-ok (formIn form) _ r e in
       let (area, q, e₂) = bind-ok (sheetIn sheet) _ r e₁ in
       let (l, u, e₃) = bind-ok (sliceIn 1792 slice) _ r e₂ in
       let (m, v, e₄) = bind-ok (sliceIn 8240 buffer) _ r e₃ in
-      let (is, w, e₅) = bind-ok (itemsIn area l) _ r e₄ in
-      let (s, h, e₆) = bind-ok (stateIn (length is) x) _ r e₅ in
-      let (t, g, e₇) = bind-ok (asked (getElem? (a .trees) k)) _ r e₆ in
+      let (n, y, e₅) = bind-ok (listRoomIn (length list)) _ r e₄ in
+      let (is, w, e₆) = bind-ok (itemsIn area l) _ r e₅ in
+      let (s, h, e₇) = bind-ok (stateIn (length is) x) _ r e₆ in
+      let (t, g, e₈) = bind-ok (asked (getElem? (a .trees) k)) _ r e₇ in
       let z = All-at Sound (a .trees) k t (accepted-trees-sound form a (form-checked form a p)) (asked-some _ t g) in
       let ends = eval-sound 1 refl is t z s (state-good (length is) x s h) .ends in
-      rw (ok-injective e₇) at (ends-answers (s .remaining + 1) (kindOf t) (eval 1 is t s .outcome) ends)
+      let same = ok-injective e₈ in (
+        rw same at (ends-answers (s .remaining + 1) (kindOf t) (eval 1 is t s .outcome) ends),
+        λ d q. missing-told .lacks 1 is t s d (ap (λ (u : Ran Value). u .outcome) same ∙ q) .only,
+      )
 
-  evaluated-is : (r : Ran Value) (o : Outcome Value) → r .outcome ≡ o → Answers late o → EvalAnswers x buffer (evaluated (length buffer) r)
-  unfolding evaluated evaluatedWith
-  evaluated-is r o e (answers v) = record {
-    evaluated = evaluatedWith (length buffer) r 0 none (words v);
+  evaluated-is :
+      (r : Ran Value) (o : Outcome Value)
+      → r .outcome ≡ o
+      → Answers late o
+      → ((e : Refusal) → o ≡ refused e → isMissing e ≡ false → e .missing ≡ [])
+      → EvalAnswers x buffer list (evaluated (length buffer) (length list) r)
+  unfolding evaluated evaluatedWith isMissing
+  evaluated-is r o e (answers v) only = record {
+    evaluated = evaluatedWith (length buffer) (length list) r 0 none (words v) [];
     answered = rw (e, evaluated);
-    number = inl refl;
+    number = inl (refl, no-entries-listed (length list) [] refl);
   }
-  evaluated-is r o e (refuses y n) = record {
-    evaluated = evaluatedWith (length buffer) r (y .number) (y .place) [];
+  evaluated-is r o e (refuses y n) only = record {
+    evaluated = evaluatedWith (length buffer) (length list) r (y .number) (y .place) [] (y .missing);
     answered = rw (e, evaluated);
-    number = inr (inl (n, refl, padded-nil (length buffer)));
+    number = inr (inl (
+      n,
+      refl,
+      padded-nil (length buffer),
+      λ h. no-entries-listed (length list) (y .missing) (only y refl (ne-eqb (y .number) 20 h)),
+    ));
   }
 
-  eval-called : EvalAnswers x buffer (callEval form sheet slice buffer x k)
+  eval-called : EvalAnswers x buffer list (callEval form sheet slice buffer list x k)
   unfolding callEval unchanged
-  eval-called = go (evalIn form sheet slice buffer x k) refl eval-in
+  eval-called = go (evalIn form sheet slice buffer list x k) refl eval-in
     where
       go :
           (o : Outcome (Ran Value))
-          → evalIn form sheet slice buffer x k ≡ o
+          → evalIn form sheet slice buffer list x k ≡ o
           → Answers early o
-          → EvalAnswers x buffer (callEval form sheet slice buffer x k)
-      go o e (answers r) = rw (e, callEval) (evaluated-is r (r .outcome) refl (eval-ended r e))
+          → EvalAnswers x buffer list (callEval form sheet slice buffer list x k)
+      go o e (answers r) = rw (e, callEval) (evaluated-is r (r .outcome) refl (eval-ended r e .0) (eval-ended r e .1))
       go o e (refuses y n) = record {
-        evaluated = unchanged x buffer y;
+        evaluated = unchanged x buffer list y;
         answered = rw (e, callEval);
-        number = inr (inr (n, refl, refl, refl, refl));
+        number = inr (inr (n, refl, refl, refl, refl, refl));
       }
 
 -- ---- `split`
@@ -547,8 +571,8 @@ module _ (form sheet : List ℕ) (n : ℕ) where
   -- 1 to 7
   split-refused :
       (m : ℕ) (k : Option ℕ)
-      → AtFault form sheet n 8240 m k
-      → m ≤ 8
+      → AtFault form sheet n 8240 192 m k
+      → (m ≡ 9 → ⊥)
       → callSplit form sheet n ≡ ok (splitRefused n m k)
       → SplitsLine form sheet n (callSplit form sheet n)
   unfolding splitRefused
@@ -578,7 +602,7 @@ module _ (form sheet : List ℕ) (n : ℕ) where
         Ends : Option Refusal → Type 0
         Ends o =
             (_≡_ {A = ℕ} (elim o [ none ↦ 0 | some e ↦ e .number ]) 0)
-            ⊎ (AtFault form sheet n 8240 (elim o [ none ↦ 0 | some e ↦ e .number ]) (elim o [ none ↦ none | some e ↦ e .place ])
+            ⊎ (AtFault form sheet n 8240 192 (elim o [ none ↦ 0 | some e ↦ e .number ]) (elim o [ none ↦ none | some e ↦ e .place ])
             × ItemsLeft form sheet n (elim o [ none ↦ 0 | some e ↦ e .number ]) (padded n (l .records)) (l .state))
 
         go : (o : Option Refusal) → l .refusal ≡ o → Ends o
@@ -586,7 +610,7 @@ module _ (form sheet : List ℕ) (n : ℕ) where
         go (some r) u =
             let splits = sym form-made ∙ e in
             inr (
-              line-fault form sheet l r u splits n 8240 (well-made form a accepts) (sheet-made sheet z) long (omega arith),
+              line-fault form sheet l r u splits n 8240 192 (well-made form a accepts) (sheet-made sheet z) long (omega arith) (omega arith),
               line-left form sheet l r u splits n,
             )
 
@@ -595,7 +619,7 @@ module _ (form sheet : List ℕ) (n : ℕ) where
       where
         sliced : sheetFault sheet ≡ 0 → (t : Bool) → ltb n 1792 ≡ t → SplitsLine form sheet n (callSplit form sheet n)
         sliced z true e =
-            split-refused 7 none (shortSlice (well-made form a accepts) (sheet-made sheet z) (inl (ltb-true n 1792 e))) (omega arith)
+            split-refused 7 none (shortSlice (well-made form a accepts) (sheet-made sheet z) (inl (ltb-true n 1792 e))) (λ x. omega arith)
             (split-short form sheet n a accepts z (ltb-true n 1792 e))
         sliced z false e = let (l, h) = split-line (a .form) sheet in line-split l z (ltb-false n 1792 e) h
 
@@ -614,7 +638,7 @@ module _ (form sheet : List ℕ) (n : ℕ) where
       go (accepted a) e = accepted-split a e
       go (refusedAt m k) e =
           let few = check-numbers form m k e .1 in
-          split-refused m k (badForm m k (check-fault form m k e)) (omega arith) (split-form form sheet n m k e)
+          split-refused m k (badForm m k (check-fault form m k e)) (λ x. omega arith) (split-form form sheet n m k e)
 
 -- ---- every single call
 pub calls-answered : CallsAnswered

@@ -62,9 +62,9 @@ module _ (b s : List ℕ) (a : Accepted) (form : checkForm b ≡ accepted a) whe
         rw unrefused (all-means 1 refl (l .items) M means (a .fields) sound fallbacks (l .state) (line-good a s l splits unrefused .good))
 
     -- what is reported is this run's
-    run-reported : (ni na : ℕ) → sheetFault s ≡ 0 → 1792 ≤ ni → 8240 ≤ na → run b s ni na ≡ report ni na l (runLine (a .fields) l)
+    run-reported : (ni na nl : ℕ) → sheetFault s ≡ 0 → 1792 ≤ ni → 8240 ≤ na → 192 ≤ nl → run b s ni na nl ≡ report ni na nl l (runLine (a .fields) l)
     unfolding _>>=_
-    run-reported ni na sheet i o = run-goes b s ni a form sheet i na o ∙ rw splits
+    run-reported ni na nl sheet i o k = run-goes b s ni a form sheet i na nl o k ∙ rw splits
 
     pub whole-run : Bytes b → sheetFault s ≡ 0 → WholeRun M b s a l
     whole-run bytes sheet =
@@ -77,7 +77,7 @@ module _ (b s : List ℕ) (a : Accepted) (form : checkForm b ≡ accepted a) whe
           counted = visits-counted M (length (l .items)) trace (r .passed);
           remaining = left;
           tries = rw (← left, ← leaves-law b a form) (r .cost);
-          reported = λ ni na i o. run-reported ni na sheet i o;
+          reported = λ ni na nl i o k. run-reported ni na nl sheet i o k;
           values = words-fix (l .items) (a .form .names) few (a .fields);
         }
 

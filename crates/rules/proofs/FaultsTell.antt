@@ -22,7 +22,7 @@ use Rattle.rules.specs.Eval.{ended}
 use Rattle.rules.specs.Run.{Line, tooMany, lineOf, refusedInput, Report, report, reportWith, split, runLine, run}
 use Rattle.rules.specs.Demands.{All}
 use Rattle.rules.specs.WellMade.{NameMade, NodesMade, CountsMade, WellMade, SheetMade}
-use Rattle.rules.specs.Answered.{FormFault, badCounts, badName, badNode, badField, badUse, SheetFault, manyArguments, badSheet, Splits, AtFault, badForm, sheetAtFault, shortSlice}
+use Rattle.rules.specs.Answered.{FormFault, badCounts, badName, badNode, badField, badUse, SheetFault, manyArguments, badSheet, Splits, AtFault, badForm, sheetAtFault, shortSlice, shortList}
 use Rattle.rules.specs.Answered.{manyItems, ambiguousLetter}
 use Rattle.rules.proofs.Acceptance.{All-at, good-no-fault, no-fault, numbers-all, if-true, if-false, lookup-inside, accepted-form}
 use Rattle.rules.proofs.Uses.{used-once}
@@ -30,7 +30,7 @@ use Rattle.rules.proofs.WellMadeLaws.{length-counts, counts-length, nam
 use Rattle.rules.proofs.WellMadeLaws.{trees-refused, lower-made, next-not-made, made-accepted}
 use Rattle.rules.proofs.SheetLaws.{sheet-made, made-sheet}
 use Rattle.rules.proofs.InputFaults.{stopped, few-line}
-use Rattle.rules.proofs.GivenLaws.{run-form, run-sheet, run-short, run-cramped, run-goes}
+use Rattle.rules.proofs.GivenLaws.{run-form, run-sheet, run-short, run-cramped, run-unlisted, run-goes}
 use Rattle.rules.proofs.SplitLaws.{ok-injective}
 
 -- ---- the form
@@ -193,46 +193,50 @@ fault-sheet s n (badSheet bad few) = (short (ltb (length s) 2) refl, omega arith
 
 -- ---- the run
 -- how it is refused
-record Refused (b s : List ℕ) (ni na n : ℕ) (k : Option ℕ) : Type 0 where
+record Refused (b s : List ℕ) (ni na nl n : ℕ) (k : Option ℕ) : Type 0 where
   report : Report
-  answered : run b s ni na ≡ ok report
+  answered : run b s ni na nl ≡ ok report
   number : report .number ≡ n
   place : report .place ≡ k
 
-module _ (b s : List ℕ) (ni na : ℕ) where
-  input-told : (n : ℕ) (k : Option ℕ) → run b s ni na ≡ ok (refusedInput ni na n k) → Refused b s ni na n k
+module _ (b s : List ℕ) (ni na nl : ℕ) where
+  input-told : (n : ℕ) (k : Option ℕ) → run b s ni na nl ≡ ok (refusedInput ni na nl n k) → Refused b s ni na nl n k
   unfolding refusedInput
-  input-told n k e = record { report = refusedInput ni na n k; answered = e; number = refl; place = refl }
+  input-told n k e = record { report = refusedInput ni na nl n k; answered = e; number = refl; place = refl }
 
   module _ (a : Accepted) (form : checkForm b ≡ accepted a) where
-    sheet-told : (n : ℕ) → SheetFault s n → Refused b s ni na n none
+    sheet-told : (n : ℕ) → SheetFault s n → Refused b s ni na nl n none
     sheet-told n x =
         let (e, h) = fault-sheet s n x in
-        input-told n none (run-sheet b s ni a form (λ z. omega arith) na ∙ ap (λ (m : ℕ). ok (refusedInput ni na m none)) e)
+        input-told n none (run-sheet b s ni a form (λ z. omega arith) na nl ∙ ap (λ (m : ℕ). ok (refusedInput ni na nl m none)) e)
 
     module _ (sheet : SheetMade s) where
-      items-told : ni < 1792 → Refused b s ni na 7 none
-      items-told h = input-told 7 none (run-short b s ni a form (made-sheet s sheet) h na)
+      items-told : ni < 1792 → Refused b s ni na nl 7 none
+      items-told h = input-told 7 none (run-short b s ni a form (made-sheet s sheet) h na nl)
 
-      slice-told : (ni < 1792) ⊎ (na < 8240) → Refused b s ni na 7 none
+      slice-told : (ni < 1792) ⊎ (na < 8240) → Refused b s ni na nl 7 none
       slice-told (inl h) = items-told h
       slice-told (inr h) = go (ltb ni 1792) refl
         where
-          go : (t : Bool) → ltb ni 1792 ≡ t → Refused b s ni na 7 none
+          go : (t : Bool) → ltb ni 1792 ≡ t → Refused b s ni na nl 7 none
           go true e = items-told (ltb-true ni 1792 e)
-          go false e = input-told 7 none (run-cramped b s ni a form (made-sheet s sheet) (ltb-false ni 1792 e) na h)
+          go false e = input-told 7 none (run-cramped b s ni a form (made-sheet s sheet) (ltb-false ni 1792 e) na nl h)
+
+      list-told : 1792 ≤ ni → 8240 ≤ na → nl < 192 → Refused b s ni na nl 14 none
+      list-told items answers h = input-told 14 none (run-unlisted b s ni a form (made-sheet s sheet) items na nl answers h)
 
       line-told :
           (l : Line) (e : Refusal)
           → 1792 ≤ ni
           → 8240 ≤ na
+          → 192 ≤ nl
           → split (readForm b) s ≡ ok l
           → l .refusal ≡ some e
-          → Refused b s ni na (e .number) (e .place)
+          → Refused b s ni na nl (e .number) (e .place)
       unfolding report reportWith runLine ended _>>=_
-      line-told l e items answers h u = record {
-        report = reportWith ni na l (ended (refused e) (l .state)) (e .number) (e .place) [];
-        answered = run-goes b s ni a form (made-sheet s sheet) items na answers ∙ rw (accepted-form b a form, h, u, runLine);
+      line-told l e items answers list h u = record {
+        report = reportWith ni na nl l (ended (refused e) (l .state)) (e .number) (e .place) [] (e .missing);
+        answered = run-goes b s ni a form (made-sheet s sheet) items na nl answers list ∙ rw (accepted-form b a form, h, u, runLine);
         number = refl;
         place = refl;
       }
@@ -251,26 +255,29 @@ few-split :
 unfolding split _>>=_
 few-split b s x i h few a = rw h (few-line b s x i h few a)
 
-faults-told : (b s : List ℕ) (ni na n : ℕ) (k : Option ℕ) → AtFault b s ni na n k → Refused b s ni na n k
+faults-told : (b s : List ℕ) (ni na nl n : ℕ) (k : Option ℕ) → AtFault b s ni na nl n k → Refused b s ni na nl n k
 unfolding tooMany
-faults-told b s ni na n k (badForm m j x) = input-told b s ni na m j (run-form b s ni m j (fault-checked b m j x) na)
-faults-told b s ni na n k (sheetAtFault m w x) = let (a, e) = made-accepted b w in sheet-told b s ni na a e m x
-faults-told b s ni na n k (shortSlice w sheet h) = let (a, e) = made-accepted b w in slice-told b s ni na a e sheet h
-faults-told b s ni na n k (manyItems x w sheet items answers h many) =
+faults-told b s ni na nl n k (badForm m j x) = input-told b s ni na nl m j (run-form b s ni m j (fault-checked b m j x) na nl)
+faults-told b s ni na nl n k (sheetAtFault m w x) = let (a, e) = made-accepted b w in sheet-told b s ni na nl a e m x
+faults-told b s ni na nl n k (shortSlice w sheet h) = let (a, e) = made-accepted b w in slice-told b s ni na nl a e sheet h
+faults-told b s ni na nl n k (shortList w sheet items answers h) =
     let (a, e) = made-accepted b w in
-    line-told b s ni na a e sheet tooMany (refuse 8 none) items answers (many-split b s x h many) refl
-faults-told b s ni na n k (ambiguousLetter x i w sheet items answers h few u) =
+    list-told b s ni na nl a e sheet items answers h
+faults-told b s ni na nl n k (manyItems x w sheet items answers list h many) =
     let (a, e) = made-accepted b w in
-    line-told b s ni na a e sheet (stopped s x i) (refuse 9 (some i)) items answers (few-split b s x i h few u) refl
+    line-told b s ni na nl a e sheet tooMany (refuse 8 none) items answers list (many-split b s x h many) refl
+faults-told b s ni na nl n k (ambiguousLetter x i w sheet items answers list h few u) =
+    let (a, e) = made-accepted b w in
+    line-told b s ni na nl a e sheet (stopped s x i) (refuse 9 (some i)) items answers list (few-split b s x i h few u) refl
 
 -- what is at fault is the number and the place that is reported
 pub fault-told :
-    (b s : List ℕ) (ni na : ℕ) (r : Report)
-    → run b s ni na ≡ ok r
+    (b s : List ℕ) (ni na nl : ℕ) (r : Report)
+    → run b s ni na nl ≡ ok r
     → (n : ℕ) (k : Option ℕ)
-    → AtFault b s ni na n k
+    → AtFault b s ni na nl n k
     → (r .number ≡ n) × (r .place ≡ k)
-fault-told b s ni na r e n k x =
-    let t = faults-told b s ni na n k x in
+fault-told b s ni na nl r e n k x =
+    let t = faults-told b s ni na nl n k x in
     let same = ok-injective (sym e ∙ t .answered) in
     (ap (λ (r : Report). r .number) same ∙ t .number, ap (λ (r : Report). r .place) same ∙ t .place)

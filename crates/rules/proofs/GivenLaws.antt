@@ -12,7 +12,7 @@ use Rattle.rules.specs.Outcome.{Outcome, ok, refused, _>>=_, refuse}
 use Rattle.rules.specs.Sheet.{sheetFault}
 use Rattle.rules.specs.Accept.{Checked, accepted, refusedAt, Accepted, lengthGood, checkForm}
 use Rattle.rules.specs.Codes.{checkCode}
-use Rattle.rules.specs.Given.{formIn, sheetIn, roomIn, inputIn}
+use Rattle.rules.specs.Given.{formIn, sheetIn, roomIn, listRoomIn, inputIn}
 use Rattle.rules.specs.Run.{split, runLine, refusedInput, report, run}
 use Rattle.rules.specs.Calls.{splitRefused, splitReport, callSplit}
 use Rattle.rules.specs.declared.Refused.{Refused}
@@ -50,9 +50,9 @@ module _ (b s : List ℕ) (ni : ℕ) where
     unfolding inputIn formIn _>>=_
     input-form = rw (form, formIn)
 
-    pub run-form : (na : ℕ) → run b s ni na ≡ ok (refusedInput ni na n k)
+    pub run-form : (na nl : ℕ) → run b s ni na nl ≡ ok (refusedInput ni na nl n k)
     unfolding run _>>=_
-    run-form na = rw (input-form, run)
+    run-form na nl = rw (input-form, run)
 
     pub split-form : callSplit b s ni ≡ ok (splitRefused ni n k)
     unfolding callSplit
@@ -65,9 +65,9 @@ module _ (b s : List ℕ) (ni : ℕ) where
       unfolding inputIn formIn sheetIn _>>=_ if_then_else_
       input-sheet = rw (form, formIn, ne-eqb (sheetFault s) 0 sheet)
 
-      pub run-sheet : (na : ℕ) → run b s ni na ≡ ok (refusedInput ni na (sheetFault s) none)
+      pub run-sheet : (na nl : ℕ) → run b s ni na nl ≡ ok (refusedInput ni na nl (sheetFault s) none)
       unfolding run _>>=_
-      run-sheet na = rw (input-sheet, run)
+      run-sheet na nl = rw (input-sheet, run)
 
       pub split-sheet : callSplit b s ni ≡ ok (splitRefused ni (sheetFault s) none)
       unfolding callSplit
@@ -80,9 +80,9 @@ module _ (b s : List ℕ) (ni : ℕ) where
         unfolding inputIn formIn sheetIn roomIn _>>=_ if_then_else_
         input-short = rw (form, formIn, eq-eqb (sheetFault s) 0 sheet, lt-leb 1792 ni short)
 
-        pub run-short : (na : ℕ) → run b s ni na ≡ ok (refusedInput ni na 7 none)
+        pub run-short : (na nl : ℕ) → run b s ni na nl ≡ ok (refusedInput ni na nl 7 none)
         unfolding run _>>=_
-        run-short na = rw (input-short, run)
+        run-short na nl = rw (input-short, run)
 
         pub split-short : callSplit b s ni ≡ ok (splitRefused ni 7 none)
         unfolding callSplit
@@ -97,10 +97,19 @@ module _ (b s : List ℕ) (ni : ℕ) where
         unfolding callSplit
         split-goes = rw (input-good, callSplit)
 
-        pub run-cramped : (na : ℕ) → na < 8240 → run b s ni na ≡ ok (refusedInput ni na 7 none)
+        pub run-cramped : (na nl : ℕ) → na < 8240 → run b s ni na nl ≡ ok (refusedInput ni na nl 7 none)
         unfolding run roomIn _>>=_ if_then_else_
-        run-cramped na h = rw (input-good, run, lt-leb 8240 na h)
+        run-cramped na nl h = rw (input-good, run, lt-leb 8240 na h)
 
-        pub run-goes : (na : ℕ) → 8240 ≤ na → run b s ni na ≡ (split (a .form) s >>= λ l. report ni na l (runLine (a .fields) l))
-        unfolding run roomIn _>>=_ if_then_else_
-        run-goes na h = rw (input-good, run, le-leb 8240 na h)
+        -- 14
+        pub run-unlisted : (na nl : ℕ) → 8240 ≤ na → nl < 192 → run b s ni na nl ≡ ok (refusedInput ni na nl 14 none)
+        unfolding run roomIn listRoomIn _>>=_ if_then_else_
+        run-unlisted na nl h k = rw (input-good, run, le-leb 8240 na h, lt-leb 192 nl k)
+
+        pub run-goes :
+            (na nl : ℕ)
+            → 8240 ≤ na
+            → 192 ≤ nl
+            → run b s ni na nl ≡ (split (a .form) s >>= λ l. report ni na nl l (runLine (a .fields) l))
+        unfolding run roomIn listRoomIn _>>=_ if_then_else_
+        run-goes na nl h k = rw (input-good, run, le-leb 8240 na h, le-leb 192 nl k)

@@ -1,16 +1,17 @@
 -- Refused because of the input, a run and a call of `split` alike: what is at fault, and what item slice and state hold.
 use mathlib.Core.Bool.{Bool, true, false}
-use mathlib.Core.List.{List, []}
+use mathlib.Core.List.{List, [], _∷_}
 use mathlib.Core.Option.{Option, some, none}
 use mathlib.Core.Path.{_≡_, refl, sym, ap, _∙_}
-use Prim.Native.Nat.{ℕ, zero, suc, _≤_, _<_}
+use Prim.Native.Nat.{ℕ, zero, suc, _*_, _≤_, _<_}
 use native.Mathlib.Nat.{sub-zero}
 use native.Mathlib.Omega.{arith}
 use borrow.Author.Tests.{le-ltb, ltb-true, ltb-false}
 use lib.Dec.{ltb}
 use lib.ListN.{length, replicate, length-replicate}
 use Rattle.utf8.specs.Utf8.{if_then_else_}
-use Rattle.rules.specs.Outcome.{Outcome, ok, refused, fault, Refusal, _>>=_, refuse}
+use Rattle.rules.specs.Outcome.{Outcome, ok, refused, fault, MissingItem, entryWords, listWords, Refusal, _>>=_, refuse}
+use Rattle.rules.specs.Base.{concatMap}
 use Rattle.rules.specs.Sheet.{arguments}
 use Rattle.rules.specs.Form.{readForm}
 use Rattle.rules.specs.Accept.{accepted, Accepted, checkForm, lettersOf}
@@ -26,13 +27,22 @@ pub padded-nil : (n : ℕ) → padded n [] ≡ replicate n 0
 unfolding padded
 padded-nil n = ap (λ (k : ℕ). replicate k 0) (sub-zero n)
 
-pub fault-small : (s : List ℕ) (n : ℕ) → SheetFault s n → n ≤ 8
-fault-small s n (manyArguments c h) = omega arith
-fault-small s n (badSheet m h) = omega arith
+pub list-length : (l : List MissingItem) → length (listWords l) ≡ 3 * length l
+unfolding listWords concatMap entryWords
+list-length [] = refl
+list-length (x ∷ l) = let h = list-length l in omega arith
 
--- 1 to 7 leave nothing
-pub cleared-left : (b s : List ℕ) (ni n : ℕ) → n ≤ 8 → ItemsLeft b s ni n (padded ni []) emptyState
-cleared-left b s ni n h = record { cleared = λ _. (padded-nil ni, refl); kept = λ e. absurd (omega (arith, h, e)) }
+pub no-entries-listed : (n : ℕ) (l : List MissingItem) → l ≡ [] → padded n (listWords l) ≡ replicate n 0
+unfolding listWords concatMap
+no-entries-listed n l e = rw e (padded-nil n)
+
+pub fault-small : (s : List ℕ) (n : ℕ) → SheetFault s n → n ≡ 9 → ⊥
+fault-small s n (manyArguments c h) e = omega arith
+fault-small s n (badSheet m h) e = omega arith
+
+-- 1 to 8 and 14 leave nothing
+pub cleared-left : (b s : List ℕ) (ni n : ℕ) → (n ≡ 9 → ⊥) → ItemsLeft b s ni n (padded ni []) emptyState
+cleared-left b s ni n h = record { cleared = λ _. (padded-nil ni, refl); kept = λ e. absurd (h e) }
 
 pub bind-ok : {A B : Type 0} (o : Outcome A) (f : A → Outcome B) (b : B) → (o >>= f) ≡ ok b → (a : A) × (o ≡ ok a) × (f a ≡ ok b)
 unfolding _>>=_
@@ -102,17 +112,26 @@ module _ (b s : List ℕ) (l : Line) (e : Refusal) (refuses : l .refusal ≡ som
 
   module _ (splits : split (readForm b) s ≡ ok l) where
     -- 8 or 9, for what is at fault
-    pub line-fault : (ni na : ℕ) → WellMade b → SheetMade s → 1792 ≤ ni → 8240 ≤ na → AtFault b s ni na (e .number) (e .place)
+    pub line-fault : (ni na nl : ℕ) → WellMade b → SheetMade s → 1792 ≤ ni → 8240 ≤ na → 192 ≤ nl → AtFault b s ni na nl (e .number) (e .place)
     unfolding tooMany
-    line-fault ni na form sheet items answers = go (split-refuses splits)
+    line-fault ni na nl form sheet items answers list = go (split-refuses splits)
       where
-        go : Refuses b s l → AtFault b s ni na (e .number) (e .place)
+        go : Refuses b s l → AtFault b s ni na nl (e .number) (e .place)
         go (eight x given many same) =
             let z : e ≡ refuse 8 none = cc in
-            rw z (manyItems x form sheet items answers given many)
+            rw z (manyItems x form sheet items answers list given many)
         go (nine x i given few a same) =
             let z : e ≡ refuse 9 (some i) = cc in
-            rw z (ambiguousLetter x i form sheet items answers given few a)
+            rw z (ambiguousLetter x i form sheet items answers list given few a)
+
+    -- nothing is missing
+    pub line-plain : e .missing ≡ []
+    unfolding tooMany
+    line-plain = go (split-refuses splits)
+      where
+        go : Refuses b s l → e .missing ≡ []
+        go (eight x given many same) = let z : e ≡ refuse 8 none = cc in rw z refl
+        go (nine x i given few a same) = let z : e ≡ refuse 9 (some i) = cc in rw z refl
 
     -- 8 keeps no item, 9 keeps them unparsed
     pub line-left : (ni : ℕ) → ItemsLeft b s ni (e .number) (padded ni (l .records)) (l .state)
@@ -122,13 +141,13 @@ module _ (b s : List ℕ) (l : Line) (e : Refusal) (refuses : l .refusal ≡ som
         go : Refuses b s l → ItemsLeft b s ni (e .number) (padded ni (l .records)) (l .state)
         go (eight x given many same) =
             let z : e ≡ refuse 8 none = cc in
-            rw (z, same) (cleared-left b s ni 8 (omega arith))
+            rw (z, same) (cleared-left b s ni 8 (λ e. omega arith))
         go (nine x i given few a same) =
             let z : e ≡ refuse 9 (some i) = cc in
             let long : length {A = ℕ} (replicate (length (itemsOf x)) 0) ≡ length (itemsOf x) = length-replicate (length (itemsOf x)) 0 in
             rw (z, same)
             (record {
-              cleared = λ h. absurd (omega (arith, h));
+              cleared = λ h. absurd (h refl);
               kept = λ _. record {
                 given = x;
                 splits = given;

@@ -51,3 +51,4 @@ pub mod MissingLaws
 -- The demands
 pub mod Demand3Holds
 pub mod Demand1Holds
+pub mod MissingReported

@@ -1,7 +1,7 @@
 -- A refusal 20 leaves the state that was given, and its entries have that state's scope.
 use mathlib.Core.Bool.{Bool, true, false, not, _&&_, or-true, true≢false}
 use mathlib.Core.List.{List, [], _∷_, _++_}
-use mathlib.Core.Option.{Option, some, none}
+use mathlib.Core.Option.{Option, some, none, Option·some-injective, Option·none-ne-some}
 use mathlib.Core.Path.{_≡_, refl, sym, ap, _∙_, subst}
 use Prim.Native.Nat.{ℕ, zero, suc, _+_, _*_, _≤_}
 use native.Mathlib.Omega.{arith}
@@ -688,13 +688,14 @@ then-refused {A = A} r f e q = go (r .outcome) refl
     go (refused x) k = let same : x ≡ e = let bad = rw k at q in cc in at-once (k ∙ ap refused same) (rw k)
     go (fault x) k = absurd (let bad = rw k at q in let z : _≡_ {A = ℕ} 0 1 = cc in omega arith)
 
-few-more : (n m : ℕ) (left : State) (e : Refusal) → n ≤ m → FieldLacks n left e → FieldLacks m left e
-few-more n m left e h f = record {
-  given = f .given;
-  entries = f .entries;
-  lacks = f .lacks;
-  scopes = f .scopes;
-  few = let k = f .few in omega arith;
+-- one field before them
+later-field :
+    (mark : ℕ) (is : List Item) (t : Tree) (ts : List Tree) (left : State) (e : Refusal)
+    → FieldLacks mark is ts left e
+    → FieldLacks mark is (t ∷ ts) left e
+later-field mark is t ts left e f = record {
+  only = f .only;
+  listed = λ h. let x = f .listed h in record { field = suc (x .field); tree = x .tree; here = x .here; same = x .same };
 }
 
 tree-lacks :
@@ -705,47 +706,46 @@ tree-lacks mark is t s e q =
     subst (λ (o : Outcome Value). Tells (lacking mark is t s) s o (eval mark is t s .state)) q (eval-tells mark is t s)
 
 field-lacks :
-    (mark : ℕ) (is : List Item) (t : Tree) (s : State) (e : Refusal)
+    (mark : ℕ) (is : List Item) (t : Tree) (ts : List Tree) (s : State) (e : Refusal)
     → eval mark is t s .outcome ≡ refused e
-    → FieldLacks (leaves t) (eval mark is t s .state) e
-field-lacks mark is t s e q = record {
-  given = s;
-  entries = lacking mark is t s;
-  lacks = tree-lacks mark is t s e q;
-  scopes = lacking-scopes mark is t s;
-  few = lacking-few mark is t s;
-}
+    → FieldLacks mark is (t ∷ ts) (eval mark is t s .state) e
+field-lacks mark is t ts s e q =
+    let law = tree-lacks mark is t s e q in
+    record {
+      only = law .only;
+      listed = λ h. record { field = 0; tree = t; here = refl; same = law .listed h ∙ ap (lacking mark is t) (sym (law .unchanged h)) };
+    }
 
 module _ (mark : ℕ) (is : List Item) (t : Tree) (ts : List Tree) where
   abbrev rest : Value → State → Ran (List Value)
   rest v u = runFields mark is ts u then λ vs w. ended (ok (v ∷ vs)) w
 
-  module _ (h : (u : State) (e : Refusal) → runFields mark is ts u .outcome ≡ refused e → FieldLacks (allLeaves ts) (runFields mark is ts u .state) e) where
-    rest-lacks : (v : Value) (u : State) (e : Refusal) → rest v u .outcome ≡ refused e → FieldLacks (leaves t + allLeaves ts) (rest v u .state) e
+  module _ (h : (u : State) (e : Refusal) → runFields mark is ts u .outcome ≡ refused e → FieldLacks mark is ts (runFields mark is ts u .state) e) where
+    rest-lacks : (v : Value) (u : State) (e : Refusal) → rest v u .outcome ≡ refused e → FieldLacks mark is (t ∷ ts) (rest v u .state) e
     unfolding ended
     rest-lacks v u e q = go (then-refused (runFields mark is ts u) (λ vs w. ended (ok (v ∷ vs)) w) e q)
       where
-        go : Refuses (runFields mark is ts u) (λ vs w. ended (ok (v ∷ vs)) w) e → FieldLacks (leaves t + allLeaves ts) (rest v u .state) e
+        go : Refuses (runFields mark is ts u) (λ vs w. ended (ok (v ∷ vs)) w) e → FieldLacks mark is (t ∷ ts) (rest v u .state) e
         go (at-once k l) =
-            rw l (few-more (allLeaves ts) (leaves t + allLeaves ts) (runFields mark is ts u .state) e (omega arith) (h u e k))
+            rw l (later-field mark is t ts (runFields mark is ts u .state) e (h u e k))
         go (going-on vs k l) = absurd (let z : _≡_ {A = ℕ} 0 1 = cc in omega arith)
 
     first-lacks :
         (s : State) (e : Refusal)
         → (eval mark is t s then rest) .outcome ≡ refused e
-        → FieldLacks (leaves t + allLeaves ts) ((eval mark is t s then rest) .state) e
+        → FieldLacks mark is (t ∷ ts) ((eval mark is t s then rest) .state) e
     first-lacks s e q = go (then-refused (eval mark is t s) rest e q)
       where
-        go : Refuses (eval mark is t s) rest e → FieldLacks (leaves t + allLeaves ts) ((eval mark is t s then rest) .state) e
+        go : Refuses (eval mark is t s) rest e → FieldLacks mark is (t ∷ ts) ((eval mark is t s then rest) .state) e
         go (at-once k l) =
-            rw l (few-more (leaves t) (leaves t + allLeaves ts) (eval mark is t s .state) e (omega arith) (field-lacks mark is t s e k))
+            rw l (field-lacks mark is t ts s e k)
         go (going-on v k l) = rw l (rest-lacks v (eval mark is t s .state) e k)
 
 fields-lack :
     (mark : ℕ) (is : List Item) (ts : List Tree) (s : State) (e : Refusal)
     → runFields mark is ts s .outcome ≡ refused e
-    → FieldLacks (allLeaves ts) (runFields mark is ts s .state) e
-unfolding runFields allLeaves ended
+    → FieldLacks mark is ts (runFields mark is ts s .state) e
+unfolding runFields ended
 fields-lack mark is [] s e q = absurd (let z : _≡_ {A = ℕ} 0 1 = cc in omega arith)
 fields-lack mark is (t ∷ ts) s e q = first-lacks mark is t ts (λ u d k. fields-lack mark is ts u d k) s e q
 
@@ -760,24 +760,24 @@ left-never vs (fault x) h = tt
 run-lacks :
     (mark : ℕ) (is : List Item) (ts : List Tree) (s : State) (e : Refusal)
     → runAll mark is ts s .outcome ≡ refused e
-    → FieldLacks (allLeaves ts) (runAll mark is ts s .state) e
+    → FieldLacks mark is ts (runAll mark is ts s .state) e
 unfolding runAll first find ended
 run-lacks mark is ts s e q = go (then-refused (runFields mark is ts s) (λ vs t. ended (first is t >>= leftOver vs) t) e q)
   where
     go :
         Refuses (runFields mark is ts s) (λ vs t. ended (first is t >>= leftOver vs) t) e
-        → FieldLacks (allLeaves ts) ((runFields mark is ts s then λ vs t. ended (first is t >>= leftOver vs) t) .state) e
+        → FieldLacks mark is ts ((runFields mark is ts s then λ vs t. ended (first is t >>= leftOver vs) t) .state) e
     go (at-once k l) = rw l (fields-lack mark is ts s e k)
     go (going-on vs k l) = rw l (over vs (runFields mark is ts s .state) k)
       where
         over :
             (vs : List Value) (t : State)
             → ended (first is t >>= leftOver vs) t .outcome ≡ refused e
-            → FieldLacks (allLeaves ts) (ended (first is t >>= leftOver vs) t .state) e
+            → FieldLacks mark is ts (ended (first is t >>= leftOver vs) t .state) e
         over vs t k =
             let n = left-never vs (first is t) (find-none is (λ _. true) (unused t)) in
             let none : Never {A = List Value} (refused e) = subst (λ (o : Outcome (List Value)). Never o) k n in
-            record { given = t; entries = []; lacks = no-entries [] t t e (none .0) (none .1); scopes = tt; few = omega arith }
+            record { only = λ _. none .1; listed = λ h. absurd (true≢false (sym h ∙ none .0)) }
 
 -- an accepted form has 64 nodes at most
 accepted-few : (b : List ℕ) (a : Accepted) → checkForm b ≡ accepted a → allLeaves (a .fields) ≤ 64
@@ -788,19 +788,29 @@ accepted-few b a e =
     let most = well-made b a e .counts .nodes .1 in
     omega arith
 
+pub leaves-within : (ts : List Tree) (k : ℕ) (t : Tree) → getElem? ts k ≡ some t → leaves t ≤ allLeaves ts
+unfolding allLeaves
+leaves-within [] k t e = absurd (Option·none-ne-some t e)
+leaves-within (u ∷ ts) zero t e = let h = ap leaves (Option·some-injective u t e) in omega arith
+leaves-within (u ∷ ts) (suc k) t e = let h = leaves-within ts k t e in omega arith
+
 list-fits :
     (b : List ℕ) (a : Accepted)
     → checkForm b ≡ accepted a
     → (mark : ℕ) (is : List Item) (s : State) (e : Refusal)
     → runAll mark is (a .fields) s .outcome ≡ refused e
     → 3 * length (e .missing) ≤ 192
-list-fits b a h mark is s e q =
-    let few = accepted-few b a h in
-    go (isMissing e) refl (run-lacks mark is (a .fields) s e q) few
+list-fits b a h mark is s e q = go (isMissing e) refl (run-lacks mark is (a .fields) s e q)
   where
-    go : (b : Bool) → isMissing e ≡ b → FieldLacks (allLeaves (a .fields)) (runAll mark is (a .fields) s .state) e → allLeaves (a .fields) ≤ 64 → 3 * length (e .missing) ≤ 192
-    go true x f few = let same = ap length (f .lacks .listed x) in let k = f .few in omega arith
-    go false x f few = let same = ap length (f .lacks .only x) in omega arith
+    go : (b : Bool) → isMissing e ≡ b → FieldLacks mark is (a .fields) (runAll mark is (a .fields) s .state) e → 3 * length (e .missing) ≤ 192
+    go true x f =
+        let y = f .listed x in
+        let same = ap length (y .same) in
+        let few = lacking-few mark is (y .tree) (runAll mark is (a .fields) s .state) in
+        let within = leaves-within (a .fields) (y .field) (y .tree) (y .here) in
+        let all = accepted-few b a h in
+        omega arith
+    go false x f = let same = ap length (f .only x) in omega arith
 
 pub missing-told : MissingTold
 missing-told = record { lacks = tree-lacks; scopes = lacking-scopes; few = lacking-few; run = run-lacks; fits = list-fits }

@@ -6,7 +6,7 @@ use Rattle.utf8.specs.Utf8.{wellFormedAfter, wellFormed}
 use Rattle.wire.specs.Wire.{le, numberAt, offset, areaStart, area, neverFall, tableGood, entryOf}
 use Rattle.rules.specs.Base.{null, all, contains, same, occurrences, numbers, concatMap, firstFault, isSome, _>>?_, minus}
 use Rattle.rules.specs.Base.{write, sliceFrom, slice}
-use Rattle.rules.specs.Outcome.{_>>=_, at, isMissing, canCatch, wrongInput, combineWith}
+use Rattle.rules.specs.Outcome.{entryWords, listWords, _>>=_, at, isMissing, canCatch, wrongInput, combineWith}
 use Rattle.rules.specs.Value.{listOf, baseNumber, sameBase, baseOf, isBase, isOptional, isList, hasKind, ofKind, basesOf}
 use Rattle.rules.specs.Value.{word, size, answerWords, words, elements}
 use Rattle.rules.specs.Sheet.{argumentCount, sheetArea, sheetGood, sheetFault, arguments}
@@ -36,7 +36,7 @@ use Rattle.rules.specs.Eval.{evalFlag, isDigit, digits, unsigned, number
 use Rattle.rules.specs.Eval.{wrongPosition, placedValue, positionalValue, evalPositional, fewer, swallowed, parseOption}
 use Rattle.rules.specs.Eval.{evalOptional, idle, repeat, repeated, evalMany, evalSome, evalCount, lastOf, evalLast, side}
 use Rattle.rules.specs.Eval.{picksFirst, won, valueOf, picked, chosen, evalChoice, evalFallback, guarded, evalGuard, eval}
-use Rattle.rules.specs.Given.{formIn, sheetIn, roomIn, sliceIn, inputIn}
+use Rattle.rules.specs.Given.{formIn, sheetIn, roomIn, listRoomIn, sliceIn, inputIn}
 use Rattle.rules.specs.Run.{parsedMark, tooMany, ambiguity, lineOf, split, runFields, leftOver, runAll, runLine, padded}
 use Rattle.rules.specs.Run.{refusedInput, reportWith, report, run}
 use Rattle.rules.specs.Encode.{bytesOf, wordsOf, offsetsFrom, encodeSheet, encodeNode, encodeName, encodeForm}
@@ -45,8 +45,8 @@ use Rattle.rules.specs.Lines.{reported, entries, allKinds}
 unfoldable pub formats : Unit {0}
 unfolding xor flatten if_then_else_ table holds fits leadBits continued scalar decodeBy decode decodeAt wellFormedAfter
     wellFormed le numberAt offset areaStart area neverFall tableGood entryOf null all contains same occurrences
-    numbers concatMap firstFault isSome _>>?_ minus write sliceFrom slice _>>=_ at isMissing canCatch wrongInput
-    combineWith listOf baseNumber sameBase baseOf isBase isOptional isList hasKind ofKind basesOf word size
+    numbers concatMap firstFault isSome _>>?_ minus write sliceFrom slice entryWords listWords _>>=_ at isMissing
+    canCatch wrongInput combineWith listOf baseNumber sameBase baseOf isBase isOptional isList hasKind ofKind basesOf word size
     answerWords words elements argumentCount sheetArea sheetGood sheetFault arguments nodeCount fieldCount
     nameCount areaLength countsGood nodesAt namesAt areaAt formLength formEnd readNode readName readForm nameBytes
     oneCharacter typeGood nameGood isAlphanumeric portableCharacter portableName portable
@@ -82,7 +82,7 @@ unfolding ended after _then_ visit statesOf leaf refuseMissing shownName notFoun
 evaluation = tt
 
 unfoldable pub running : Unit {0}
-unfolding formIn sheetIn roomIn sliceIn inputIn parsedMark tooMany ambiguity lineOf split runFields leftOver runAll
+unfolding formIn sheetIn roomIn listRoomIn sliceIn inputIn parsedMark tooMany ambiguity lineOf split runFields leftOver runAll
     runLine padded refusedInput reportWith report run bytesOf wordsOf offsetsFrom encodeSheet encodeNode encodeName
     encodeForm reported entries allKinds
 running = tt

@@ -69,26 +69,28 @@ pub data SheetFault (s : List ℕ) : ℕ → Type 0 where
 abbrev pub Splits : List ℕ → List ℕ → Split → Type 0
 Splits b s x = splitFrom (lettersOf (readForm b)) 0 (arguments s) ≡ ok x
 
--- form bytes, sheet bytes and the lengths of item slice and answer slice, in the order of the numbers' rules
-pub data AtFault (b s : List ℕ) (ni na : ℕ) : ℕ → Option ℕ → Type 0 where
+-- form bytes, sheet bytes and the lengths of item slice, answer slice and list slice, in the order of the numbers' rules
+pub data AtFault (b s : List ℕ) (ni na nl : ℕ) : ℕ → Option ℕ → Type 0 where
   -- 1 to 4
-  badForm : (n : ℕ) (k : Option ℕ) → FormFault b n k → AtFault b s ni na n k
+  badForm : (n : ℕ) (k : Option ℕ) → FormFault b n k → AtFault b s ni na nl n k
   -- 5 and 6
-  sheetAtFault : (n : ℕ) → WellMade b → SheetFault s n → AtFault b s ni na n none
+  sheetAtFault : (n : ℕ) → WellMade b → SheetFault s n → AtFault b s ni na nl n none
   -- 7 item slice under 1,792 words or answer slice under 8,240
-  shortSlice : WellMade b → SheetMade s → (ni < 1792) ⊎ (na < 8240) → AtFault b s ni na 7 none
+  shortSlice : WellMade b → SheetMade s → (ni < 1792) ⊎ (na < 8240) → AtFault b s ni na nl 7 none
+  -- 14 list slice under 192 words
+  shortList : WellMade b → SheetMade s → 1792 ≤ ni → 8240 ≤ na → nl < 192 → AtFault b s ni na nl 14 none
   -- 8 more than 256 items
   manyItems :
       (x : Split)
-      → WellMade b → SheetMade s → 1792 ≤ ni → 8240 ≤ na
+      → WellMade b → SheetMade s → 1792 ≤ ni → 8240 ≤ na → 192 ≤ nl
       → Splits b s x → 256 < length (itemsOf x)
-      → AtFault b s ni na 8 none
+      → AtFault b s ni na nl 8 none
   -- 9 ambiguous letter (place of the Word)
   ambiguousLetter :
       (x : Split) (i : ℕ)
-      → WellMade b → SheetMade s → 1792 ≤ ni → 8240 ≤ na
+      → WellMade b → SheetMade s → 1792 ≤ ni → 8240 ≤ na → 192 ≤ nl
       → Splits b s x → length (itemsOf x) ≤ 256 → x .ambiguous ≡ some i
-      → AtFault b s ni na 9 (some i)
+      → AtFault b s ni na nl 9 (some i)
 
 -- ---- what a refusal leaves
 -- the items that splitting gave, each unparsed
@@ -102,25 +104,27 @@ pub record Kept (b s : List ℕ) (ni : ℕ) (items : List ℕ) (state : State) :
   pub current : state .current ≡ none
   pub scope : (state .start ≡ 0) × (state .end ≡ length (state .marks))
 
--- item slice and state. 1 to 8: all 0, an empty state. 9: items kept and unparsed
+-- item slice and state. 1 to 8 and 14: all 0, an empty state. 9: items kept and unparsed
 pub record ItemsLeft (b s : List ℕ) (ni number : ℕ) (items : List ℕ) (state : State) : Type 0 where
-  pub cleared : number ≤ 8 → (items ≡ replicate ni 0) × (state ≡ emptyState)
+  pub cleared : (number ≡ 9 → ⊥) → (items ≡ replicate ni 0) × (state ≡ emptyState)
   pub kept : number ≡ 9 → Kept b s ni items state
 
--- answers 0, tries 0
-pub record Left (b s : List ℕ) (ni na : ℕ) (r : Report) : Type 0 where
+-- answers 0, list 0, tries 0
+pub record Left (b s : List ℕ) (ni na nl : ℕ) (r : Report) : Type 0 where
   pub tries : r .tries ≡ 0
   pub words : r .words ≡ []
   pub answers : r .answers ≡ replicate na 0
+  pub list : r .list ≡ replicate nl 0
   pub items : ItemsLeft b s ni (r .number) (r .items) (r .state)
 
 -- ---- demand 1
 -- A well-made form and sheet that splits without refusal, with buffers of the stated length
-pub record Ready (b s : List ℕ) (ni na : ℕ) : Type 0 where
+pub record Ready (b s : List ℕ) (ni na nl : ℕ) : Type 0 where
   pub form : WellMade b
   pub sheet : SheetMade s
   pub items : 1792 ≤ ni
   pub answers : 8240 ≤ na
+  pub list : 192 ≤ nl
   pub line : Line
   pub splits : split (readForm b) s ≡ ok line
   pub unrefused : line .refusal ≡ none
@@ -129,14 +133,16 @@ pub record Ready (b s : List ℕ) (ni na : ℕ) : Type 0 where
 abbrev pub RunNumber : ℕ → Type 0
 RunNumber n = (n ≡ 0) ⊎ ((20 ≤ n) × (n ≤ 27))
 
--- Such an input is run to its end and answered; everything else is refused under a number from 1 to 9, by what is at fault,
--- and what is at fault tells number and place. Both slices are filled
-pub record Demand1 (b s : List ℕ) (ni na : ℕ) : Type 0 where
+-- Such an input is run to its end and answered; everything else is refused under a number from 1 to 9 or 14, by what is at fault,
+-- and what is at fault tells number and place. All three slices are filled, the list with 0 but for 20
+pub record Demand1 (b s : List ℕ) (ni na nl : ℕ) : Type 0 where
   pub report : Report
-  pub answered : run b s ni na ≡ ok report
+  pub answered : run b s ni na nl ≡ ok report
   pub number :
-      (Ready b s ni na × RunNumber (report .number))
-      ⊎ ((Ready b s ni na → ⊥) × AtFault b s ni na (report .number) (report .place) × Left b s ni na report)
-  pub told : (n : ℕ) (k : Option ℕ) → AtFault b s ni na n k → (report .number ≡ n) × (report .place ≡ k)
+      (Ready b s ni na nl × RunNumber (report .number))
+      ⊎ ((Ready b s ni na nl → ⊥) × AtFault b s ni na nl (report .number) (report .place) × Left b s ni na nl report)
+  pub told : (n : ℕ) (k : Option ℕ) → AtFault b s ni na nl n k → (report .number ≡ n) × (report .place ≡ k)
   pub items : length (report .items) ≡ ni
   pub answers : length (report .answers) ≡ na
+  pub list : length (report .list) ≡ nl
+  pub unlisted : (report .number ≡ 20 → ⊥) → report .list ≡ replicate nl 0

@@ -40,4 +40,4 @@ unfoldable pub benchText : Report → List ℕ
 benchText r = firstLine r ++ concatMap wordLine (r .words)
 
 unfoldable pub bench : List ℕ → Outcome (List ℕ)
-bench b = run (take (formEnd b) b) (drop (formEnd b) b) 1792 8240 >>= λ r. ok (benchText r)
+bench b = run (take (formEnd b) b) (drop (formEnd b) b) 1792 8240 192 >>= λ r. ok (benchText r)

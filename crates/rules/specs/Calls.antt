@@ -1,4 +1,4 @@
--- Single calls: what they are refused with (1 to 7, then 30, 29, 28, in this order) and what they hand back.
+-- Single calls: what they are refused with (1 to 7, 14, then 30, 29, 28, in this order) and what they hand back.
 use mathlib.Core.Bool.{Bool, true, false, _&&_}
 use mathlib.Core.List.{List, [], _∷_}
 use mathlib.Core.Option.{Option, some, none}
@@ -7,7 +7,7 @@ use lib.Dec.{leb, eqb, ltb}
 use lib.ListN.{length, getD, take, drop, getElem?}
 use Rattle.utf8.specs.Utf8.{if_then_else_}
 use Rattle.rules.specs.Base.{_>>?_}
-use Rattle.rules.specs.Outcome.{Outcome, ok, refused, fault, _>>=_, Refusal, refuse}
+use Rattle.rules.specs.Outcome.{Outcome, ok, refused, fault, _>>=_, MissingItem, listWords, Refusal, refuse}
 use Rattle.rules.specs.Value.{Kind, Value, words}
 use Rattle.rules.specs.Form.{nameBytes, portable}
 use Rattle.rules.specs.Tree.{Named, Tree, Flag, Argument, Positional, Optional, Many, Some, Count, Last, Choice, Fallback, Guard, zeros, kindOf}
@@ -17,7 +17,7 @@ use Rattle.rules.specs.State.{State, emptyState, parsed, stateGood, get,
 use Rattle.rules.specs.State.{adjacentlyAvailableFrom, onlyOnce}
 use Rattle.rules.specs.Take.{Took, took, Taken, Operand, matchesArg, textOf, takeFlag, takeArg, takePositionalWord, takeCmd}
 use Rattle.rules.specs.Eval.{Ran, eval}
-use Rattle.rules.specs.Given.{inputIn}
+use Rattle.rules.specs.Given.{listRoomIn, inputIn}
 unfoldable pub use Rattle.rules.specs.Given.{formIn, sheetIn, sliceIn}
 use Rattle.rules.specs.Run.{padded, parsedMark, Line, split}
 use Rattle.rules.specs.Codes.{placeCode, placeOf}
@@ -289,7 +289,7 @@ callText form sheet slice w = formIn form >>= λ a. sheetIn sheet >>= λ area. s
     itemsIn area l >>= λ is.
     asked (if ltb w 256 then (getElem? is w >>? λ x. some (textOf x)) else recordText a (w - 256))
 
--- ---- `eval` of a node: refused 20 to 26, answers 0 and the state that it left
+-- ---- `eval` of a node: refused 20 to 26, answers 0 and the state that it left; with 20, what is missing
 pub record Evaluated : Type 0 where
   pub number : ℕ
   pub place : Option ℕ
@@ -297,34 +297,39 @@ pub record Evaluated : Type 0 where
   pub words : List ℕ
   pub state : Raw
   pub answers : List ℕ
+  pub list : List ℕ
 
-unfoldable pub evaluatedWith : ℕ → Ran Value → ℕ → Option ℕ → List ℕ → Evaluated
-evaluatedWith na r number place words = record {
+unfoldable pub evaluatedWith : ℕ → ℕ → Ran Value → ℕ → Option ℕ → List ℕ → List MissingItem → Evaluated
+evaluatedWith na nl r number place words missing = record {
   number = number;
   place = place;
   tries = r .tries;
   words = words;
   state = toRaw (r .state);
   answers = padded na words;
+  list = padded nl (listWords missing);
 }
 
-unfoldable pub evaluated : ℕ → Ran Value → Outcome Evaluated
-evaluated na r = elim (r .outcome) [
-  | ok v ↦ ok (evaluatedWith na r 0 none (words v))
-  | refused e ↦ ok (evaluatedWith na r (e .number) (e .place) [])
+unfoldable pub evaluated : ℕ → ℕ → Ran Value → Outcome Evaluated
+evaluated na nl r = elim (r .outcome) [
+  | ok v ↦ ok (evaluatedWith na nl r 0 none (words v) [])
+  | refused e ↦ ok (evaluatedWith na nl r (e .number) (e .place) [] (e .missing))
   | fault f ↦ fault f
 ]
 
 -- refused before that, nothing changes
-unfoldable pub unchanged : Raw → List ℕ → Refusal → Evaluated
-unchanged x answers e = record
-    { number = e .number; place = e .place; tries = 0; words = []; state = x; answers = answers }
+unfoldable pub unchanged : Raw → List ℕ → List ℕ → Refusal → Evaluated
+unchanged x answers list e = record
+    { number = e .number; place = e .place; tries = 0; words = []; state = x; answers = answers; list = list }
 
-unfoldable pub evalIn : List ℕ → List ℕ → List ℕ → List ℕ → Raw → ℕ → Outcome (Ran Value)
-evalIn form sheet slice answers x k = formIn form >>= λ a. sheetIn sheet >>= λ area. sliceIn 1792 slice >>= λ l.
-    sliceIn 8240 answers >>= λ _. itemsIn area l >>= λ is. stateIn (length is) x >>= λ s.
+unfoldable pub evalIn : List ℕ → List ℕ → List ℕ → List ℕ → List ℕ → Raw → ℕ → Outcome (Ran Value)
+evalIn form sheet slice answers list x k = formIn form >>= λ a. sheetIn sheet >>= λ area. sliceIn 1792 slice >>= λ l.
+    sliceIn 8240 answers >>= λ _. listRoomIn (length list) >>= λ _. itemsIn area l >>= λ is. stateIn (length is) x >>= λ s.
     asked (getElem? (a .trees) k) >>= λ t. ok (eval parsedMark is t s)
 
-unfoldable pub callEval : List ℕ → List ℕ → List ℕ → List ℕ → Raw → ℕ → Outcome Evaluated
-callEval form sheet slice answers x k = elim (evalIn form sheet slice answers x k)
-    [ ok r ↦ evaluated (length answers) r | refused e ↦ ok (unchanged x answers e) | fault f ↦ fault f ]
+unfoldable pub callEval : List ℕ → List ℕ → List ℕ → List ℕ → List ℕ → Raw → ℕ → Outcome Evaluated
+callEval form sheet slice answers list x k = elim (evalIn form sheet slice answers list x k) [
+  | ok r ↦ evaluated (length answers) (length list) r
+  | refused e ↦ ok (unchanged x answers list e)
+  | fault f ↦ fault f
+]

@@ -33,22 +33,24 @@ pub record Hands {A : Type 0} (l : List ℕ) (x : Raw) (o : Outcome (Called A)) 
       ((called .number ≡ 0) × ((a : A) × (called .answer ≡ some a)))
       ⊎ (OneOf l (called .number) × (called .answer ≡ none) × (called .state ≡ x))
 
--- `eval` of a node: 0; or 20 to 26, and answers 0; or a number before these, and nothing changes
-pub record EvalAnswers (x : Raw) (answers : List ℕ) (o : Outcome Evaluated) : Type 0 where
+-- `eval` of a node: 0; or 20 to 26, and answers 0; then the list is 0 but for 20. Or a number before these, and nothing changes
+pub record EvalAnswers (x : Raw) (answers list : List ℕ) (o : Outcome Evaluated) : Type 0 where
   pub evaluated : Evaluated
   pub answered : o ≡ ok evaluated
   pub number :
-      (evaluated .number ≡ 0)
+      ((evaluated .number ≡ 0) × (evaluated .list ≡ replicate (length list) 0))
       ⊎ (OneOf (20 ∷ 21 ∷ 22 ∷ 23 ∷ 24 ∷ 25 ∷ 26 ∷ []) (evaluated .number)
       × (evaluated .words ≡ [])
-      × (evaluated .answers ≡ replicate (length answers) 0))
-      ⊎ (OneOf (1 ∷ 2 ∷ 3 ∷ 4 ∷ 6 ∷ 5 ∷ 7 ∷ 30 ∷ 29 ∷ 28 ∷ []) (evaluated .number)
+      × (evaluated .answers ≡ replicate (length answers) 0)
+      × ((evaluated .number ≡ 20 → ⊥) → evaluated .list ≡ replicate (length list) 0))
+      ⊎ (OneOf (1 ∷ 2 ∷ 3 ∷ 4 ∷ 6 ∷ 5 ∷ 7 ∷ 14 ∷ 30 ∷ 29 ∷ 28 ∷ []) (evaluated .number)
       × (evaluated .tries ≡ 0)
       × (evaluated .words ≡ [])
       × (evaluated .state ≡ x)
-      × (evaluated .answers ≡ answers))
+      × (evaluated .answers ≡ answers)
+      × (evaluated .list ≡ list))
 
--- `split`: 0; or 1 to 9 for what is at fault with no answer slice, and what a run leaves
+-- `split`: 0; or 1 to 9 for what is at fault with no answer slice and no list, and what a run leaves
 pub record SplitsLine (form sheet : List ℕ) (n : ℕ) (o : Outcome Splitting) : Type 0 where
   pub splitting : Splitting
   pub answered : o ≡ ok splitting
@@ -56,7 +58,7 @@ pub record SplitsLine (form sheet : List ℕ) (n : ℕ) (o : Outcome Splitting) 
   pub handed : splitting .state ≡ toRaw state
   pub number :
       (splitting .number ≡ 0)
-      ⊎ (AtFault form sheet n 8240 (splitting .number) (splitting .place)
+      ⊎ (AtFault form sheet n 8240 192 (splitting .number) (splitting .place)
       × ItemsLeft form sheet n (splitting .number) (splitting .items) state)
 
 -- Each call with its numbers, in the order in which they are tested
@@ -89,8 +91,8 @@ pub record CallsAnswered : Type 0 where
       (form sheet slice : List ℕ) (x : Raw) (k : ℕ)
       → Hands (1 ∷ 2 ∷ 3 ∷ 4 ∷ 6 ∷ 5 ∷ 7 ∷ 30 ∷ 29 ∷ 28 ∷ []) x (callTakeCmd form sheet slice x k)
   pub eval :
-      (form sheet slice answers : List ℕ) (x : Raw) (k : ℕ)
-      → EvalAnswers x answers (callEval form sheet slice answers x k)
+      (form sheet slice answers list : List ℕ) (x : Raw) (k : ℕ)
+      → EvalAnswers x answers list (callEval form sheet slice answers list x k)
   -- a form, with no state
   pub kind : (form : List ℕ) (k : ℕ) → Answers (1 ∷ 2 ∷ 3 ∷ 4 ∷ 28 ∷ []) (callKind form k)
   pub portable : (form : List ℕ) → Answers (1 ∷ 2 ∷ 3 ∷ 4 ∷ []) (callPortable form)

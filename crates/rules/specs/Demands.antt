@@ -89,7 +89,7 @@ pub record WholeRun (M : BaseValue → Type 0) (b s : List ℕ) (a : Accepted) (
   pub remaining : l .state .remaining ≡ placesLeft (arguments s) (length (l .items))
   pub tries : runLine (a .fields) l .tries ≤ (placesLeft (arguments s) (length (l .items)) + 2) * leafCount (a .form .nodes)
   -- with buffers of at least the stated length, what is reported is this run's
-  pub reported : (ni na : ℕ) → 1792 ≤ ni → 8240 ≤ na → run b s ni na ≡ report ni na l (runLine (a .fields) l)
+  pub reported : (ni na nl : ℕ) → 1792 ≤ ni → 8240 ≤ na → 192 ≤ nl → run b s ni na nl ≡ report ni na nl l (runLine (a .fields) l)
   -- and the answer words fix the values
   pub values : (vs ws : List Value) → OnePerField M (a .fields) vs → OnePerField M (a .fields) ws → answerWords vs ≡ answerWords ws → vs ≡ ws
 

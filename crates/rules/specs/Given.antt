@@ -1,4 +1,4 @@
--- The tests before a call, in this order: 1 to 4, 6 and 5, 7. A call makes those whose input it has.
+-- The tests before a call, in this order: 1 to 4, 6 and 5, 7, 14. A call makes those whose input it has.
 use mathlib.Core.Option.{none}
 use mathlib.Core.List.{List, []}
 use Prim.Native.Nat.{ℕ}
@@ -24,6 +24,10 @@ roomIn least n = if leb least n then ok n else refused (refuse 7 none)
 -- the slice itself, where the call reads it
 unfoldable pub sliceIn : ℕ → List ℕ → Outcome (List ℕ)
 sliceIn least l = roomIn least (length l) >>= λ _. ok l
+
+-- 14: a list slice with fewer than 192 words
+unfoldable pub listRoomIn : ℕ → Outcome ℕ
+listRoomIn n = if leb 192 n then ok n else refused (refuse 14 none)
 
 -- a run's and a split's: form, sheet, and the length of the item slice
 unfoldable pub inputIn : List ℕ → List ℕ → ℕ → Outcome Accepted

@@ -200,7 +200,7 @@ pub record Entry : Type 0 where
   pub tries : ℕ
   pub words : List ℕ
 
--- the item slice has the items' records, the answer slice the words, zeros after each
+-- the item slice has the items' records, the answer slice the words, zeros after each; the list is all 0, for none is refused with 20
 unfoldable pub reported : Entry → Report
 reported e = record {
   number = e .number;
@@ -210,6 +210,7 @@ reported e = record {
   state = e .state;
   items = padded 1792 (recordsFrom 0 (e .arguments) (e .items));
   answers = padded 8240 (e .words);
+  list = padded 192 [];
 }
 
 unfoldable pub entries : List Entry

@@ -1,20 +1,21 @@
 -- What a refusal 20 tells: which leaves looked in vain, and in which scope. Of every node, on every state.
 use mathlib.Core.Bool.{Bool, true, false}
 use mathlib.Core.List.{List, [], _∷_, _++_}
+use mathlib.Core.Option.{some}
 use mathlib.Core.Path.{_≡_}
 use Prim.Native.Nat.{ℕ, _*_, _≤_}
-use lib.ListN.{length}
+use lib.ListN.{length, getElem?}
 use Rattle.utf8.specs.Utf8.{if_then_else_}
-use Rattle.rules.specs.Outcome.{Outcome, ok, refused, fault, MissingItem, Refusal, isMissing}
+use Rattle.rules.specs.Outcome.{Outcome, ok, refused, fault, MissingItem, listWords, Refusal, isMissing}
 use Rattle.rules.specs.Value.{Value}
 use Rattle.rules.specs.Tree.{Tree, Flag, Argument, Positional, Optional, Many, Some, Count, Last, Choice, Fallback, Guard}
 use Rattle.rules.specs.Accept.{Accepted, accepted, checkForm}
 use Rattle.rules.specs.Split.{Item}
 use Rattle.rules.specs.State.{State}
 use Rattle.rules.specs.Eval.{eval}
-use Rattle.rules.specs.Run.{runAll}
+use Rattle.rules.specs.Run.{Line, Report, parsedMark, padded, split, runAll}
 use Rattle.rules.specs.Demands.{All}
-use Rattle.rules.specs.Sound.{leaves, allLeaves}
+use Rattle.rules.specs.Sound.{leaves}
 
 -- ---- the entries, by the form
 -- a leaf that looked in the scope of a state
@@ -54,13 +55,16 @@ pub record Lacks (entries : List MissingItem) (s left : State) (e : Refusal) : T
 abbrev pub LookedIn : State → MissingItem → Type 0
 LookedIn s x = (x .start ≡ s .start) × (x .end ≡ s .end)
 
--- the run of all fields: what the refused field was given
-pub record FieldLacks (most : ℕ) (left : State) (e : Refusal) : Type 0 where
-  pub given : State
-  pub entries : List MissingItem
-  pub lacks : Lacks entries given left e
-  pub scopes : All (LookedIn given) entries
-  pub few : length entries ≤ most
+-- the run of all fields: only 20 has entries, and they are what one of the fields lacks in the state that is left
+pub record OfField (mark : ℕ) (is : List Item) (ts : List Tree) (left : State) (entries : List MissingItem) : Type 0 where
+  pub field : ℕ
+  pub tree : Tree
+  pub here : getElem? ts field ≡ some tree
+  pub same : entries ≡ lacking mark is tree left
+
+pub record FieldLacks (mark : ℕ) (is : List Item) (ts : List Tree) (left : State) (e : Refusal) : Type 0 where
+  pub only : isMissing e ≡ false → e .missing ≡ []
+  pub listed : isMissing e ≡ true → OfField mark is ts left (e .missing)
 
 pub record MissingTold : Type 0 where
   pub lacks :
@@ -73,7 +77,7 @@ pub record MissingTold : Type 0 where
   pub run :
       (mark : ℕ) (is : List Item) (ts : List Tree) (s : State) (e : Refusal)
       → runAll mark is ts s .outcome ≡ refused e
-      → FieldLacks (allLeaves ts) (runAll mark is ts s .state) e
+      → FieldLacks mark is ts (runAll mark is ts s .state) e
   -- of an accepted form: three words an entry fit into 192
   pub fits :
       (b : List ℕ) (a : Accepted)
@@ -81,3 +85,13 @@ pub record MissingTold : Type 0 where
       → (mark : ℕ) (is : List Item) (s : State) (e : Refusal)
       → runAll mark is (a .fields) s .outcome ≡ refused e
       → 3 * length (e .missing) ≤ 192
+
+-- ---- what a run reports with 20: the list is what one of the form's fields lacks in the state that is handed back
+pub record ListReported (b s : List ℕ) (nl : ℕ) (r : Report) : Type 0 where
+  pub form : Accepted
+  pub accepts : checkForm b ≡ accepted form
+  pub line : Line
+  pub splits : split (form .form) s ≡ ok line
+  pub entries : List MissingItem
+  pub ofField : OfField parsedMark (line .items) (form .fields) (r .state) entries
+  pub list : r .list ≡ padded nl (listWords entries)

@@ -2,10 +2,10 @@
 use mathlib.Core.Bool.{Bool}
 use mathlib.Core.List.{List, [], _∷_, _++_}
 use mathlib.Core.Option.{Option, some, none}
-use Prim.Native.Nat.{ℕ}
+use Prim.Native.Nat.{ℕ, suc}
 use lib.Dec.{eqb}
 use Rattle.utf8.specs.Utf8.{if_then_else_}
-use Rattle.rules.specs.Base.{contains}
+use Rattle.rules.specs.Base.{contains, concatMap}
 
 -- Spots where the Rust would panic: the function, and the line of its file.
 pub data Spot : Type 0 where
@@ -33,6 +33,13 @@ pub record MissingItem : Type 0 where
   pub node : ℕ
   pub start : ℕ
   pub end : ℕ
+
+-- its three words in the list: node plus 1, scope start, scope end
+unfoldable pub entryWords : MissingItem → List ℕ
+entryWords x = suc (x .node) ∷ x .start ∷ x .end ∷ []
+
+unfoldable pub listWords : List MissingItem → List ℕ
+listWords l = concatMap entryWords l
 
 -- The Rust's Message, by document 01's number
 pub record Refusal : Type 0 where

@@ -1,11 +1,11 @@
--- The run: the whole answer to a form and a sheet, with what both slices hold.
+-- The run: the whole answer to a form and a sheet, with what the three slices hold.
 use mathlib.Core.List.{List, [], _∷_, _++_}
 use mathlib.Core.Option.{Option, some, none}
 use Prim.Native.Nat.{ℕ, _+_, _-_}
 use lib.Dec.{ltb}
 use lib.ListN.{length, replicate}
 use Rattle.utf8.specs.Utf8.{if_then_else_}
-use Rattle.rules.specs.Outcome.{Outcome, ok, refused, fault, _>>=_, Refusal, refuse}
+use Rattle.rules.specs.Outcome.{Outcome, ok, refused, fault, _>>=_, MissingItem, listWords, Refusal, refuse}
 use Rattle.rules.specs.Value.{Value, answerWords}
 use Rattle.rules.specs.Sheet.{arguments}
 use Rattle.rules.specs.Form.{Form}
@@ -14,7 +14,7 @@ use Rattle.rules.specs.Accept.{lettersOf}
 use Rattle.rules.specs.Split.{Item, Split, splitFrom, itemsOf, recordsFrom}
 use Rattle.rules.specs.State.{State, Found, construct, emptyState, first}
 use Rattle.rules.specs.Eval.{Ran, ended, _then_, eval}
-use Rattle.rules.specs.Given.{roomIn, inputIn}
+use Rattle.rules.specs.Given.{roomIn, listRoomIn, inputIn}
 
 -- ---- a sheet, split under a form
 -- the items, their records, the state, and 8 or 9 if splitting refuses
@@ -77,19 +77,28 @@ pub record Report : Type 0 where
   pub state : State
   pub items : List ℕ
   pub answers : List ℕ
+  pub list : List ℕ
 
 -- a slice of n words: past the last word all is 0
 unfoldable pub padded : ℕ → List ℕ → List ℕ
 padded n l = l ++ replicate (n - length l) 0
 
--- 1 to 7: both slices all 0, tries 0, an empty state
-unfoldable pub refusedInput : ℕ → ℕ → ℕ → Option ℕ → Report
-refusedInput ni na n k = record
-    { number = n; place = k; tries = 0; words = []; state = emptyState; items = padded ni []; answers = padded na [] }
+-- 1 to 7 and 14: all three slices all 0, tries 0, an empty state
+unfoldable pub refusedInput : ℕ → ℕ → ℕ → ℕ → Option ℕ → Report
+refusedInput ni na nl n k = record {
+  number = n;
+  place = k;
+  tries = 0;
+  words = [];
+  state = emptyState;
+  items = padded ni [];
+  answers = padded na [];
+  list = padded nl [];
+}
 
--- items kept, the state reached, and the tries made so far
-unfoldable pub reportWith : ℕ → ℕ → Line → Ran (List Value) → ℕ → Option ℕ → List ℕ → Report
-reportWith ni na l r number place words = record {
+-- items kept, the state reached, the tries made so far, and what is missing
+unfoldable pub reportWith : ℕ → ℕ → ℕ → Line → Ran (List Value) → ℕ → Option ℕ → List ℕ → List MissingItem → Report
+reportWith ni na nl l r number place words missing = record {
   number = number;
   place = place;
   tries = r .tries;
@@ -97,20 +106,21 @@ reportWith ni na l r number place words = record {
   state = r .state;
   items = padded ni (l .records);
   answers = padded na words;
+  list = padded nl (listWords missing);
 }
 
 -- values, or a refusal with answers 0
-unfoldable pub report : ℕ → ℕ → Line → Ran (List Value) → Outcome Report
-report ni na l r = elim (r .outcome) [
-  | ok vs ↦ ok (reportWith ni na l r 0 none (answerWords vs))
-  | refused e ↦ ok (reportWith ni na l r (e .number) (e .place) [])
+unfoldable pub report : ℕ → ℕ → ℕ → Line → Ran (List Value) → Outcome Report
+report ni na nl l r = elim (r .outcome) [
+  | ok vs ↦ ok (reportWith ni na nl l r 0 none (answerWords vs) [])
+  | refused e ↦ ok (reportWith ni na nl l r (e .number) (e .place) [] (e .missing))
   | fault x ↦ fault x
 ]
 
--- form bytes, sheet bytes, and the lengths of the item slice and the answer slice
-unfoldable pub run : List ℕ → List ℕ → ℕ → ℕ → Outcome Report
-run b s ni na = elim (inputIn b s ni >>= λ a. roomIn 8240 na >>= λ _. ok a) [
-  | ok a ↦ split (a .form) s >>= λ l. report ni na l (runLine (a .fields) l)
-  | refused e ↦ ok (refusedInput ni na (e .number) (e .place))
+-- form bytes, sheet bytes, and the lengths of the item slice, the answer slice and the list slice
+unfoldable pub run : List ℕ → List ℕ → ℕ → ℕ → ℕ → Outcome Report
+run b s ni na nl = elim (inputIn b s ni >>= λ a. roomIn 8240 na >>= λ _. listRoomIn nl >>= λ _. ok a) [
+  | ok a ↦ split (a .form) s >>= λ l. report ni na nl l (runLine (a .fields) l)
+  | refused e ↦ ok (refusedInput ni na nl (e .number) (e .place))
   | fault x ↦ fault x
 ]

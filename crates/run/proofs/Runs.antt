@@ -1,25 +1,27 @@
 -- The run, by how the tests of the input, splitting and the fields end.
-use mathlib.Core.Bool.{Bool, true, false, _||_, true≢false}
+use mathlib.Core.Bool.{true}
 use mathlib.Core.List.{List, []}
 use mathlib.Core.Logic.{⊎-elim}
 use mathlib.Core.Option.{Option, some, none, Option·some-injective, Option·none-ne-some}
 use mathlib.Core.Path.{_≡_, refl, sym, ap, _∙_, subst}
-use Prim.Native.Nat.{ℕ, _-_, _≤_, _<_}
+use Prim.Native.Nat.{ℕ, _+_, _-_, _≤_, _<_}
 use native.Mathlib.Omega.{arith}
-use lib.Dec.{ltb}
-use lib.ListN.{length, getD, replicate, length-append, length-replicate}
+use lib.ListN.{length, getD, getElem?, replicate, length-append, length-replicate}
 use lib.Seq.{sets, length-sets}
-use borrow.Author.Tests.{lt-ltb, le-ltb, ltb-true, ltb-false}
-use Rattle.rules.specs.Outcome.{Outcome, ok, refused, fault, _>>=_, Refusal}
+use Rattle.rules.specs.Outcome.{Outcome, ok, refused, fault, _>>=_, MissingItem, listWords, Refusal}
 use Rattle.rules.specs.Value.{Value}
 use Rattle.rules.specs.Codes.{placeCode, checkCode, placeOf}
-use Rattle.rules.specs.Form.{readForm}
+use Rattle.rules.specs.Base.{concatMap}
+use Rattle.rules.specs.Form.{fieldCount, readForm}
 use Rattle.rules.specs.Sheet.{sheetArea, sheetFault, arguments}
-use Rattle.rules.specs.Accept.{Checked as Tested, accepted, refusedAt, Accepted, checkForm, lettersOf}
-use Rattle.rules.specs.State.{parsed, emptyState}
+use Rattle.rules.specs.Tree.{Tree}
+use Rattle.rules.specs.Accept.{Checked as Tested, accepted, refusedAt, Accepted, checkForm, lengthGood, lettersOf}
+use Rattle.rules.specs.Split.{Item}
+use Rattle.rules.specs.State.{State, parsed, emptyState}
 use Rattle.rules.specs.Eval.{Ran as Run}
 use Rattle.rules.specs.Eval as eval
 use Rattle.rules.specs.Run.{Line, split, padded, refusedInput, reportWith, report, run, runAll, runLine, parsedMark}
+use Rattle.rules.specs.Missing.{lacking}
 use Rattle.rules.specs.Calls.{toRaw}
 use Rattle.rules.specs.declared.State.{State as Raw}
 use Rattle.rules.specs.declared.Refused.{Refused}
@@ -28,41 +30,29 @@ use Rattle.rules.proofs.SplitLaws.{LineGood, line-accepted, line-refusal}
 use Rattle.state_marks.specs.declared.Numbers.{Numbers}
 use Rattle.state_marks.specs.Lent.{rawOf, numbersOf, stateOf, Fine}
 use Rattle.rules.proofs.CodeLaws.{place-code, code-place}
-use Rattle.rules.proofs.GivenLaws.{run-form, run-sheet, run-short, run-cramped, run-goes}
+use Rattle.rules.proofs.GivenLaws.{run-form, run-sheet, run-short, run-cramped, run-unlisted, run-goes}
+use Rattle.rules.proofs.InputFaults.{list-length, no-entries-listed, line-plain}
+use Rattle.rules.proofs.MissingLaws.{missing-told}
 use Rattle.state_marks.proofs.Laws.{raw-back}
 use Rattle.state_marks.proofs.Mark.{field-parsed, field-told}
 use Rattle.form_codes.specs.Codes.{CodedNames}
 use Rattle.take_search.specs.Items.{Table}
 use Rattle.take_table.specs.Known.{Matchable, Known}
 use Rattle.eval_told.specs.Told.{Told}
+use Rattle.eval_told.specs.Nodes.{treeAt}
+use Rattle.eval_missing.specs.Missing.{Listing, Lists}
 use Rattle.split_args.proofs.States.{padded-words, all-zero, fill-long}
 use Rattle.split_args.specs.declared.Ended.{Ended as Split}
 use Rattle.split_args.specs.Construct.{startingState as begun, Unmarked, SplitEnds, refusalNumber, refusalPlace}
 use Rattle.rules.proofs.GivenLaws.{check-accepted}
-use Rattle.run_fields.specs.Line.{Starts, toldAll, RunsAll, refusedWith}
+use Rattle.run_fields.specs.Line.{Starts, toldAll, missingOf, RunsAll, refusedWith}
+use Rattle.run_fields.proofs.Lacked.{left-items, none-missing, refused-inside, refused-number, refused-marked, refused-field, refused-missing}
 use Rattle.run_fields.specs.declared.Reached.{Reached}
-use Rattle.run.specs.Runner.{Ended, runAnswer, ended, answerOf, shortSlices, CheckedInput, ItemsBegin}
+use Rattle.run.specs.Runner.{Ended, runAnswer, ended, answerOf, CheckedInput, InputTested, ItemsBegin, RunsListed}
 use Rattle.run.proofs.States.{from-to, zero-at, raw-fine}
 use Rattle.run.proofs.Back.{line-table}
 
 -- ---- slices
-pub short-items : (i a : ℕ) → i < 1792 → true ≡ shortSlices i a
-unfolding shortSlices
-short-items i a h = sym (rw (lt-ltb i 1792 h))
-
-pub short-answers : (i a : ℕ) → 1792 ≤ i → ltb a 8240 ≡ shortSlices i a
-unfolding shortSlices
-short-answers i a h = sym (rw (le-ltb i 1792 h))
-
-enough-long : (i a : ℕ) → shortSlices i a ≡ false → (1792 ≤ i) × (8240 ≤ a)
-unfolding shortSlices
-enough-long i a e = go (ltb i 1792) refl (ltb a 8240) refl e
-  where
-    go : (x : Bool) → ltb i 1792 ≡ x → (y : Bool) → ltb a 8240 ≡ y → x || y ≡ false → (1792 ≤ i) × (8240 ≤ a)
-    go true h y k e = absurd (true≢false e)
-    go false h true k e = absurd (true≢false e)
-    go false h false k e = (ltb-false i 1792 h, ltb-false a 8240 k)
-
 nothing-padded : (n : ℕ) → padded n [] ≡ replicate n 0
 unfolding padded
 nothing-padded n = let z : n - 0 ≡ n = omega arith in rw z
@@ -76,7 +66,7 @@ padded-long n w h =
 
 -- ---- answers
 answer-same :
-    {n m k l t u v w : ℕ} {x y : Raw} {i j p q : List ℕ}
+    {n m k l t u v w : ℕ} {x y : Raw} {i j p q c d : List ℕ}
     → n ≡ m
     → k ≡ l
     → t ≡ u
@@ -84,74 +74,101 @@ answer-same :
     → x ≡ y
     → i ≡ j
     → p ≡ q
-    → ended (record { number = n; place = k; tries = t; words = v; state = x }) i p
-    ≡ ended (record { number = m; place = l; tries = u; words = w; state = y }) j q
-answer-same a b c d e f g =
-    λ z. ended (record { number = a z; place = b z; tries = c z; words = d z; state = e z }) (f z) (g z)
+    → c ≡ d
+    → ended (record { number = n; place = k; tries = t; words = v; state = x }) i p c
+    ≡ ended (record { number = m; place = l; tries = u; words = w; state = y }) j q d
+answer-same a b c d e f g h =
+    λ z. ended (record { number = a z; place = b z; tries = c z; words = d z; state = e z }) (f z) (g z) (h z)
 
 pub refused-answer :
-    (number place : ℕ) (i a i′ a′ : List ℕ) (r : Reached)
+    (number place : ℕ) (i a l i′ a′ l′ : List ℕ) (r : Reached)
     → i′ ≡ sets i 0 (replicate (length i) 0)
     → a′ ≡ sets a 0 (replicate (length a) 0)
-    → r ≡ refusedWith number place 0 (record { count = 0; remaining = 0; current = 0; start = 0; end = 0 })
-    → runAnswer (ok (refusedInput (length i) (length a) number (placeOf place))) ≡ ended (answerOf r (replicate 256 0)) i′ a′
+    → l′ ≡ sets l 0 (replicate (length l) 0)
+    → r ≡ refusedWith number place 0 0 (record { count = 0; remaining = 0; current = 0; start = 0; end = 0 })
+    → runAnswer (ok (refusedInput (length i) (length a) (length l) number (placeOf place))) ≡ ended (answerOf r (replicate 256 0)) i′ a′ l′
 unfolding runAnswer refusedInput toRaw emptyState padded
-refused-answer number place i a i′ a′ r p q e =
+refused-answer number place i a l i′ a′ l′ r p q u e =
     rw e (answer-same refl (code-place place) refl refl refl
     (nothing-padded (length i) ∙ sym (p ∙ all-zero i (length i) refl))
-    (nothing-padded (length a) ∙ sym (q ∙ all-zero a (length a) refl)))
+    (nothing-padded (length a) ∙ sym (q ∙ all-zero a (length a) refl))
+    (nothing-padded (length l) ∙ sym (u ∙ all-zero l (length l) refl)))
 
 pub unmarked-answer :
-    (x : Option Ended) (r : Reached) (m i a : List ℕ)
+    (x : Option Ended) (r : Reached) (m i a l : List ℕ)
     → Unmarked m
-    → x ≡ ended (answerOf r (replicate 256 0)) i a
-    → x ≡ ended (answerOf r m) i a
-unmarked-answer x r m i a u e = e ∙ ap (λ (l : List ℕ). ended (answerOf r l) i a) (sym (u .zeros))
+    → x ≡ ended (answerOf r (replicate 256 0)) i a l
+    → x ≡ ended (answerOf r m) i a l
+unmarked-answer x r m i a l u e = e ∙ ap (λ (n : List ℕ). ended (answerOf r n) i a l) (sym (u .zeros))
 
 -- ---- the tests of the input
-module _ (b s : List ℕ) (ni na : ℕ) (r : Refused) (e : r ≡ checkCode (checkForm b)) where
-  pub form-refused : (r .number ≡ 0 → ⊥) → (x : Option Ended)
-      → runAnswer (ok (refusedInput ni na (r .number) (placeOf (r .place)))) ≡ x
-      → runAnswer (run b s ni na) ≡ x
-  form-refused z x h = go (checkForm b) refl
-    where
-      go : (c : Tested Accepted) → checkForm b ≡ c → runAnswer (run b s ni na) ≡ x
-      go (accepted a) g = absurd (z (ap (λ (y : Refused). y .number) (e ∙ ap checkCode g)))
-      go (refusedAt m k) g =
-          let same = e ∙ ap checkCode g in
-          let told = ap (λ (y : Refused). runAnswer (ok (refusedInput ni na (y .number) (placeOf (y .place))))) same in
-          rw (run-form b s ni m k g na) (sym (told ∙ ap (λ (j : Option ℕ). runAnswer (ok (refusedInput ni na m j))) (place-code k)) ∙ h)
+module _ (b s : List ℕ) (ni na nl : ℕ) where
+  -- a refusal at no place
+  refusing : (n : ℕ) (q : Refused) → q ≡ record { number = n; place = 0 } → (n ≡ 0 → ⊥) → run b s ni na nl ≡ ok (refusedInput ni na nl n none) → InputTested b s ni na nl q
+  unfolding placeOf
+  refusing n q e h g = rw e (record { good = λ z. absurd (h z); bad = λ _. g })
 
-  module _ (z : r .number ≡ 0) (f : ℕ) (t : f ≡ sheetFault s) where
-    pub sheet-refused : (f ≡ 0 → ⊥) → (x : Option Ended)
-        → runAnswer (ok (refusedInput ni na f (placeOf 0))) ≡ x
-        → runAnswer (run b s ni na) ≡ x
-    unfolding placeOf
-    sheet-refused y x h =
-        let (a, g) = check-accepted b r e z in
-        rw (run-sheet b s ni a g (λ z. y (t ∙ z)) na, ← t) h
+  module _ (r : Refused) (e : r ≡ checkCode (checkForm b)) where
+    -- 1 to 4
+    pub form-refused : (r .number ≡ 0 → ⊥) → InputTested b s ni na nl r
+    form-refused z = go (checkForm b) refl
+      where
+        go : (c : Tested Accepted) → checkForm b ≡ c → InputTested b s ni na nl r
+        go (accepted a) g = absurd (z (ap (λ (y : Refused). y .number) (e ∙ ap checkCode g)))
+        go (refusedAt m k) g =
+            rw (e ∙ ap checkCode g) (record {
+              good = λ y. absurd (z (ap (λ (y : Refused). y .number) (e ∙ ap checkCode g) ∙ y));
+              bad = λ _. run-form b s ni m k g na nl ∙ ap (λ (j : Option ℕ). ok (refusedInput ni na nl m j)) (sym (place-code k));
+            })
 
-    module _ (y : f ≡ 0) (short : Bool) (w : short ≡ shortSlices ni na) where
-      pub slices-refused : short ≡ true → (x : Option Ended)
-          → runAnswer (ok (refusedInput ni na 7 (placeOf 0))) ≡ x
-          → runAnswer (run b s ni na) ≡ x
-      unfolding shortSlices placeOf
-      slices-refused q x h = rw (go (ltb ni 1792) refl) h
-        where
-          go : (c : Bool) → ltb ni 1792 ≡ c → run b s ni na ≡ ok (refusedInput ni na 7 none)
-          go true l = let (a, g) = check-accepted b r e z in run-short b s ni a g (sym t ∙ y) (ltb-true ni 1792 l) na
-          go false l =
-              let (a, g) = check-accepted b r e z in
-              run-cramped b s ni a g (sym t ∙ y) (ltb-false ni 1792 l) na (ltb-true na 8240 (rw l at (sym w ∙ q)))
-
-      pub all-checked : short ≡ false → (items answers : List ℕ) → length items ≡ ni → length answers ≡ na → CheckedInput b s items answers
-      all-checked q items answers i o =
+    module _ (z : r .number ≡ 0) (f : ℕ) (t : f ≡ sheetFault s) where
+      -- 6 and 5
+      pub sheet-refused : (f ≡ 0 → ⊥) → (q : Refused) → q ≡ record { number = f; place = 0 } → InputTested b s ni na nl q
+      sheet-refused y q h =
           let (a, g) = check-accepted b r e z in
-          let (j, p) = enough-long ni na (sym w ∙ q) in
-          record {
-            ready = record { result = a; accepts = g; checked = sym t ∙ y; room = omega (arith, i, j) };
-            space = omega (arith, o, p);
-          }
+          refusing f q h y (run-sheet b s ni a g (λ z. y (t ∙ z)) na nl ∙ ap (λ (n : ℕ). ok (refusedInput ni na nl n none)) (sym t))
+
+      module _ (y : f ≡ 0) where
+        -- 7
+        pub items-short : ni < 1792 → (q : Refused) → q ≡ record { number = 7; place = 0 } → InputTested b s ni na nl q
+        items-short h q w =
+            let (a, g) = check-accepted b r e z in
+            refusing 7 q w (λ x. omega arith) (run-short b s ni a g (sym t ∙ y) h na nl)
+
+        module _ (i : 1792 ≤ ni) where
+          pub answers-short : na < 8240 → (q : Refused) → q ≡ record { number = 7; place = 0 } → InputTested b s ni na nl q
+          answers-short h q w =
+              let (a, g) = check-accepted b r e z in
+              refusing 7 q w (λ x. omega arith) (run-cramped b s ni a g (sym t ∙ y) i na nl h)
+
+          module _ (o : 8240 ≤ na) where
+            -- 14
+            pub list-short : nl < 192 → (q : Refused) → q ≡ record { number = 14; place = 0 } → InputTested b s ni na nl q
+            list-short h q w =
+                let (a, g) = check-accepted b r e z in
+                refusing 14 q w (λ x. omega arith) (run-unlisted b s ni a g (sym t ∙ y) i na nl o h)
+
+            pub all-good : 192 ≤ nl → (q : Refused) → q ≡ record { number = 0; place = 0 } → InputTested b s ni na nl q
+            all-good h q w =
+                let (a, g) = check-accepted b r e z in
+                rw w (record {
+                  good = λ _ items answers list l m n. record {
+                    ready = record { result = a; accepts = g; checked = sym t ∙ y; room = omega (arith, i, l) };
+                    space = omega (arith, o, m);
+                    entries = omega (arith, h, n);
+                  };
+                  bad = λ x. absurd (x refl);
+                })
+
+-- refused, with what the slices then hold
+pub input-refused :
+    (b s : List ℕ) (ni na nl : ℕ) (q : Refused)
+    → InputTested b s ni na nl q
+    → (q .number ≡ 0 → ⊥)
+    → (x : Option Ended)
+    → runAnswer (ok (refusedInput ni na nl (q .number) (placeOf (q .place)))) ≡ x
+    → runAnswer (run b s ni na nl) ≡ x
+input-refused b s ni na nl q t z x h = ap runAnswer (t .bad z) ∙ h
 
 -- ---- what splitting gave
 refusal-there : (o : Option Refusal) → (refusalNumber o ≡ 0 → ⊥) → (e : Refusal) × (o ≡ some e)
@@ -160,39 +177,65 @@ refusal-there (some e) z = (e, refl)
 
 -- ---- what is reported
 run-is :
-    (b s : List ℕ) (ni na : ℕ) (a : Accepted) (l : Line)
+    (b s : List ℕ) (ni na nl : ℕ) (a : Accepted) (l : Line)
     → checkForm b ≡ accepted a
     → sheetFault s ≡ 0
     → 1792 ≤ ni
     → 8240 ≤ na
+    → 192 ≤ nl
     → split (a .form) s ≡ ok l
-    → run b s ni na ≡ report ni na l (runLine (a .fields) l)
+    → run b s ni na nl ≡ report ni na nl l (runLine (a .fields) l)
 unfolding _>>=_
-run-is b s ni na a l e f i o h = run-goes b s ni a e f i na o ∙ rw h
+run-is b s ni na nl a l e f i o k h = run-goes b s ni a e f i na nl o k ∙ rw h
 
 abbrev with-outcome : Run (List Value) → Outcome (List Value) → Run (List Value)
 with-outcome r o = record { outcome = o; state = r .state; tries = r .tries; trace = r .trace }
 
-abbrev handed : ℕ → ℕ → Line → Told → Option Ended
-handed ni na l y =
+abbrev handed : ℕ → ℕ → ℕ → Line → List MissingItem → Told → Option Ended
+handed ni na nl l e y =
     ended (record { number = y .number; place = y .place; tries = y .tries; words = length (y .words); state = toRaw (y .state) })
     (padded ni (l .records))
     (padded na (y .words))
+    (padded nl (listWords e))
 
-reported-told : (ni na : ℕ) (l : Line) (r : Run (List Value)) (x : Told) → toldAll r ≡ some x → runAnswer (report ni na l r) ≡ handed ni na l x
-unfolding report reportWith runAnswer toldAll
-reported-told ni na l r x h = go (r .outcome) h
+reported-told :
+    (ni na nl : ℕ) (l : Line) (r : Run (List Value)) (x : Told)
+    → toldAll r ≡ some x
+    → runAnswer (report ni na nl l r) ≡ handed ni na nl l (missingOf r) x
+unfolding report reportWith runAnswer toldAll missingOf
+reported-told ni na nl l r x h = go (r .outcome) h
   where
-    go : (o : Outcome (List Value)) → toldAll (with-outcome r o) ≡ some x → runAnswer (report ni na l (with-outcome r o)) ≡ handed ni na l x
-    go (ok vs) e = ap (handed ni na l) (Option·some-injective _ x e)
-    go (refused v) e = ap (handed ni na l) (Option·some-injective _ x e)
+    go :
+        (o : Outcome (List Value))
+        → toldAll (with-outcome r o) ≡ some x
+        → runAnswer (report ni na nl l (with-outcome r o)) ≡ handed ni na nl l (missingOf (with-outcome r o)) x
+    go (ok vs) e = ap (handed ni na nl l []) (Option·some-injective _ x e)
+    go (refused v) e = ap (handed ni na nl l (v .missing)) (Option·some-injective _ x e)
     go (fault v) e = absurd (Option·none-ne-some x e)
 
--- ---- a checked input, its answer slice cleared, its sheet split
-module _ (form sheet i a : List ℕ) (c : CheckedInput form sheet i a) (a′ : List ℕ) (z : a′ ≡ sets a 0 (replicate (length a) 0)) (i′ : List ℕ) (x : Split)
+-- what is missing of an accepted form's fields fits the list
+reached-fits :
+    (b : List ℕ) (a : Accepted)
+    → checkForm b ≡ accepted a
+    → (is : List Item) (s : State)
+    → length (listWords (missingOf (runAll parsedMark is (a .fields) s))) ≤ 192
+unfolding missingOf
+reached-fits b a e is s = go (runAll parsedMark is (a .fields) s .outcome) refl
+  where
+    go : (o : Outcome (List Value)) → runAll parsedMark is (a .fields) s .outcome ≡ o → length (listWords (missingOf (runAll parsedMark is (a .fields) s))) ≤ 192
+    go (ok vs) h = rw (h, missingOf) (omega (arith, list-length []))
+    go (refused x) h = rw (h, missingOf) (omega (arith, list-length (x .missing), missing-told .fits b a e parsedMark is s x h))
+    go (fault x) h = rw (h, missingOf) (omega (arith, list-length []))
+
+-- ---- a checked input, its answer slice and its list cleared, its sheet split
+module _ (form sheet i a k : List ℕ) (c : CheckedInput form sheet i a k) (a′ : List ℕ) (z : a′ ≡ sets a 0 (replicate (length a) 0))
+    (k′ : List ℕ) (v : k′ ≡ sets k 0 (replicate (length k) 0)) (i′ : List ℕ) (x : Split)
     (w : SplitEnds (lettersOf (readForm form)) sheet (length i) i′ x) (m : List ℕ) (p : Numbers) (q : rawOf m p ≡ begun (x .count) (x .marker)) where
   cleared : a′ ≡ replicate (length a) 0
   cleared = z ∙ all-zero a (length a) refl
+
+  unlisted : k′ ≡ replicate (length k) 0
+  unlisted = v ∙ all-zero k (length k) refl
 
   state : rawOf m p ≡ toRaw (w .line .state)
   state = q ∙ w .state
@@ -201,19 +244,28 @@ module _ (form sheet i a : List ℕ) (c : CheckedInput form sheet i a) (a′ : L
   unfolding split
   splits = rw (accepted-form form (c .ready .result) (c .ready .accepts)) (w .same)
 
-  runs : run form sheet (length i) (length a) ≡ report (length i) (length a) (w .line) (runLine (c .ready .result .fields) (w .line))
-  runs = run-is form sheet (length i) (length a) (c .ready .result) (w .line) (c .ready .accepts) (c .ready .checked) (c .ready .room) (c .space) splits
+  form-splits : split (readForm form) sheet ≡ ok (w .line)
+  unfolding split
+  form-splits = w .same
+
+  runs : run form sheet (length i) (length a) (length k)
+      ≡ report (length i) (length a) (length k) (w .line) (runLine (c .ready .result .fields) (w .line))
+  runs =
+      run-is form sheet (length i) (length a) (length k) (c .ready .result) (w .line) (c .ready .accepts) (c .ready .checked)
+      (c .ready .room) (c .space) (c .entries) splits
 
   -- 8 or 9
-  pub splitting-refused : (x .number ≡ 0 → ⊥) → (r : Reached) → r ≡ refusedWith (x .number) (x .place) 0 p
-      → runAnswer (run form sheet (length i) (length a)) ≡ ended (answerOf r m) i′ a′
+  pub splitting-refused : (x .number ≡ 0 → ⊥) → (r : Reached) → r ≡ refusedWith (x .number) (x .place) 0 0 p
+      → runAnswer (run form sheet (length i) (length a) (length k)) ≡ ended (answerOf r m) i′ a′ k′
   unfolding report reportWith runAnswer runLine eval.ended
   splitting-refused y r h =
       let (e, there) = refusal-there (w .line .refusal) (λ n. y (w .number ∙ n)) in
       let number : e .number ≡ x .number = sym (w .number ∙ ap refusalNumber there) in
       let place : placeCode (e .place) ≡ x .place = sym (w .place ∙ ap refusalPlace there) in
+      let plain = line-plain form sheet (w .line) e there form-splits in
       ap runAnswer runs ∙ rw (there, runLine, h)
-      (answer-same number place refl refl (sym state) (sym (w .words)) (nothing-padded (length a) ∙ sym cleared))
+      (answer-same number place refl refl (sym state) (sym (w .words)) (nothing-padded (length a) ∙ sym cleared)
+      (no-entries-listed (length k) (e .missing) plain ∙ sym unlisted))
 
   module _ (y : x .number ≡ 0) where
     free : w .line .refusal ≡ none
@@ -248,48 +300,63 @@ module _ (form sheet i a : List ℕ) (c : CheckedInput form sheet i a) (a′ : L
     unfolding stateOf
     same-state = rw state (from-to (w .line .state))
 
-    pub fields-start : (codes : List ℕ) → CodedNames form codes → ItemsBegin form codes sheet i′ m p 0 a′
-    fields-start codes k = record {
+    pub fields-start : (codes : List ℕ) → CodedNames form codes → ItemsBegin form codes sheet i′ m p 0 a′ k′
+    fields-start codes h = record {
       result = c .ready .result;
       accepts = c .ready .accepts;
-      coded = k;
+      coded = h;
       made = c .ready .checked;
       state = record { items = w .line .items; table = table; same = count; fine = fine; told = subst (λ (z : ℕ). parsed z ≡ true) field-told field-parsed };
       small = omega arith;
       room = omega (arith, c .space, ap length cleared ∙ length-replicate {A = ℕ} (length a) 0);
       zeros = λ j. ap (λ (l : List ℕ). getD l j 0) cleared ∙ zero-at (length a) j;
+      entries = omega (arith, c .entries, fill-long k′ k 0 (length k) v);
     }
 
     pub fields-end :
-        (m′ a″ : List ℕ) (r : Reached)
-        → ((k : Accepted) → checkForm form ≡ accepted k → RunsAll (sheetArea sheet) i′ (k .fields) m p m′ a′ a″ r)
-        → runAnswer (run form sheet (length i) (length a)) ≡ ended (answerOf r m′) i′ a″
+        (m′ a″ k″ : List ℕ) (r : Reached)
+        → ((b : Accepted) → checkForm form ≡ accepted b → RunsListed (sheetArea sheet) i′ (b .fields) m p m′ a′ a″ k′ k″ r)
+        → runAnswer (run form sheet (length i) (length a) (length k)) ≡ ended (answerOf r m′) i′ a″ k″
     unfolding runLine
-    fields-end m′ a″ r reaches =
-        let u = reaches (c .ready .result) (c .ready .accepts) in
+    fields-end m′ a″ k″ r reaches =
+        let both = reaches (c .ready .result) (c .ready .accepts) in
+        let u = both .reached in
         let l = w .line in
         let all : runLine (c .ready .result .fields) l ≡ runAll parsedMark (l .items) (c .ready .result .fields) (stateOf m p) = rw (free, runLine, same-state) in
         let told = u .same (l .items) (table, count) in
-        ap runAnswer (runs ∙ ap (report (length i) (length a) l) all)
-        ∙ reported-told (length i) (length a) l (runAll parsedMark (l .items) (c .ready .result .fields) (stateOf m p)) _ told
+        let fits = reached-fits form (c .ready .result) (c .ready .accepts) (l .items) (stateOf m p) in
+        let entries = listWords (missingOf (runAll parsedMark (l .items) (c .ready .result .fields) (stateOf m p))) in
+        ap runAnswer (runs ∙ ap (report (length i) (length a) (length k) l) all)
+        ∙ reported-told (length i) (length a) (length k) l (runAll parsedMark (l .items) (c .ready .result .fields) (stateOf m p)) _ told
         ∙ answer-same refl refl refl (sym (u .count))
         (raw-back m′ (r .numbers) (u .left .fine) (u .left .long ∙ long))
         (sym (w .words))
         (sym (u .put ∙ ap (λ (o : List ℕ). sets o 0 (u .values)) cleared ∙ padded-words (u .values) (length a) (omega (arith, u .few, c .space))))
+        (sym (both .listed (l .items) (table, count) ∙ ap (λ (o : List ℕ). sets o 0 entries) unlisted
+        ∙ padded-words entries (length k) (omega (arith, fits, c .entries))))
 
     pub fields-long :
-        (m′ a″ : List ℕ) (r : Reached)
-        → ((k : Accepted) → checkForm form ≡ accepted k → RunsAll (sheetArea sheet) i′ (k .fields) m p m′ a′ a″ r)
+        (m′ a″ k″ : List ℕ) (r : Reached)
+        → ((b : Accepted) → checkForm form ≡ accepted b → RunsListed (sheetArea sheet) i′ (b .fields) m p m′ a′ a″ k′ k″ r)
         → length a″ ≡ length a
-    fields-long m′ a″ r reaches =
-        let u = reaches (c .ready .result) (c .ready .accepts) in
+    fields-long m′ a″ k″ r reaches =
+        let u = reaches (c .ready .result) (c .ready .accepts) .reached in
         ap length (u .put) ∙ length-sets a′ 0 (u .values) ∙ fill-long a′ a 0 (length a) z
+
+    pub list-long :
+        (m′ a″ k″ : List ℕ) (r : Reached)
+        → ((b : Accepted) → checkForm form ≡ accepted b → RunsListed (sheetArea sheet) i′ (b .fields) m p m′ a′ a″ k′ k″ r)
+        → length k″ ≡ length k
+    list-long m′ a″ k″ r reaches =
+        let u = reaches (c .ready .result) (c .ready .accepts) in
+        let entries = listWords (missingOf (runAll parsedMark (w .line .items) (c .ready .result .fields) (stateOf m p))) in
+        ap length (u .listed (w .line .items) (table, count)) ∙ length-sets k′ 0 entries ∙ fill-long k′ k 0 (length k) v
 
 -- ---- which nodes each item matches
 pub table-long : (l : List ℕ) → l ≡ replicate 257 0 → length l ≡ 257
 table-long l e = ap length e ∙ length-replicate {A = ℕ} 257 0
 
-module _ (b codes s words m : List ℕ) (p : Numbers) (first : ℕ) (o : List ℕ) (g : ItemsBegin b codes s words m p first o) (n : ℕ) (e : n ≡ p .count) where
+module _ (b codes s words m : List ℕ) (p : Numbers) (first : ℕ) (o l : List ℕ) (g : ItemsBegin b codes s words m p first o l) (n : ℕ) (e : n ≡ p .count) where
   pub items-few : n ≤ 256
   items-few = omega (arith, g .state .fine .small)
 
@@ -318,7 +385,57 @@ module _ (b codes s words m : List ℕ) (p : Numbers) (first : ℕ) (o : List �
     zeros = g .zeros;
   }
 
+  -- the fields have run: what is missing
+  module _ (known : List ℕ) (k : Known b (sheetArea s) words n known) (m′ o′ : List ℕ) (r : Reached)
+      (ran : (a : Accepted) → checkForm b ≡ accepted a → RunsAll (sheetArea s) words (a .fields) m p m′ o o′ r) where
+    pub unlisted-runs :
+        (r .number ≡ 20 → ⊥)
+        → (a : Accepted)
+        → checkForm b ≡ accepted a
+        → RunsListed (sheetArea s) words (a .fields) m p m′ o o′ l l r
+    unfolding listWords concatMap
+    unlisted-runs z a f = record {
+      reached = ran a f;
+      listed = λ is i. sym (ap (λ (x : List MissingItem). sets l 0 (listWords x)) (none-missing _ _ _ _ _ _ _ _ (items-start known k) a f _ _ _ _ (ran a f) z is i));
+    }
+
+    module _ (z : r .number ≡ 20) where
+      pub list-good : lengthGood b ≡ true
+      list-good = accepted-length b (g .result) (g .accepts)
+
+      pub list-inside : r .field < fieldCount b
+      list-inside = refused-inside _ _ _ _ _ _ _ _ (items-start known k) (g .result) (g .accepts) _ _ _ _ (ran (g .result) (g .accepts)) z
+
+      pub list-number : first + r .field < 18446744073709551616
+      list-number = refused-number _ _ _ _ _ _ _ _ (items-start known k) (g .result) (g .accepts) _ _ _ _ (ran (g .result) (g .accepts)) z
+
+      module _ (node : ℕ) (h : getElem? (readForm b .fields) (r .field) ≡ some node) (mark : ℕ) (em : mark ≡ parsedMark) where
+        pub list-begins : Listing b known s words m′ (r .numbers) mark node l
+        list-begins = record {
+          stands = refused-marked _ _ _ _ _ _ _ _ (items-start known k) (g .result) (g .accepts) _ _ _ _ (ran (g .result) (g .accepts)) z node h mark em;
+          room = g .entries;
+        }
+
+        pub list-runs :
+            (l′ : List ℕ) (stop : ℕ)
+            → ((t : Tree) → treeAt b node ≡ some t → Lists mark (sheetArea s) words t m′ (r .numbers) 0 l l′ stop)
+            → (a : Accepted)
+            → checkForm b ≡ accepted a
+            → RunsListed (sheetArea s) words (a .fields) m p m′ o o′ l l′ r
+        list-runs l′ stop lists a f =
+            let start = items-start known k in
+            let there = refused-field _ _ _ _ _ _ _ _ start a f _ _ _ _ (ran a f) z node h in
+            let w = lists (there .tree) (there .node) in
+            record {
+              reached = ran a f;
+              listed = λ is i.
+                  w .put
+                  ∙ ap (sets l 0) (sym (w .same is (left-items _ _ _ _ _ _ _ _ start a f _ _ _ _ (ran a f) is i)))
+                  ∙ ap (λ (u : ℕ). sets l 0 (listWords (lacking u is (there .tree) (stateOf m′ (r .numbers))))) em
+                  ∙ ap (λ (x : List MissingItem). sets l 0 (listWords x)) (sym (refused-missing _ _ _ _ _ _ _ _ start a f _ _ _ _ (ran a f) z node h is i));
+            }
+
 -- ---- the state, put together
-pub joined-answer : (x : Option Ended) (r : Reached) (m i a : List ℕ) (s : Raw) → x ≡ ended (answerOf r m) i a → s ≡ rawOf m (r .numbers)
-    → x ≡ ended (record { number = r .number; place = r .place; tries = r .tries; words = r .words; state = s }) i a
-joined-answer x r m i a s e h = e ∙ answer-same refl refl refl refl (sym h) refl refl
+pub joined-answer : (x : Option Ended) (r : Reached) (m i a l : List ℕ) (s : Raw) → x ≡ ended (answerOf r m) i a l → s ≡ rawOf m (r .numbers)
+    → x ≡ ended (record { number = r .number; place = r .place; tries = r .tries; words = r .words; state = s }) i a l
+joined-answer x r m i a l s e h = e ∙ answer-same refl refl refl refl (sym h) refl refl refl

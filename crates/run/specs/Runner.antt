@@ -1,30 +1,34 @@
 -- What the run hands back, for what the rules report.
-use mathlib.Core.Bool.{Bool, _||_}
 use mathlib.Core.List.{List}
 use mathlib.Core.Option.{Option, some, none}
 use mathlib.Core.Path.{_≡_}
 use Prim.Native.Nat.{ℕ, _≤_}
-use lib.Dec.{ltb}
 use lib.ListN.{length, getD}
-use Rattle.rules.specs.Outcome.{Outcome, ok, refused, fault}
-use Rattle.rules.specs.Codes.{placeCode}
+use lib.Seq.{sets}
+use Rattle.rules.specs.Outcome.{Outcome, ok, refused, fault, listWords}
+use Rattle.rules.specs.Codes.{placeCode, placeOf}
 use Rattle.rules.specs.Sheet.{sheetArea, sheetFault}
+use Rattle.rules.specs.Tree.{Tree}
 use Rattle.rules.specs.Accept.{Accepted, accepted, checkForm}
-use Rattle.rules.specs.Run.{Report, parsedMark}
+use Rattle.rules.specs.Split.{Item}
+use Rattle.rules.specs.Run.{Report, parsedMark, runAll, refusedInput, run}
 use Rattle.rules.specs.Calls.{toRaw}
+use Rattle.rules.specs.declared.Refused.{Refused}
 use Rattle.state_marks.specs.declared.Numbers.{Numbers}
-use Rattle.state_marks.specs.Lent.{rawOf}
+use Rattle.state_marks.specs.Lent.{rawOf, stateOf}
 use Rattle.form_codes.specs.Codes.{CodedNames}
 use Rattle.take_search.specs.States as states
 use Rattle.run_fields.specs.declared.Reached.{Reached}
+use Rattle.run_fields.specs.Line.{missingOf, RunsAll}
 use Rattle.split_line.specs.Input.{Splittable}
 use Rattle.run_fields.specs.declared.RunAnswer.{RunAnswer}
 
--- the answer, and what both slices hold
+-- the answer, and what the three slices hold
 pub record Ended : Type 0 where
   pub answer : RunAnswer
   pub items : List ℕ
   pub answers : List ℕ
+  pub list : List ℕ
 
 -- a fault has no answer
 unfoldable pub runAnswer : Outcome Report → Option Ended
@@ -38,12 +42,13 @@ runAnswer (ok x) = some (record {
   };
   items = x .items;
   answers = x .answers;
+  list = x .list;
 })
 runAnswer (refused e) = none
 runAnswer (fault x) = none
 
-abbrev pub ended : RunAnswer → List ℕ → List ℕ → Option Ended
-ended r items answers = some (record { answer = r; items = items; answers = answers })
+abbrev pub ended : RunAnswer → List ℕ → List ℕ → List ℕ → Option Ended
+ended r items answers list = some (record { answer = r; items = items; answers = answers; list = list })
 
 -- what was reached, with the marks that are left
 abbrev pub answerOf : Reached → List ℕ → RunAnswer
@@ -55,18 +60,21 @@ answerOf r m = record {
   state = rawOf m (r .numbers);
 }
 
--- 7, as it is tested: the lengths of the item slice and of the answer slice
-unfoldable pub shortSlices : ℕ → ℕ → Bool
-shortSlices ni na = ltb ni 1792 || ltb na 8240
-
 -- ---- what is known once every test is passed
-pub record CheckedInput (form sheet items answers : List ℕ) : Type 0 where
+pub record CheckedInput (form sheet items answers list : List ℕ) : Type 0 where
   pub ready : Splittable form sheet items
   pub space : 8240 ≤ length answers
+  pub entries : 192 ≤ length list
 
--- the items of an accepted form's line, the codes of its names, a state over the items, the number of the first field, and an
--- answer slice of zeros
-pub record ItemsBegin (b codes s words m : List ℕ) (p : Numbers) (first : ℕ) (o : List ℕ) : Type 0 where
+-- what the tests of the input tell: number 0, or the refusal
+pub record InputTested (form sheet : List ℕ) (ni na nl : ℕ) (r : Refused) : Type 0 where
+  pub good : r .number ≡ 0 → (items answers list : List ℕ) → length items ≡ ni → length answers ≡ na → length list ≡ nl
+      → CheckedInput form sheet items answers list
+  pub bad : (r .number ≡ 0 → ⊥) → run form sheet ni na nl ≡ ok (refusedInput ni na nl (r .number) (placeOf (r .place)))
+
+-- the items of an accepted form's line, the codes of its names, a state over the items, the number of the first field, an answer
+-- slice of zeros and a list with room
+pub record ItemsBegin (b codes s words m : List ℕ) (p : Numbers) (first : ℕ) (o l : List ℕ) : Type 0 where
   pub result : Accepted
   pub accepts : checkForm b ≡ accepted result
   pub coded : CodedNames b codes
@@ -75,3 +83,10 @@ pub record ItemsBegin (b codes s words m : List ℕ) (p : Numbers) (first : ℕ)
   pub small : first ≤ 4096
   pub room : 8240 ≤ length o
   pub zeros : (k : ℕ) → getD o k 0 ≡ 0
+  pub entries : 192 ≤ length l
+
+-- ---- what the run of all fields reaches, and the list, written from the first word on
+pub record RunsListed (area words : List ℕ) (fields : List Tree) (m : List ℕ) (p : Numbers) (m′ o o′ l l′ : List ℕ) (r : Reached) : Type 0 where
+  pub reached : RunsAll area words fields m p m′ o o′ r
+  pub listed : (is : List Item) → states.Items area words p is
+      → l′ ≡ sets l 0 (listWords (missingOf (runAll parsedMark is fields (stateOf m p))))

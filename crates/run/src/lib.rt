@@ -9,8 +9,10 @@ ghost use Rattle.rules.specs.Run.{refusedInput};
 ghost use Rattle.rules.specs.Run as Run;
 ghost use Rattle.rules.specs.Codes.{placeOf};
 ghost use Rattle.split_args.specs.Construct.{Unmarked};
-ghost use Rattle.run_fields.specs.Line.{RunsAll};
-ghost use Rattle.run.specs.Runner.{runAnswer, ended, answerOf, CheckedInput, ItemsBegin, shortSlices};
+ghost use Rattle.run.specs.Runner.{runAnswer, ended, answerOf, CheckedInput, InputTested, ItemsBegin, RunsListed};
+use eval_missing::MISSING;
+use eval_missing::MISSING_WORDS;
+use rules::Refused;
 use run_fields::ANSWER_WORDS;
 use run_fields::Reached;
 use run_fields::RunAnswer;
@@ -18,15 +20,31 @@ use split_arg::ITEM_WORDS;
 use state_marks::Numbers;
 use wire::wide;
 
-// The refusal of a slice that is too short.
+// The refusals of an item or answer slice that is too short, and of such a list.
 const SHORT_SLICE: u32 = 7;
 
-// Refused because of the input: both slices all 0, an empty state.
-fn refused_input(number: u32, place: u32, items: &mut [u32], answers: &mut [u32]) -> Reached
-    ensures { λ r. ⌜ runAnswer (ok (refusedInput (length (now (items .entry))) (length (now (answers .entry))) number (placeOf place))) ≡ ended (answerOf r (replicate 256 0)) (now (items .exit)) (now (answers .exit)) ⌝ }
+const SHORT_LIST: u32 = 14;
+
+// A refusal at no place.
+fn refusal(number: u32) -> Refused
+    ensures { λ r. ⌜ r ≡ record { number = number; place = 0 } ⌝ }
+{
+    Refused { number, place: 0 }
+}
+
+// Refused because of the input: all three slices all 0, an empty state.
+fn refused_input(
+    number: u32,
+    place: u32,
+    items: &mut [u32],
+    answers: &mut [u32],
+    list: &mut [u32],
+) -> Reached
+    ensures { λ r. ⌜ runAnswer (ok (refusedInput (length (now (items .entry))) (length (now (answers .entry))) (length (now (list .entry))) number (placeOf place))) ≡ ended (answerOf r (replicate 256 0)) (now (items .exit)) (now (answers .exit)) (now (list .exit)) ⌝ }
 {
     wire::fill(items, 0, items.len(), 0);
     wire::fill(answers, 0, answers.len(), 0);
+    wire::fill(list, 0, list.len(), 0);
     let none = Numbers {
         count: 0,
         remaining: 0,
@@ -34,11 +52,11 @@ fn refused_input(number: u32, place: u32, items: &mut [u32], answers: &mut [u32]
         start: 0,
         end: 0,
     };
-    run_fields::refused(number, place, 0, none)
+    run_fields::refused(number, place, 0, 0, none)
 }
 
 // The fields of a form, of which the first has number `first`, on items in a state, whose numbers tell the scope. Which nodes each
-// item matches is worked out once, before the first field.
+// item matches is worked out once, before the first field. Refused with 20, the list tells what the refused field lacks.
 pub fn run_items(
     form: &[u8],
     codes: &[u32],
@@ -48,45 +66,69 @@ pub fn run_items(
     p: Numbers,
     first: usize,
     answers: &mut [u32],
+    list: &mut [u32],
 ) -> Reached
-    requires { ⌜ ItemsBegin (now form) (now codes) (now sheet) (now items) (now marks) p first (now answers) ⌝ }
-    ensures { λ r. ⌜ ((a : Accepted) → checkForm (now (form .entry)) ≡ accepted a → RunsAll (sheetArea (now (sheet .entry))) (now (items .entry)) (a .fields) (now (marks .entry)) p (now (marks .exit)) (now (answers .entry)) (now (answers .exit)) r) ⌝ }
+    requires { ⌜ ItemsBegin (now form) (now codes) (now sheet) (now items) (now marks) p first (now answers) (now list) ⌝ }
+    ensures { λ r. ⌜ ((a : Accepted) → checkForm (now (form .entry)) ≡ accepted a → RunsListed (sheetArea (now (sheet .entry))) (now (items .entry)) (a .fields) (now (marks .entry)) p (now (marks .exit)) (now (answers .entry)) (now (answers .exit)) (now (list .entry)) (now (list .exit)) r) ⌝ }
 {
     let mut known = run_fields::nothing_known();
     take_table::known(form, codes, sheet, items, wide(p.count), &mut known);
-    run_fields::run_fields(form, &known, sheet, items, marks, p, first, answers)
+    let all = run_fields::run_fields(form, &known, sheet, items, marks, p, first, answers);
+    if all.number == MISSING {
+        let node = form_layout::field_at(form, all.field);
+        let mark = run_fields::field_mark(first + all.field);
+        let left = all.numbers;
+        eval_missing::list_missing(form, &known, sheet, items, marks, left, node, list, mark);
+    }
+    all
 }
 
-// An accepted form, a checked sheet, and room in both slices: the items, then the fields on the state that they start in.
+// An accepted form, a checked sheet, and room in the slices: the items, then the fields on the state that they start in.
 fn run_checked(
     form: &[u8],
     sheet: &[u8],
     items: &mut [u32],
     answers: &mut [u32],
+    list: &mut [u32],
     marks: &mut [u16; 256],
 ) -> Reached
-    requires { ⌜ CheckedInput (now form) (now sheet) (now items) (now answers) × Unmarked (now marks) ⌝ }
-    ensures { λ r. ⌜ runAnswer (Run.run (now (form .entry)) (now (sheet .entry)) (length (now (items .entry))) (length (now (answers .entry)))) ≡ ended (answerOf r (now (marks .exit))) (now (items .exit)) (now (answers .exit)) ⌝ }
+    requires { ⌜ CheckedInput (now form) (now sheet) (now items) (now answers) (now list) × Unmarked (now marks) ⌝ }
+    ensures { λ r. ⌜ runAnswer (Run.run (now (form .entry)) (now (sheet .entry)) (length (now (items .entry))) (length (now (answers .entry))) (length (now (list .entry)))) ≡ ended (answerOf r (now (marks .exit))) (now (items .exit)) (now (answers .exit)) (now (list .exit)) ⌝ }
 {
     wire::fill(answers, 0, answers.len(), 0);
+    wire::fill(list, 0, list.len(), 0);
     let mut codes = form_codes::no_codes();
     form_codes::codes(form, &mut codes);
     let split = split_line::split(form, &codes, sheet, items);
     let p = split_args::begin(split.count, split.marker, marks);
     if split.number != 0 {
-        return run_fields::refused(split.number, split.place, 0, p);
+        return run_fields::refused(split.number, split.place, 0, 0, p);
     }
-    run_items(form, &codes, sheet, items, marks, p, 0, answers)
+    run_items(form, &codes, sheet, items, marks, p, 0, answers, list)
 }
 
-// Whether one of the slices is too short.
-fn is_short(items: usize, answers: usize) -> bool
-    ensures { λ r. ⌜ r ≡ shortSlices items answers ⌝ }
+// Refusals 1 to 7, then 14, in this order, of a form, a sheet and the lengths of the slices; number 0 if there is none.
+fn input_fault(form: &[u8], sheet: &[u8], items: usize, answers: usize, list: usize) -> Refused
+    ensures { λ r. ⌜ InputTested (now (form .entry)) (now (sheet .entry)) items answers list r ⌝ }
 {
-    if items < ITEM_WORDS {
-        return true;
+    let checked = form_check::check(form);
+    if checked.number != 0 {
+        return checked;
     }
-    answers < ANSWER_WORDS
+    let fault = split_sheet::check(sheet);
+    if fault != 0 {
+        return refusal(fault);
+    }
+    if items < ITEM_WORDS {
+        return refusal(SHORT_SLICE);
+    }
+    if answers < ANSWER_WORDS {
+        return refusal(SHORT_SLICE);
+    }
+    if list < MISSING_WORDS {
+        return refusal(SHORT_LIST);
+    }
+    refusal(0)
 }
 
 // The run over marks that are 0.
@@ -95,31 +137,31 @@ fn run_input(
     sheet: &[u8],
     items: &mut [u32],
     answers: &mut [u32],
+    list: &mut [u32],
     marks: &mut [u16; 256],
 ) -> Reached
     requires { ⌜ Unmarked (now marks) ⌝ }
-    ensures { λ r. ⌜ runAnswer (Run.run (now (form .entry)) (now (sheet .entry)) (length (now (items .entry))) (length (now (answers .entry)))) ≡ ended (answerOf r (now (marks .exit))) (now (items .exit)) (now (answers .exit)) ⌝ }
+    ensures { λ r. ⌜ runAnswer (Run.run (now (form .entry)) (now (sheet .entry)) (length (now (items .entry))) (length (now (answers .entry))) (length (now (list .entry)))) ≡ ended (answerOf r (now (marks .exit))) (now (items .exit)) (now (answers .exit)) (now (list .exit)) ⌝ }
 {
-    let checked = form_check::check(form);
-    if checked.number != 0 {
-        return refused_input(checked.number, checked.place, items, answers);
+    let tested = input_fault(form, sheet, items.len(), answers.len(), list.len());
+    if tested.number != 0 {
+        return refused_input(tested.number, tested.place, items, answers, list);
     }
-    let fault = split_sheet::check(sheet);
-    if fault != 0 {
-        return refused_input(fault, 0, items, answers);
-    }
-    if is_short(items.len(), answers.len()) {
-        return refused_input(SHORT_SLICE, 0, items, answers);
-    }
-    run_checked(form, sheet, items, answers, marks)
+    run_checked(form, sheet, items, answers, list, marks)
 }
 
-// A form and a sheet, to items, answer words and a state. The state is put together once, here.
-pub fn run(form: &[u8], sheet: &[u8], items: &mut [u32], answers: &mut [u32]) -> RunAnswer
-    ensures { λ r. ⌜ runAnswer (Run.run (now (form .entry)) (now (sheet .entry)) (length (now (items .entry))) (length (now (answers .entry)))) ≡ some (record { answer = r; items = now (items .exit); answers = now (answers .exit) }) ⌝ }
+// A form and a sheet, to items, answer words, a list of what is missing, and a state. The state is put together once, here.
+pub fn run(
+    form: &[u8],
+    sheet: &[u8],
+    items: &mut [u32],
+    answers: &mut [u32],
+    list: &mut [u32],
+) -> RunAnswer
+    ensures { λ r. ⌜ runAnswer (Run.run (now (form .entry)) (now (sheet .entry)) (length (now (items .entry))) (length (now (answers .entry))) (length (now (list .entry)))) ≡ some (record { answer = r; items = now (items .exit); answers = now (answers .exit); list = now (list .exit) }) ⌝ }
 {
     let mut marks = split_args::unmarked();
-    let all = run_input(form, sheet, items, answers, &mut marks);
+    let all = run_input(form, sheet, items, answers, list, &mut marks);
     let left = all.numbers;
     RunAnswer {
         number: all.number,

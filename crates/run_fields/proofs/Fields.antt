@@ -10,26 +10,32 @@ use lib.ListN.{length, getElem?}
 use Rattle.rules.specs.Form.{Node, Form, nodeCount, fieldCount, readForm}
 use Rattle.rules.specs.Tree.{Tree, kindOf}
 use Rattle.rules.specs.Accept.{Accepted, accepted, checkForm, lengthGood, treesAt}
-use Rattle.rules.specs.Sound.{Sound, leaves, allLeaves}
+use Rattle.rules.specs.Split.{Item}
+use Rattle.rules.specs.State.{State}
+use Rattle.rules.specs.Run.{parsedMark}
+use Rattle.rules.specs.Missing.{lacking}
+use Rattle.rules.specs.Sound.{Sound, leaves}
 use Rattle.rules.proofs.Acceptance.{All-at, fields-step, accepted-passed, accepted-length, accepted-form, accepted-sound, accepted-fields}
+use Rattle.rules.proofs.MissingLaws.{leaves-within}
 use Rattle.rules.proofs.Uses.{leaves-law, leaf-few}
 use Rattle.form_layout.specs.Layout.{nodeOf}
 use Rattle.form_layout.specs.declared.Node as declared
 use Rattle.form_layout.proofs.Sizes.{sized, nodes-length, fields-length}
 use Rattle.state_marks.specs.declared.Numbers.{Numbers}
+use Rattle.take_search.specs.States.{LeftState}
 use Rattle.eval_told.specs.declared.Ran.{Ran}
 use Rattle.eval_told.specs.Results.{written}
 use Rattle.eval_told.specs.Told.{Evaluates, scalarWords}
 use Rattle.eval_told.specs.Nodes.{treeAt, isScalar}
-use Rattle.eval_shortcut.specs.Stands.{Scalar}
+use Rattle.eval_shortcut.specs.Stands.{Standing, Scalar}
 use Rattle.eval_told.proofs.NodeLaw.{at-tree}
 use Rattle.eval_words.specs.Stored.{Put}
 use Rattle.eval_shortcut.proofs.Words.{scalar-short}
 use Rattle.eval_shortcut.proofs.Trees.{form-good, node-inside}
 use Rattle.eval_list.specs.Lists.{MarkedField}
 use Rattle.eval_list.specs.Lists.{Listed, Writes}
-use Rattle.run_fields.specs.Line.{FieldReady, PutValue}
-use Rattle.run_fields.proofs.Shapes.{single-here}
+use Rattle.eval_shortcut.proofs.Shapes.{single-here}
+use Rattle.run_fields.specs.Line.{Starts, FieldReady, PutValue, lackingField}
 
 -- ---- one field
 module _
@@ -119,12 +125,6 @@ pub value-put :
 value-put o at o′ x len r w q = rw q (record { put = w; same = refl })
 
 -- ---- the fields of an accepted form
-leaves-within : (ts : List Tree) (k : ℕ) (t : Tree) → getElem? ts k ≡ some t → leaves t ≤ allLeaves ts
-unfolding allLeaves
-leaves-within [] k t e = absurd (Option·none-ne-some t e)
-leaves-within (u ∷ ts) zero t e = let h = ap leaves (Option·some-injective u t e) in omega arith
-leaves-within (u ∷ ts) (suc k) t e = let h = leaves-within ts k t e in omega arith
-
 fields-at :
     (ts : List Tree) (ks : List ℕ) (us : List Tree)
     → treesAt ts ks ≡ some us
@@ -172,4 +172,38 @@ module _ (b : List ℕ) (a : Accepted) (e : checkForm b ≡ accepted a) where
         node = at-tree b a e n ∙ y;
         sound = All-at Sound (a .fields) k t (accepted-sound b a e) x;
         light = omega arith;
+      }
+
+-- what field k lacks
+pub lacking-here :
+    (is : List Item) (fields : List Tree) (k : ℕ) (t : Tree)
+    → getElem? fields k ≡ some t
+    → (s : State)
+    → lackingField is fields k s ≡ lacking parsedMark is t s
+unfolding lackingField
+lacking-here is fields k t here s = rw (here, lackingField) refl
+
+-- field k stands in every state that the run leaves
+module _ (b known s words m : List ℕ) (p : Numbers) (first : ℕ) (o : List ℕ) (start : Starts b known s words m p first o) where
+  pub field-stands :
+      (m′ : List ℕ) (q : Numbers)
+      → LeftState m p m′ q
+      → (k n : ℕ)
+      → getElem? (readForm b .fields) k ≡ some n
+      → Standing b known s words m′ q parsedMark n
+  field-stands m′ q l k n h =
+      let mine = field b (start .result) (start .accepts) k n h in
+      record {
+        tree = mine .tree;
+        node = mine .node;
+        light = mine .light;
+        made = start .made;
+        state = record {
+          items = start .state .items;
+          table = start .state .table;
+          same = start .state .same ∙ sym (l .count);
+          fine = l .fine;
+          told = start .state .told;
+        };
+        knows = start .knows;
       }

@@ -1,5 +1,5 @@
 -- The loop over the fields: what is told of those that are still to run, behind those that have run, is the whole.
-use mathlib.Core.Bool.{true}
+use mathlib.Core.Bool.{Bool, true, false}
 use mathlib.Core.List.{List, [], _∷_, _++_, append-nil}
 use mathlib.Core.Option.{Option, some, none, Option·some-injective}
 use mathlib.Core.Path.{_≡_, refl, sym, ap, _∙_, subst}
@@ -7,9 +7,11 @@ use Prim.Native.Nat.{ℕ, suc, _+_, _-_, _*_, _≤_, _<_}
 use native.Mathlib.Nat.{zero-add, mul-le-mul}
 use native.Mathlib.Numerals.{add-one}
 use native.Mathlib.Omega.{arith}
+use lib.Dec.{eqb}
 use lib.ListN.{length, getD, set, drop, getElem?, replicate, length-append, drop-of-length-le}
 use lib.Seq.{sets, length-sets, getD-set-other}
-use Rattle.rules.specs.Outcome.{Outcome, ok, refused, fault, Refusal}
+use Rattle.utf8.specs.Utf8.{if_then_else_}
+use Rattle.rules.specs.Outcome.{Outcome, ok, refused, fault, Refusal, isMissing}
 use Rattle.rules.specs.Value.{Value, words, answerWords}
 use Rattle.rules.specs.Codes.{placeCode}
 use Rattle.rules.specs.Form.{fieldCount, readForm}
@@ -20,17 +22,18 @@ use Rattle.rules.specs.Split.{Item}
 use Rattle.rules.specs.State.{State}
 use Rattle.rules.specs.Eval.{Ran as Run, ended, after, _then_, eval}
 use Rattle.rules.specs.Run.{parsedMark, runFields}
+use Rattle.rules.specs.Missing.{lacking, Lacks}
 use Rattle.rules.specs.Sound.{Good, leaves}
 use Rattle.rules.proofs.Acceptance.{accepted-same, accepted-length}
 use Rattle.rules.proofs.EvalSound.{eval-sound}
 use Rattle.rules.proofs.StepLaws.{remaining-within}
 use Rattle.rules.proofs.Fields.{most-leaves}
 use Rattle.rules.proofs.Places.{drop-below}
+use Rattle.rules.proofs.MissingLaws.{missing-told}
 use Rattle.rules.proofs.Steps.{Runs, most}
 use Rattle.state_marks.specs.declared.Numbers.{Numbers}
 use Rattle.state_marks.specs.Lent.{stateOf, Fine}
 use Rattle.take_search.specs.States.{LeftState, Items}
-use Rattle.take_search.specs.States as states
 use Rattle.eval_told.specs.declared.Ran.{Ran}
 use Rattle.eval_told.specs.Told.{Told, told, toldWith, Numbered}
 use Rattle.eval_told.specs.Nodes.{treeAt}
@@ -39,8 +42,8 @@ use Rattle.eval_told.proofs.Repeats.{append-three, told-state, told-tries, told
 use Rattle.eval_words.proofs.Words.{sets-append, sets-back}
 use Rattle.run_fields.specs.declared.Reached.{Reached}
 use Rattle.eval_list.specs.Lists.{Writes, WritesField}
-use Rattle.run_fields.specs.Line.{Starts, FieldReady, toldAll, RunsFields, refusedWith, valuesOf}
-use Rattle.run_fields.proofs.Fields.{FieldAt, field, form-long, few-fields, field-count}
+use Rattle.run_fields.specs.Line.{Starts, FieldReady, toldAll, missingOf, lackingField, RunsFields, refusedWith, valuesOf}
+use Rattle.run_fields.proofs.Fields.{FieldAt, field, field-stands, form-long, few-fields, field-count, lacking-here}
 
 -- ---- what is told behind so many tries and these words
 unfoldable pub behind : ℕ → List ℕ → Run (List Value) → Option Told
@@ -74,6 +77,10 @@ behind-nothing r = go (r .outcome)
     go (refused e) = told-same refl refl (omega arith) refl refl
     go (fault x) = refl
 
+-- a field, and then the others
+abbrev next : Run Value → (State → Run (List Value)) → Run (List Value)
+next r rest = r then λ v u. rest u then λ vs q. ended (ok (v ∷ vs)) q
+
 module _ (n : ℕ) (w : List ℕ) (r : Run Value) where
   behind-front : (v : Value) (q : Run (List Value)) → behind n w (after r (q then λ vs u. ended (ok (v ∷ vs)) u)) ≡ behind (n + r .tries) (w ++ words v) q
   unfolding behind _then_ after ended answerWords
@@ -88,17 +95,47 @@ module _ (n : ℕ) (w : List ℕ) (r : Run Value) where
       go (fault x) = refl
 
   module _ (rest : State → Run (List Value)) where
-    abbrev next : Run (List Value)
-    next = r then λ v u. rest u then λ vs q. ended (ok (v ∷ vs)) q
-
-    behind-value : (v : Value) → r .outcome ≡ ok v → behind n w next ≡ behind (n + r .tries) (w ++ words v) (rest (r .state))
+    behind-value : (v : Value) → r .outcome ≡ ok v → behind n w (next r rest) ≡ behind (n + r .tries) (w ++ words v) (rest (r .state))
     unfolding _then_ after
     behind-value v e = rw (e, _then_) (behind-front v (rest (r .state)))
 
-    behind-refused : (e : Refusal) → r .outcome ≡ refused e → behind n w next
+    behind-refused : (e : Refusal) → r .outcome ≡ refused e → behind n w (next r rest)
         ≡ some (record { number = e .number; place = placeCode (e .place); tries = n + r .tries; words = []; state = r .state })
     unfolding behind _then_ after ended
     behind-refused e h = rw (h, _then_) (told-same refl refl (omega arith) refl refl)
+
+-- ---- what was missing: of the first that is refused
+module _ (r : Run Value) where
+  missing-front : (v : Value) (q : Run (List Value)) → missingOf (after r (q then λ vs u. ended (ok (v ∷ vs)) u)) ≡ missingOf q
+  unfolding missingOf _then_ after ended
+  missing-front v q = go (q .outcome)
+    where
+      go : (o : Outcome (List Value)) → missingOf (after r (with-outcome q o then λ vs u. ended (ok (v ∷ vs)) u)) ≡ missingOf (with-outcome q o)
+      go (ok vs) = refl
+      go (refused e) = refl
+      go (fault x) = refl
+
+  module _ (rest : State → Run (List Value)) where
+    missing-value : (v : Value) → r .outcome ≡ ok v → missingOf (next r rest) ≡ missingOf (rest (r .state))
+    unfolding _then_ after
+    missing-value v e = rw (e, _then_) (missing-front v (rest (r .state)))
+
+    missing-refused : (e : Refusal) → r .outcome ≡ refused e → missingOf (next r rest) ≡ e .missing
+    unfolding missingOf _then_ after ended
+    missing-refused e h = rw (h, _then_) refl
+
+-- of a field that is refused: what it lacks in the state that it left
+module _ (is : List Item) (fields : List Tree) (k : ℕ) (t : Tree) (here : getElem? fields k ≡ some t) where
+  field-lacks :
+      (s left : State) (e : Refusal)
+      → Lacks (lacking parsedMark is t s) s left e
+      → e .missing ≡ (if isMissing e then lackingField is fields k left else [])
+  unfolding if_then_else_
+  field-lacks s left e l = go (isMissing e) refl
+    where
+      go : (b : Bool) → isMissing e ≡ b → e .missing ≡ (if b then lackingField is fields k left else [])
+      go true q = l .listed q ∙ ap (lacking parsedMark is t) (sym (l .unchanged q)) ∙ sym (lacking-here is fields k t here left)
+      go false q = l .only q
 
 -- a refusal has no words
 denied-words : (r : Run Value) (x : Told) (e : Refusal) → told r ≡ some x → r .outcome ≡ refused e → x .words ≡ []
@@ -126,6 +163,9 @@ pub record Going (b known s words m₀ : List ℕ) (p₀ : Numbers) (first : ℕ
   pub same : (is : List Item) → Items (sheetArea s) words p₀ is
       → toldAll (runFields parsedMark is (start .result .fields) (stateOf m₀ p₀))
       ≡ behind tries values (runFields parsedMark is (drop k (start .result .fields)) (stateOf m p))
+  pub lost : (is : List Item) → Items (sheetArea s) words p₀ is
+      → missingOf (runFields parsedMark is (start .result .fields) (stateOf m₀ p₀))
+      ≡ missingOf (runFields parsedMark is (drop k (start .result .fields)) (stateOf m p))
   pub size : at ≡ length values
   pub put : o ≡ sets o₀ 0 values
   pub within : k ≤ length (start .result .fields)
@@ -150,6 +190,7 @@ module _ (b known s words m₀ : List ℕ) (p₀ : Numbers) (first : ℕ) (o₀ 
       count = c;
       values = [];
       same = λ is h. behind-nothing (runFields mark is (start .result .fields) (stateOf m₀ p₀));
+      lost = λ is h. refl;
       size = refl;
       put = refl;
       within = omega arith;
@@ -197,21 +238,12 @@ module _ (b known s words m₀ : List ℕ) (p₀ : Numbers) (first : ℕ) (o₀ 
         let z = g .size in
         ap (λ (l : List ℕ). getD l j 0) (g .put) ∙ sets-after (g .values) o₀ 0 j (omega arith) ∙ start .zeros j
 
-    abbrev ready : states.CanTake (sheetArea s) words m p mark
-    ready = record {
-      items = start .state .items;
-      table = start .state .table;
-      same = start .state .same ∙ sym (g .left .count);
-      fine = g .left .fine;
-      told = start .state .told;
-    }
-
     items : (is : List Item) → Items (sheetArea s) words p₀ is → Items (sheetArea s) words p is
     items is h = (h .0, h .1 ∙ sym (g .left .count))
 
     pub going-end : n ≤ k → (r : Reached) → r ≡ valuesOf tries at p
         → (x : Accepted) → checkForm b ≡ accepted x → RunsFields (sheetArea s) words (x .fields) m₀ p₀ m o₀ o r
-    unfolding runFields ended behind answerWords
+    unfolding runFields ended behind answerWords missingOf if_then_else_
     going-end l r q =
         let few = field-count b a e in
         let none-left : drop k (a .fields) ≡ [] = drop-of-length-le (a .fields) {i = k} (omega (arith, g .count)) in
@@ -227,6 +259,9 @@ module _ (b known s words m₀ : List ℕ) (p₀ : Numbers) (first : ℕ) (o₀ 
           put = g .put;
           few = omega (arith, g .size, g .near, g .within, few-fields b a e, g .count);
           left = g .left;
+          lacks = λ is i.
+              g .lost is i ∙ ap (λ (l : List Tree). missingOf (runFields mark is l (stateOf m p))) none-left;
+          inside = λ z. omega arith;
         }))
 
     module _ (l : k < n) (node : ℕ) (h : getElem? (readForm b .fields) k ≡ some node) (u : ℕ) (eu : u ≡ parsedMark) where
@@ -235,14 +270,7 @@ module _ (b known s words m₀ : List ℕ) (p₀ : Numbers) (first : ℕ) (o₀ 
 
       pub going-field : FieldReady b known s words m p (record { node = node; at = at; mark = u }) o
       going-field = rw eu (record {
-        stands = record {
-          tree = mine .tree;
-          node = mine .node;
-          light = mine .light;
-          made = start .made;
-          state = ready;
-          knows = start .knows;
-        };
+        stands = field-stands b known s words m₀ p₀ first o₀ start m p (g .left) k node h;
         space = record { room = omega (arith, g .near, few-fields b a e, g .count, going-long, start .room); zeros = zeros };
       })
 
@@ -266,10 +294,29 @@ module _ (b known s words m₀ : List ℕ) (p₀ : Numbers) (first : ℕ) (o₀ 
           numbered : Numbered (one .outcome)
           numbered = runs-numbered (length is) (mine .tree) (stateOf m p) one runs
 
-          whole : toldAll (runFields mark is (a .fields) (stateOf m₀ p₀))
-              ≡ behind tries (g .values) (next tries (g .values) one (λ u. runFields mark is (drop (suc k) (a .fields)) u))
+          abbrev others : State → Run (List Value)
+          others u = runFields mark is (drop (suc k) (a .fields)) u
+
+          parts : runFields mark is (drop k (a .fields)) (stateOf m p) ≡ next one others
           unfolding runFields
-          whole = g .same is i ∙ ap (λ (l : List Tree). behind tries (g .values) (runFields mark is l (stateOf m p))) (drop-below (a .fields) k (mine .tree) (mine .here))
+          parts = ap (λ (l : List Tree). runFields mark is l (stateOf m p)) (drop-below (a .fields) k (mine .tree) (mine .here))
+
+          whole : toldAll (runFields mark is (a .fields) (stateOf m₀ p₀)) ≡ behind tries (g .values) (next one others)
+          whole = g .same is i ∙ ap (behind tries (g .values)) parts
+
+          whole-lost : missingOf (runFields mark is (a .fields) (stateOf m₀ p₀)) ≡ missingOf (next one others)
+          whole-lost = g .lost is i ∙ ap missingOf parts
+
+          -- refused: what was missing
+          refused-lost : (r .number ≡ 0 → ⊥) → missingOf (runFields mark is (a .fields) (stateOf m₀ p₀))
+              ≡ (if eqb (r .number) 20 then lackingField is (a .fields) k (stateOf m′ (r .numbers)) else [])
+          unfolding isMissing
+          refused-lost z =
+              let d = told-denied one _ says z in
+              let l = missing-told .lacks mark is (mine .tree) (stateOf m p) (d .refusal) (d .outcome) in
+              whole-lost ∙ missing-refused one others (d .refusal) (d .outcome)
+              ∙ field-lacks is (a .fields) k (mine .tree) (mine .here) (stateOf m p) (one .state) (d .refusal) l
+              ∙ (λ j. if eqb (d .number j) 20 then lackingField is (a .fields) k (told-state one _ says j) else [])
 
         cost : r .tries ≤ 16512
         unfolding stateOf
@@ -294,7 +341,7 @@ module _ (b known s words m₀ : List ℕ) (p₀ : Numbers) (first : ℕ) (o₀ 
         long-refused o″ c = ap length c ∙ length-sets o′ 0 (replicate at 0) ∙ long-after
 
         pub going-refused : (r .number ≡ 0 → ⊥) → (o″ : List ℕ) → o″ ≡ sets o′ 0 (replicate at 0) → (x : Reached)
-            → x ≡ refusedWith (r .number) (r .place) (tries + r .tries) (r .numbers)
+            → x ≡ refusedWith (r .number) (r .place) (tries + r .tries) k (r .numbers)
             → (y : Accepted) → checkForm b ≡ accepted y → RunsFields (sheetArea s) words (y .fields) m₀ p₀ m′ o₀ o″ x
         going-refused z o″ c x q =
             let is = start .state .items in
@@ -313,12 +360,14 @@ module _ (b known s words m₀ : List ℕ) (p₀ : Numbers) (first : ℕ) (o₀ 
               same = λ is i.
                   let d = told-denied (one is i) _ (says is i) z in
                   whole is i
-                  ∙ behind-refused tries (g .values) (one is i) (λ u. runFields mark is (drop (suc k) (a .fields)) u) (d .refusal) (d .outcome)
+                  ∙ behind-refused tries (g .values) (one is i) (others is i) (d .refusal) (d .outcome)
                   ∙ told-same (d .number) (d .place) (ap (λ (j : ℕ). tries + j) (told-tries (one is i) _ (says is i))) refl (told-state (one is i) _ (says is i));
               count = refl;
               put = cleared;
               few = omega arith;
               left = left-more m₀ p₀ m p m′ (r .numbers) (g .left) (wrote .left);
+              lacks = λ is i. refused-lost is i z;
+              inside = λ _. omega (arith, field-count b a e, g .count);
             }))
 
         pub going-next : r .number ≡ 0 → (x : ℕ) → x ≡ r .len → Going b known s words m₀ p₀ first o₀ n m′ (r .numbers) (tries + r .tries) (at + x) (k + 1) o′
@@ -329,10 +378,15 @@ module _ (b known s words m₀ : List ℕ) (p₀ : Numbers) (first : ℕ) (o₀ 
           same = λ is i.
               let d = told-value (one is i) _ (says is i) (numbered is i) z in
               whole is i
-              ∙ behind-value tries (g .values) (one is i) (λ u. runFields mark is (drop (suc k) (a .fields)) u) (d .value) (d .outcome)
+              ∙ behind-value tries (g .values) (one is i) (others is i) (d .value) (d .outcome)
               ∙
               (λ j. behind (tries + told-tries (one is i) _ (says is i) j) (g .values ++ d .words j)
               (runFields mark is (drop (sym (add-one k) j) (a .fields)) (told-state (one is i) _ (says is i) j)));
+          lost = λ is i.
+              let d = told-value (one is i) _ (says is i) (numbered is i) z in
+              whole-lost is i
+              ∙ missing-value (one is i) (others is i) (d .value) (d .outcome)
+              ∙ (λ j. missingOf (runFields mark is (drop (sym (add-one k) j) (a .fields)) (told-state (one is i) _ (says is i) j)));
           size = let l = length-append (g .values) (wrote .value) in omega (arith, g .size, wrote .len);
           put =
               wrote .put

@@ -1,7 +1,7 @@
 -- After the fields: 27 at the first present place in scope, or nothing.
 use mathlib.Core.Bool.{true}
 use mathlib.Core.List.{List, [], _∷_}
-use mathlib.Core.Option.{some, none, Option·some-injective, Option·none-ne-some}
+use mathlib.Core.Option.{Option, some, none, Option·some-injective, Option·none-ne-some}
 use mathlib.Core.Path.{_≡_, refl, sym, ap, _∙_, subst}
 use Prim.Native.Nat.{ℕ, suc, _+_, _-_, _≤_, _<_}
 use native.Mathlib.Omega.{arith}
@@ -29,7 +29,7 @@ use Rattle.take_search.specs.States.{Items}
 use Rattle.eval_told.specs.Told.{Told, Numbered}
 use Rattle.eval_words.proofs.Words.{sets-back}
 use Rattle.run_fields.specs.declared.Reached.{Reached}
-use Rattle.run_fields.specs.Line.{Starts, toldAll, RunsFields, RunsAll, refusedWith}
+use Rattle.run_fields.specs.Line.{Starts, toldAll, missingOf, RunsFields, RunsAll, refusedWith}
 use Rattle.run_fields.proofs.Going.{told-same, with-outcome}
 
 -- ---- the test behind a run
@@ -68,6 +68,29 @@ module _ (is : List Item) where
         go (ok vs) e = rw none-left (told-same refl refl (omega arith) refl refl ∙ e)
         go (refused v) e = told-same refl refl (omega arith) refl refl ∙ e
         go (fault v) e = absurd (Option·none-ne-some x e)
+
+    -- the test adds nothing to what was missing
+    tested-lost : (x .number ≡ 0 → ⊥) → missingOf (tested r) ≡ missingOf r
+    unfolding toldAll missingOf _then_ after ended
+    tested-lost z = go (r .outcome) h
+      where
+        go : (o : Outcome (List Value)) → toldAll (with-outcome r o) ≡ some x → missingOf (tested (with-outcome r o)) ≡ missingOf (with-outcome r o)
+        go (ok vs) e = absurd (z (sym (ap (λ (y : Told). y .number) (Option·some-injective _ x e))))
+        go (refused v) e = refl
+        go (fault v) e = refl
+
+    first-lost : (f : Option Found) → first is (x .state) ≡ ok f → missingOf (tested r) ≡ missingOf r
+    unfolding missingOf _then_ after ended leftOver _>>=_
+    first-lost f k = go (r .outcome) f (ap (first is) tested-state ∙ k)
+      where
+        go :
+            (o : Outcome (List Value)) (f : Option Found)
+            → first is (r .state) ≡ ok f
+            → missingOf (tested (with-outcome r o)) ≡ missingOf (with-outcome r o)
+        go (ok vs) none e = rw e refl
+        go (ok vs) (some y) e = rw e refl
+        go (refused v) f e = refl
+        go (fault v) f e = refl
 
     -- 27 at the first that is left
     tested-found :
@@ -126,6 +149,8 @@ module _ (b known s words m₀ : List ℕ) (p₀ : Numbers) (first : ℕ) (o₀ 
       put = t .put;
       few = t .few;
       left = t .left;
+      lacks = λ is i. tested-lost is (runFields parsedMark is (a .fields) (stateOf m₀ p₀)) _ (t .same is i) z ∙ t .lacks is i;
+      inside = t .inside;
     }
 
     pub scope-order : (x y : ℕ) → x ≡ r .numbers .start → y ≡ r .numbers .end → (x ≤ y) × (y ≤ length m)
@@ -162,6 +187,11 @@ module _ (b known s words m₀ : List ℕ) (p₀ : Numbers) (first : ℕ) (o₀ 
         put = t .put;
         few = t .few;
         left = t .left;
+        lacks = λ is i.
+            first-lost is (runFields parsedMark is (a .fields) (stateOf m₀ p₀)) _ (t .same is i) none
+            (nothing-left m (r .numbers) (t .left .fine) is (items is i) place here (omega (arith, d)))
+            ∙ t .lacks is i;
+        inside = t .inside;
       }
 
       numbered : (is : List Item) → Items (sheetArea s) words p₀ is → Numbered (runFields parsedMark is (a .fields) (stateOf m₀ p₀) .outcome)
@@ -176,9 +206,9 @@ module _ (b known s words m₀ : List ℕ) (p₀ : Numbers) (first : ℕ) (o₀ 
           go (fault v) w = tt
 
       pub all-left : r .number ≡ 0 → place < y → (n : ℕ) → n ≡ r .words → (o′ : List ℕ) → o′ ≡ sets o 0 (replicate n 0) → (v : Reached)
-          → v ≡ refusedWith 27 (place + 1) (r .tries) (r .numbers)
+          → v ≡ refusedWith 27 (place + 1) (r .tries) 0 (r .numbers)
           → RunsAll (sheetArea s) words (a .fields) m₀ p₀ m o₀ o′ v
-      unfolding runAll
+      unfolding runAll if_then_else_
       all-left z h n w o′ q v u =
           let cleared : o′ ≡ o₀ =
           q ∙ ap (λ (l : List ℕ). sets l 0 (replicate n 0)) (t .put)
@@ -195,4 +225,9 @@ module _ (b known s words m₀ : List ℕ) (p₀ : Numbers) (first : ℕ) (o₀ 
             put = cleared;
             few = omega arith;
             left = t .left;
+            lacks = λ is i.
+                let (y, g, k) = something-left m (r .numbers) (t .left .fine) is (items is i) place here (omega (arith, d)) in
+                first-lost is (runFields parsedMark is (a .fields) (stateOf m₀ p₀)) _ (t .same is i) (some y) k
+                ∙ t .lacks is i ∙ rw z refl;
+            inside = λ q. omega arith;
           })

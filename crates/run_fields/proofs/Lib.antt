@@ -1,4 +1,4 @@
-pub mod Shapes
 pub mod Fields
 pub mod Going
 pub mod LeftOver
+pub mod Lacked

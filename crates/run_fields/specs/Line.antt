@@ -2,18 +2,22 @@
 use mathlib.Core.List.{List, []}
 use mathlib.Core.Option.{Option, some, none}
 use mathlib.Core.Path.{_≡_}
-use Prim.Native.Nat.{ℕ, _≤_}
-use lib.ListN.{length, getD}
+use Prim.Native.Nat.{ℕ, _≤_, _<_}
+use lib.Dec.{eqb}
+use lib.ListN.{length, getD, getElem?}
 use lib.Seq.{sets}
-use Rattle.rules.specs.Outcome.{ok, refused, fault}
+use Rattle.utf8.specs.Utf8.{if_then_else_}
+use Rattle.rules.specs.Outcome.{ok, refused, fault, MissingItem}
 use Rattle.rules.specs.Value.{Value, answerWords}
 use Rattle.rules.specs.Codes.{placeCode}
 use Rattle.rules.specs.Sheet.{sheetArea, sheetFault}
 use Rattle.rules.specs.Tree.{Tree}
 use Rattle.rules.specs.Accept.{Accepted, accepted, checkForm}
 use Rattle.rules.specs.Split.{Item}
+use Rattle.rules.specs.State.{State}
 use Rattle.rules.specs.Eval.{Ran as Run}
 use Rattle.rules.specs.Run.{parsedMark, runFields, runAll}
+use Rattle.rules.specs.Missing.{lacking}
 use Rattle.state_marks.specs.declared.Numbers.{Numbers}
 use Rattle.state_marks.specs.Lent.{stateOf}
 use Rattle.take_table.specs.Known.{Known}
@@ -59,6 +63,14 @@ toldAll r = elim (r .outcome) [
   | fault x ↦ none
 ]
 
+-- what was missing
+unfoldable pub missingOf : Run (List Value) → List MissingItem
+missingOf r = elim (r .outcome) [ ok vs ↦ [] | refused e ↦ e .missing | fault x ↦ [] ]
+
+-- what field k lacks in a state
+unfoldable pub lackingField : List Item → List Tree → ℕ → State → List MissingItem
+lackingField is fields k s = elim (getElem? fields k) [ none ↦ [] | some t ↦ lacking parsedMark is t s ]
+
 abbrev pub reachedWith : Reached → List ℕ → List ℕ → Told
 reachedWith r m w = record {
   number = r .number;
@@ -68,28 +80,33 @@ reachedWith r m w = record {
   state = stateOf m (r .numbers);
 }
 
--- what a run over the items reaches, whose words are written from the first word on
-pub record RunTold (run : List Item → Run (List Value)) (area words m : List ℕ) (p : Numbers) (m′ o o′ : List ℕ) (r : Reached) : Type 0 where
+-- what a run of fields over the items reaches, whose words are written from the first word on. Refused with 20, what was missing is
+-- what the refused field lacks in the state that is left
+pub record RunTold (run : List Item → Run (List Value)) (fields : List Tree) (area words m : List ℕ) (p : Numbers) (m′ o o′ : List ℕ) (r : Reached) : Type 0 where
   pub values : List ℕ
   pub same : (is : List Item) → Items area words p is → toldAll (run is) ≡ some (reachedWith r m′ values)
   pub count : r .words ≡ length values
   pub put : o′ ≡ sets o 0 values
   pub few : length values ≤ 8240
   pub left : LeftState m p m′ (r .numbers)
+  pub lacks : (is : List Item) → Items area words p is
+      → missingOf (run is) ≡ (if eqb (r .number) 20 then lackingField is fields (r .field) (stateOf m′ (r .numbers)) else [])
+  pub inside : r .number ≡ 20 → r .field < length fields
 
 -- the fields in order
 abbrev pub RunsFields : List ℕ → List ℕ → List Tree → List ℕ → Numbers → List ℕ → List ℕ → List ℕ → Reached → Type 0
 RunsFields area words fields m p m′ o o′ r =
-    RunTold (λ is. runFields parsedMark is fields (stateOf m p)) area words m p m′ o o′ r
+    RunTold (λ is. runFields parsedMark is fields (stateOf m p)) fields area words m p m′ o o′ r
 
 -- then 27
 abbrev pub RunsAll : List ℕ → List ℕ → List Tree → List ℕ → Numbers → List ℕ → List ℕ → List ℕ → Reached → Type 0
 RunsAll area words fields m p m′ o o′ r =
-    RunTold (λ is. runAll parsedMark is fields (stateOf m p)) area words m p m′ o o′ r
+    RunTold (λ is. runAll parsedMark is fields (stateOf m p)) fields area words m p m′ o o′ r
 
 -- ---- results
-abbrev pub refusedWith : ℕ → ℕ → ℕ → Numbers → Reached
-refusedWith number place tries p = record { number = number; place = place; tries = tries; words = 0; numbers = p }
+abbrev pub refusedWith : ℕ → ℕ → ℕ → ℕ → Numbers → Reached
+refusedWith number place tries field p =
+    record { number = number; place = place; tries = tries; words = 0; field = field; numbers = p }
 
 abbrev pub valuesOf : ℕ → ℕ → Numbers → Reached
-valuesOf tries count p = record { number = 0; place = 0; tries = tries; words = count; numbers = p }
+valuesOf tries count p = record { number = 0; place = 0; tries = tries; words = count; field = 0; numbers = p }

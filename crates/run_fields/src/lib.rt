@@ -1,14 +1,10 @@
 // All fields of a form on one state, each from where the last one ended, and then refusal 27.
 ghost use mathlib.Core.Path.{_≡_};
-ghost use mathlib.Core.Bool.{not};
-ghost use mathlib.Core.Option.{some};
 ghost use Prim.Native.Nat.{_+_, _≤_};
 ghost use lib.ListN.{length, replicate};
 ghost use Rattle.rules.specs.Accept.{Accepted, accepted, checkForm};
 ghost use Rattle.rules.specs.Sheet.{sheetArea};
 ghost use Rattle.rules.specs.Run.{parsedMark};
-ghost use Rattle.rules.specs.Tree.{Tree, kindOf};
-ghost use Rattle.eval_told.specs.Nodes.{treeAt, isScalar};
 ghost use Rattle.run_fields.specs.Line.{Starts, FieldReady, PutValue, RunsFields, RunsAll, refusedWith, valuesOf};
 ghost use Rattle.eval_list.specs.Lists.{WritesField, withMark};
 use eval_list::Field;
@@ -32,30 +28,14 @@ pub struct RunAnswer {
     pub state: State,
 }
 
-// How the run of all fields ended. `words` is how many answer words there are.
+// How the run of all fields ended. `words` is how many answer words there are, `field` is the field that was refused, or 0.
 pub struct Reached {
     pub number: u32,
     pub place: u32,
     pub tries: u32,
     pub words: u32,
+    pub field: usize,
     pub numbers: Numbers,
-}
-
-// Whether the value of a node is a list or an optional list: through optionals and choices to what is beneath.
-pub fn is_list(form: &[u8], node: usize) -> bool
-    requires { ⌜ ((t : Tree) × (treeAt (now form) node ≡ some t)) ⌝ }
-    ensures { λ r. ⌜ ((t : Tree) → treeAt (now (form .entry)) node ≡ some t → not r ≡ isScalar (kindOf t)) ⌝ }
-{
-    let mut n = node;
-    loop {
-        let x = form_layout::node_at(form, n);
-        let kind = x.kind;
-        match kind {
-            4 | 9 => n = x.p,
-            5 | 6 => return true,
-            _ => return false,
-        }
-    }
 }
 
 // A value that is no list: its words go to `out` from `at` on.
@@ -82,7 +62,7 @@ pub fn run_value(
     requires { ⌜ FieldReady (now form) (now known) (now sheet) (now items) (now marks) p (withMark field mark) (now out) ⌝ }
     ensures { λ r. ⌜ WritesField (now (form .entry)) (now (sheet .entry)) (now (items .entry)) (withMark field mark) (now (marks .entry)) p (now (marks .exit)) (now (out .entry)) (now (out .exit)) r ⌝ }
 {
-    if is_list(form, field.node) {
+    if eval_shortcut::is_list(form, field.node) {
         return eval_list::run_list(form, known, sheet, items, marks, p, field, out, mark);
     }
     let ran = eval_node::run_node(form, known, sheet, items, marks, p, field.node, mark);
@@ -116,14 +96,15 @@ fn run_field(
     run_value(form, known, sheet, items, marks, p, field, out, mark)
 }
 
-pub fn refused(number: u32, place: u32, tries: u32, numbers: Numbers) -> Reached
-    ensures { λ r. ⌜ r ≡ refusedWith number place tries numbers ⌝ }
+pub fn refused(number: u32, place: u32, tries: u32, field: usize, numbers: Numbers) -> Reached
+    ensures { λ r. ⌜ r ≡ refusedWith number place tries field numbers ⌝ }
 {
     Reached {
         number,
         place,
         tries,
         words: 0,
+        field,
         numbers,
     }
 }
@@ -137,6 +118,7 @@ fn answered(tries: u32, words: usize, numbers: Numbers) -> Reached
         place: 0,
         tries,
         words: words as u32,
+        field: 0,
         numbers,
     }
 }
@@ -149,7 +131,7 @@ pub fn nothing_known() -> [u64; TABLE_WORDS]
 }
 
 // The mark of what field `number` uses. Every field has the same: this is the one place where the number tells.
-fn field_mark(number: usize) -> u16
+pub fn field_mark(number: usize) -> u16
     ensures { λ r. ⌜ r ≡ parsedMark ⌝ }
 {
     let _ = number;
@@ -184,7 +166,7 @@ fn each_field(
         tries = tries + ran.tries;
         if ran.number != 0 {
             wire::fill(out, 0, at, 0);
-            return refused(ran.number, ran.place, tries, left);
+            return refused(ran.number, ran.place, tries, k, left);
         }
         s = left;
         at = at + wide(ran.len);
@@ -219,5 +201,5 @@ pub fn run_fields(
         return all;
     }
     wire::fill(out, 0, wide(all.words), 0);
-    refused(27, place as u32 + 1, all.tries, s)
+    refused(27, place as u32 + 1, all.tries, 0, s)
 }

@@ -421,7 +421,7 @@ impl Grower<'_> {
 }
 
 /// Other numbers for the nodes, any that leave children lower than their node.
-fn renumber(rng: &mut Rng, form: &mut Form) {
+pub fn renumber(rng: &mut Rng, form: &mut Form) {
     let n = form.nodes.len();
     let mut parent = vec![n; n];
     let mut waiting = vec![0; n + 1];

@@ -9,10 +9,12 @@ mod sheets;
 mod short_lines;
 #[cfg(test)]
 mod tests;
+mod wanting;
 
 pub use damaged::damaged;
 pub use limits::{chain, limits, shared};
 pub use short_lines::{sample_forms, short_lines};
+pub use wanting::wanting;
 
 use crate::format::*;
 use forms::{accepted, one_of, CROSSED, LISTING};

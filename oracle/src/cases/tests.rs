@@ -258,6 +258,26 @@ fn limits_are_refused_in_every_way() {
 }
 
 #[test]
+fn wanting_cases_ask_for_much() {
+    let mut rng = Rng::new(1);
+    let (mut most, mut turned, mut dashes, mut kinds) = (0, 0, 0, BTreeSet::new());
+    for _ in 0..CASES {
+        let case = wanting(&mut rng);
+        let form = Form::check(&case.form).expect("an accepted form");
+        let sheet = Sheet::check(&case.sheet).expect("a sheet");
+        most = most.max(form.leaves());
+        turned += usize::from(form.nodes.iter().any(|n| n.kind == CHOICE && n.p > n.q));
+        dashes += usize::from(sheet.arguments.iter().any(|a| a == b"--"));
+        kinds.extend(form.nodes.iter().map(|n| (n.kind, if n.kind == POSITIONAL { n.p } else { 0 })));
+    }
+    assert_eq!(most, NODES / 2);
+    assert!(turned > CASES / 4, "{turned}");
+    assert!((CASES / 4..3 * CASES / 4).contains(&dashes), "{dashes}");
+    let all: BTreeSet<(u16, u16)> = (FLAG..=GUARD).map(|k| (k, 0)).chain([(POSITIONAL, 1), (POSITIONAL, 2)]).collect();
+    assert_eq!(kinds, all);
+}
+
+#[test]
 fn short_lines_are_all_lines() {
     for (letters, arguments, bytes) in [(2, 2, 2), (3, 1, 4), (1, 4, 1), (2, 3, 1), (0, 3, 2), (4, 0, 3)] {
         let words: usize = (0..=bytes).map(|length| usize::pow(letters, length)).sum();

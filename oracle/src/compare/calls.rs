@@ -136,17 +136,26 @@ fn random_call(rng: &mut Rng, form: &Form, count: usize, second: State, beyond: 
     }
 }
 
+/// The bytes of a form and of a sheet, its items and the state after the split.
+pub type Start = (Vec<u8>, Vec<u8>, Vec<u32>, State);
+
 /// A well-made case of at most 40 arguments, split by the proved code.
-pub fn start(rng: &mut Rng, spare: usize) -> (Vec<u8>, Vec<u8>, Vec<u32>, State) {
+pub fn start(rng: &mut Rng, spare: usize) -> Start {
     loop {
         let case = cases::well_made(rng);
         let small = Sheet::check(&case.sheet).is_ok_and(|s| s.arguments.len() <= 40);
-        let mut items = vec![0; forged::ITEM_WORDS + spare];
-        let ended = proved::split(&case.form, &case.sheet, &mut items);
-        if small && ended.number == 0 {
-            return (case.form, case.sheet, items, ended.state);
+        let (ended, started) = split_case(case, spare);
+        if small && ended == 0 {
+            return started;
         }
     }
+}
+
+/// A case split by the proved code into a slice with so many words to spare, and the number that this ended with.
+pub fn split_case(case: cases::Case, spare: usize) -> (u32, Start) {
+    let mut items = vec![0; forged::ITEM_WORDS + spare];
+    let ended = proved::split(&case.form, &case.sheet, &mut items);
+    (ended.number, (case.form, case.sheet, items, ended.state))
 }
 
 impl Compared {
@@ -173,7 +182,11 @@ pub struct Walk {
 #[cfg(live)]
 impl Walk {
     pub fn new(rng: &mut Rng) -> Walk {
-        let (form_bytes, sheet_bytes, items, _) = start(rng, 0);
+        Walk::of(start(rng, 0))
+    }
+
+    /// A walk from the split of a line.
+    pub fn of((form_bytes, sheet_bytes, items, _): Start) -> Walk {
         let (form, sheet) = (Form::check(&form_bytes).expect("a form"), Sheet::check(&sheet_bytes).expect("a sheet"));
         let (held, records, _) = Held::split(&form, &sheet);
         Walk { form, form_bytes, sheet_bytes, items, records, kept: vec![held.clone()], held }
@@ -181,6 +194,15 @@ impl Walk {
 
     pub fn state(&self) -> State {
         raw(&self.held)
+    }
+
+    /// What a call on the walk's state is lent.
+    pub fn lent<'a>(&'a self, state: &'a State) -> Lent<'a> {
+        Lent { form: &self.form_bytes, sheet: &self.sheet_bytes, items: &self.items, state }
+    }
+
+    pub fn set_scope(&mut self, scope: std::ops::Range<usize>) {
+        self.held.set_scope(scope);
     }
 
     /// One call, here and there, unless the call would be refused for what it names.
@@ -211,11 +233,11 @@ impl Walk {
         (0..self.records.len()).find(|i| self.held.get(*i) && matches(i))
     }
 
-    /// One node's `eval` on a copy of the state, and the state that it left.
-    pub fn eval(&self, node: usize) -> (line::format::Answer, State) {
+    /// One node's `eval` on a copy of the state: its answer, what is missing, and the state that it left.
+    pub fn eval(&self, node: usize) -> (line::format::Answer, Vec<Entry>, State) {
         let mut held = self.held.clone();
-        let answer = held.eval(&self.form, node);
-        (answer, raw(&held))
+        let (answer, missing) = held.eval(&self.form, node);
+        (answer, missing, raw(&held))
     }
 }
 

@@ -92,7 +92,7 @@ pub fn compare(seed: u64, count: u64) -> Compared {
         for _ in 0..8 {
             walk.step(&mut rng);
             let given = walk.state();
-            let lent = Lent { form: &walk.form_bytes, sheet: &walk.sheet_bytes, items: &walk.items, state: &given };
+            let lent = walk.lent(&given);
             let items = records(&walk.items);
             let node = rng.below(walk.form.nodes.len());
             if !items.is_empty() {

@@ -3,8 +3,12 @@
 mod calls;
 mod checks;
 mod lent;
+#[cfg(live)]
+mod missing;
 mod replay;
 mod run;
+#[cfg(live)]
+mod slices;
 mod split;
 mod tables;
 mod utf8;
@@ -21,6 +25,15 @@ pub struct Compared {
     pub differ: u64,
     /// how often each number was answered, where a layer counts them
     pub numbers: std::collections::BTreeMap<u32, u64>,
+    /// what the cases must have met, where a layer says so
+    pub goals: Vec<Goal>,
+}
+
+/// What must be met so often, or a comparison shows too little.
+pub struct Goal {
+    pub what: &'static str,
+    pub met: u64,
+    pub least: u64,
 }
 
 impl Compared {
@@ -70,6 +83,8 @@ pub fn compare(layer: &str, seed: u64, count: Option<u64>) -> Option<Compared> {
         "eval" => run::compare_eval(seed, count.unwrap_or(300_000)),
         #[cfg(live)]
         "run" => run::compare(seed, count.unwrap_or(300_000)),
+        #[cfg(live)]
+        "missing" => missing::compare(seed, count.unwrap_or(1_000_000)),
         #[cfg(live)]
         "split" => split::compare(seed, count.unwrap_or(300_000)),
         _ => return None,

@@ -1,6 +1,6 @@
 //! The fixed lists, replayed by the proved code: no Rust of bpaf is needed for them.
 
-use line::forged::{Call, Lent, State, ANSWER_WORDS, ITEM_WORDS};
+use line::forged::{Call, Lent, State, ANSWER_WORDS, ITEM_WORDS, LIST_WORDS};
 
 use super::{calls, run, utf8};
 use crate::list_form::{self, bytes, Case};
@@ -22,7 +22,7 @@ fn answer(numbers: [u32; 7], s: &State) -> Vec<u8> {
 fn ours(case: &Case) -> (Vec<u8>, Vec<u8>) {
     let (form, sheet) = (&case.form[..], &case.sheet[..]);
     // not 0, so that a word that is not written is seen
-    let (mut items, mut answers) = (vec![u32::MAX; ITEM_WORDS], vec![u32::MAX; ANSWER_WORDS]);
+    let [mut items, mut answers, mut list] = [ITEM_WORDS, ANSWER_WORDS, LIST_WORDS].map(|length| vec![u32::MAX; length]);
     match case.call() {
         "utf8" => (bytes(&utf8::listed(form)), Vec::new()),
         "check" => {
@@ -34,18 +34,25 @@ fn ours(case: &Case) -> (Vec<u8>, Vec<u8>) {
             (answer([a.number, a.place, 0, 0, 0, 0, 0], &a.state), bytes(&items))
         }
         "run" => {
-            let a = proved::run(form, sheet, &mut items, &mut answers);
-            (answer([a.number, a.place, a.tries, a.words, 0, 0, 0], &a.state), bytes(&answers))
+            let a = proved::run(form, sheet, &mut items, &mut answers, &mut list);
+            (answer([a.number, a.place, a.tries, a.words, 0, 0, 0], &a.state), written(a.number, &answers, &list))
         }
         _ => {
             proved::split(form, sheet, &mut items);
-            on_items(case, &items, &mut answers)
+            on_items(case, &items, &mut answers, &mut list)
         }
     }
 }
 
+/// What a run or an evaluation writes: the answers, and behind them a list that should be all 0. The fixed lists do not say
+/// what is missing with 20.
+fn written(number: u32, answers: &[u32], list: &[u32]) -> Vec<u8> {
+    let stray = if number == 20 { &[] } else { list };
+    bytes(&[answers, stray].concat())
+}
+
 /// A call on the items of the sheet.
-fn on_items(case: &Case, items: &[u32], answers: &mut [u32]) -> (Vec<u8>, Vec<u8>) {
+fn on_items(case: &Case, items: &[u32], answers: &mut [u32], list: &mut [u32]) -> (Vec<u8>, Vec<u8>) {
     let state = state_of(&case.given);
     let lent = Lent { form: &case.form, sheet: &case.sheet, items, state: &state };
     match case.call() {
@@ -54,8 +61,8 @@ fn on_items(case: &Case, items: &[u32], answers: &mut [u32]) -> (Vec<u8>, Vec<u8
             Err(r) => (bytes(&[r.number, r.place]), Vec::new()),
         },
         "eval" => {
-            let a = proved::eval(&lent, answers, case.told(1) as usize);
-            (answer([a.number, a.place, a.tries, a.words, 0, 0, 0], &a.state), bytes(answers))
+            let a = proved::eval(&lent, answers, list, case.told(1) as usize);
+            (answer([a.number, a.place, a.tries, a.words, 0, 0, 0], &a.state), written(a.number, answers, list))
         }
         name => {
             let said = calls::ours(&lent, &call_of(name, case));

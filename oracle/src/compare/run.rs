@@ -1,16 +1,16 @@
 //! The whole run, one node's evaluation and the text of an answer word: every word that they leave, against the real bpaf.
 
 use line::cases::Rng;
-use line::forged::{self, records, Call, Lent, State, ANSWER_WORDS, ITEM_WORDS};
+use line::forged::{self, records, Call, Lent, State, ANSWER_WORDS, ITEM_WORDS, LIST_WORDS};
 use line::format::*;
 use proved::{code, Refused, RunAnswer};
 
 use super::{calls, pattern, split, Compared};
 use crate::lists::hex;
 #[cfg(live)]
-use super::split::{accepted, raw_view, EMPTY};
+use super::split::{accepted, raw_view};
 #[cfg(live)]
-use bpaf::doc::harness::{self, Wanted};
+use bpaf::doc::harness::{self, Run, Wanted};
 #[cfg(live)]
 use line::{cases, cases::Case};
 
@@ -53,17 +53,24 @@ fn show_value(kind: Kind, words: &mut impl Iterator<Item = u32>, lent: &Lent) ->
     }
 }
 
+/// The entries of a list slice, a line each.
+fn show_list(list: &[u32]) {
+    let entries = list.chunks_exact(3).take_while(|entry| entry[0] != 0);
+    entries.for_each(|entry| println!("missing: node {} in {}..{}", entry[0] - 1, entry[1], entry[2]));
+}
+
 /// A form in the notation of notation.rs and this program's further arguments: items and values, by the proved code.
 pub fn show(form: &str) -> bool {
     let Some((form, arguments)) = split::given(form) else { return false };
     let kinds = form.kinds().expect("a form of the notation is accepted");
     let (form_bytes, sheet) = (form.write(), Sheet { arguments: arguments.clone() }.write());
-    let (mut items, mut answers) = (vec![0; ITEM_WORDS], vec![0; ANSWER_WORDS]);
-    let ended = proved::run(&form_bytes, &sheet, &mut items, &mut answers);
+    let [mut items, mut answers, mut list] = [ITEM_WORDS, ANSWER_WORDS, LIST_WORDS].map(|length| vec![0; length]);
+    let ended = proved::run(&form_bytes, &sheet, &mut items, &mut answers, &mut list);
     split::show_items(&items, &arguments.concat());
     if ended.number != 0 {
         let place = if ended.place == 0 { String::new() } else { format!(" at {}", ended.place - 1) };
         println!("refused {}{place}, {} tries", ended.number, ended.tries);
+        show_list(&list);
         return false;
     }
     let lent = Lent { form: &form_bytes, sheet: &sheet, items: &items, state: &ended.state };
@@ -88,46 +95,79 @@ fn handed(a: &Answer, state: State) -> RunAnswer {
     RunAnswer { number: a.number, place: code(a.place), tries: a.tries as u32, words: a.words.len() as u32, state }
 }
 
-/// What a run must leave: its answer, the items and the answer words.
+/// The words of the slices that a run is lent: items, answers, list.
 #[cfg(live)]
-fn expected(case: &Case, item_words: usize, answer_words: usize) -> (RunAnswer, Vec<u32>, Vec<u32>) {
-    match accepted(case, item_words < ITEM_WORDS || answer_words < ANSWER_WORDS) {
-        Err(r) => (handed(&Answer::refused(r, 0), EMPTY), vec![0; item_words], vec![0; answer_words]),
-        Ok((form, sheet)) => {
-            let ran = harness::run(&form, &sheet, Wanted { items: true, ..Wanted::default() });
-            let answer = handed(&ran.answer, raw_view(&ran.state));
-            (answer, padded(&ran.records.concat(), item_words), padded(&ran.answer.words, answer_words))
-        }
+pub type Lengths = [usize; 3];
+
+#[cfg(live)]
+pub const LEAST: Lengths = [ITEM_WORDS, ANSWER_WORDS, LIST_WORDS];
+
+/// What a run must be: the real bpaf's, or refused for what it is given.
+#[cfg(live)]
+fn expected(case: &Case, [items, answers, list]: Lengths) -> Run {
+    match accepted(case, forged::too_short(items, answers, list)) {
+        Err(r) => harness::refused_run(r),
+        Ok((form, sheet)) => harness::run(&form, &sheet, Wanted { items: true, sides: true, ..Wanted::default() }),
     }
+}
+
+/// Every word that a run must leave in its three slices.
+#[cfg(live)]
+fn left(ran: &Run, [items, answers, list]: Lengths) -> [Vec<u32>; 3] {
+    let (records, missing) = (ran.records.concat(), ran.missing.concat());
+    [padded(&records, items), padded(&ran.answer.words, answers), padded(&missing, list)]
 }
 
 /// The stated lengths mostly, longer in a third of the cases, and those about the limits now and then.
 #[cfg(live)]
-fn lengths(k: u64) -> (usize, usize) {
+fn lengths(k: u64) -> Lengths {
     let spare = if k % 3 == 0 { 1 + k as usize % 29 } else { 0 };
-    let (items, answers) = (ITEM_WORDS + spare, ANSWER_WORDS + spare);
+    let [items, answers, list] = LEAST.map(|length| length + spare);
     match (k / 7) % 24 {
-        0 => (0, answers),
-        1 => (ITEM_WORDS - 1, answers),
-        2 => (items, 0),
-        3 => (items, ANSWER_WORDS - 1),
-        4 => (0, 0),
-        _ => (items, answers),
+        0 => [0, answers, list],
+        1 => [ITEM_WORDS - 1, answers, list],
+        2 => [items, 0, list],
+        3 => [items, ANSWER_WORDS - 1, list],
+        4 => [0, 0, 0],
+        5 => [items, answers, 0],
+        6 => [items, answers, LIST_WORDS - 1],
+        7 => [items, ANSWER_WORDS - 1, LIST_WORDS - 1],
+        _ => [items, answers, list],
     }
 }
 
 #[cfg(live)]
 impl Compared {
-    fn run(&mut self, case: &Case, lengths: (usize, usize)) {
+    /// A run, with every word that it leaves; what it must be.
+    pub fn run(&mut self, case: &Case, lengths: Lengths) -> Run {
         self.cases += 1;
-        let (mut items, mut answers) = (pattern(lengths.0), pattern(lengths.1));
-        let ours = proved::run(&case.form, &case.sheet, &mut items, &mut answers);
+        let mut lent = lengths.map(pattern);
+        let [items, answers, list] = &mut lent;
+        let ours = proved::run(&case.form, &case.sheet, items, answers, list);
         self.answered(ours.number);
-        let (theirs, item_words, answer_words) = expected(case, lengths.0, lengths.1);
+        let theirs = expected(case, lengths);
         let input = || format!("{} {} {lengths:?}", hex(&case.form), hex(&case.sheet));
-        self.same("run", &input, ours, theirs);
-        self.words("items", &input, &items, &item_words);
-        self.words("answers", &input, &answers, &answer_words);
+        self.same("run", &input, ours, handed(&theirs.answer, raw_view(&theirs.state)));
+        for (k, words) in left(&theirs, lengths).iter().enumerate() {
+            self.words(["items", "answers", "list"][k], &input, &lent[k], words);
+        }
+        theirs
+    }
+
+    /// One node on a walk's state, with every word that it leaves; the number and the list that the real one gave.
+    pub fn eval(&mut self, walk: &calls::Walk, node: usize, lengths: [usize; 2]) -> (u32, Vec<Entry>) {
+        self.cases += 1;
+        let given = walk.state();
+        let mut left = lengths.map(pattern);
+        let [answers, list] = &mut left;
+        let ours = proved::eval(&walk.lent(&given), answers, list, node);
+        self.answered(ours.number);
+        let (theirs, missing, state) = walk.eval(node);
+        let input = || format!("node {node} on {} {} {given:?}", hex(&walk.form_bytes), hex(&walk.sheet_bytes));
+        self.same("eval", &input, ours, handed(&theirs, state));
+        self.words("eval answers", &input, &left[0], &padded(&theirs.words, lengths[0]));
+        self.words("eval list", &input, &left[1], &padded(&missing.concat(), lengths[1]));
+        (theirs.number, missing)
     }
 }
 
@@ -137,12 +177,12 @@ pub fn compare(seed: u64, count: u64) -> Compared {
     let mut compared = Compared::default();
     let mut rng = Rng::new(seed);
     for (k, case) in cases::limits().iter().enumerate() {
-        compared.run(case, (ITEM_WORDS, ANSWER_WORDS));
+        compared.run(case, LEAST);
         compared.run(case, lengths(k as u64));
     }
     for form in cases::sample_forms() {
         for sheet in cases::short_lines(b"vwx-=7", 2, 2) {
-            compared.run(&Case { form: form.write(), sheet: sheet.write() }, (ITEM_WORDS, ANSWER_WORDS));
+            compared.run(&Case { form: form.write(), sheet: sheet.write() }, LEAST);
         }
     }
     for k in 0..count {
@@ -164,17 +204,8 @@ pub fn compare_eval(seed: u64, count: u64) -> Compared {
         for _ in 0..8 {
             walk.step(&mut rng);
             let node = if rng.chance(3, 4) { *rng.pick(&leaves) } else { rng.below(walk.form.nodes.len()) };
-            let given = walk.state();
-            let lent = Lent { form: &walk.form_bytes, sheet: &walk.sheet_bytes, items: &walk.items, state: &given };
-            let length = ANSWER_WORDS + rng.below(3);
-            let mut answers = pattern(length);
-            let ours = proved::eval(&lent, &mut answers, node);
-            let (theirs, state) = walk.eval(node);
-            let input = || format!("node {node} on {} {} {given:?}", hex(&walk.form_bytes), hex(&walk.sheet_bytes));
-            compared.cases += 1;
-            compared.answered(ours.number);
-            compared.same("eval", &input, ours, handed(&theirs, state));
-            compared.words("eval answers", &input, &answers, &padded(&theirs.words, length));
+            let spare = rng.below(3);
+            compared.eval(&walk, node, [ANSWER_WORDS + spare, LIST_WORDS + spare]);
         }
     }
     compared
@@ -190,6 +221,30 @@ pub fn text_of(lent: &Lent, word: u32) -> Vec<u8> {
     area[record[5] as usize..][..record[6] as usize].to_vec()
 }
 
+impl Compared {
+    /// `eval` on what may be forged: refused by the second reading, nothing changes; else a list comes only with 20. The number
+    /// that it ends with.
+    pub fn forged_eval(&mut self, lent: &Lent, node: usize, lengths: [usize; 2]) -> u32 {
+        let mut left = lengths.map(pattern);
+        let [answers, list] = &mut left;
+        let ours = proved::eval(lent, answers, list, node);
+        self.answered(ours.number);
+        let input = || format!("node {node} {lengths:?} on {} {} {:?}", hex(lent.form), hex(lent.sheet), lent.state);
+        match forged::refusal(lent, &Call::Eval(node, lengths[0], lengths[1])) {
+            Some(r) => {
+                self.same("eval", &input, ours, handed(&Answer::refused(r, 0), *lent.state));
+                self.words("eval answers", &input, &left[0], &pattern(lengths[0]));
+                self.words("eval list", &input, &left[1], &pattern(lengths[1]));
+            }
+            None => {
+                self.same("eval", &input, ours.number == 0 || (20..27).contains(&ours.number), true);
+                self.same("eval list", &input, left[1].iter().any(|w| *w != 0), ours.number == 20);
+            }
+        }
+        ours.number
+    }
+}
+
 /// `eval` and `text` on forged states and tables: the refusal, and that nothing changed.
 pub fn compare_forged(seed: u64, count: u64) -> Compared {
     let mut compared = Compared::default();
@@ -198,20 +253,9 @@ pub fn compare_forged(seed: u64, count: u64) -> Compared {
         let forgery = calls::Forgery::new(&mut rng);
         let lent = forgery.lent();
         let input = || format!("{} {} {:?}", hex(lent.form), hex(lent.sheet), lent.state);
-        let length = [0, ANSWER_WORDS - 1, ANSWER_WORDS, ANSWER_WORDS + 3][rng.below(4).max(rng.below(4))];
-        let node = rng.below(forgery.nodes + 2);
-        let mut answers = pattern(length);
-        let ours = proved::eval(&lent, &mut answers, node);
+        let lengths = [ANSWER_WORDS, LIST_WORDS].map(|least| [0, least - 1, least, least + 3][rng.below(4).max(rng.below(4))]);
         compared.cases += 2;
-        compared.answered(ours.number);
-        match forged::refusal(&lent, &Call::Eval(node, length)) {
-            Some(r) => {
-                let theirs = handed(&Answer::refused(r, 0), *lent.state);
-                compared.same("eval", &|| format!("node {node} on {}", input()), ours, theirs);
-                compared.words("eval answers", &input, &answers, &pattern(length));
-            }
-            None => compared.same("eval", &input, ours.number == 0 || (20..27).contains(&ours.number), true),
-        }
+        compared.forged_eval(&lent, rng.below(forgery.nodes + 2), lengths);
         let word = if rng.chance(1, 3) { 256 + rng.below(6) } else { rng.below(lent.state.count.min(300) as usize + 2) } as u32;
         let theirs = match forged::refusal(&lent, &Call::Text(word)) {
             Some(r) => Err(Refused::from(r)),

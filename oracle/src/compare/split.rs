@@ -87,17 +87,17 @@ pub fn raw_view(view: &View) -> State {
 #[cfg(live)]
 pub const EMPTY: State = State { marks: [0; 256], count: 0, remaining: 0, current: 0, start: 0, end: 0 };
 
-/// Form and sheet of a case, or the refusal of one of them or of a slice that is too short.
+/// Form and sheet of a case, or the refusal of one of them, or else that of a slice that is too short.
 #[cfg(live)]
-pub fn accepted(case: &Case, short: bool) -> Result<(Form, Sheet), Refusal> {
+pub fn accepted(case: &Case, short: Option<Refusal>) -> Result<(Form, Sheet), Refusal> {
     let both = Form::check(&case.form).and_then(|f| Sheet::check(&case.sheet).map(|s| (f, s)))?;
-    if short { Err(Refusal::new(7)) } else { Ok(both) }
+    short.map_or(Ok(both), Err)
 }
 
 /// What a split must leave: number and place, the state, and every word of the item slice.
 #[cfg(live)]
 fn expected(case: &Case, length: usize) -> (SplitAnswer, Vec<u32>) {
-    match accepted(case, length < ITEM_WORDS) {
+    match accepted(case, (length < ITEM_WORDS).then_some(Refusal::new(7))) {
         Err(r) => (SplitAnswer { number: r.number, place: code(r.place), state: EMPTY }, vec![0; length]),
         Ok((form, sheet)) => {
             let (held, records, refusal) = Held::split(&form, &sheet);

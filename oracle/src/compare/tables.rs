@@ -2,7 +2,7 @@
 //! zeros and slices longer than the least. Every call that has items, against the second reading in forged.rs.
 
 use line::cases::Rng;
-use line::forged::{self, records, Call, Lent, State, ANSWER_WORDS, ITEM_WORDS};
+use line::forged::{self, records, Call, Lent, State, ANSWER_WORDS, ITEM_WORDS, LIST_WORDS};
 use line::format::*;
 use proved::Answer;
 
@@ -86,7 +86,7 @@ fn call(rng: &mut Rng, form: &Form, count: usize) -> Call {
         7 => Call::TakeFlag(node),
         8 => Call::TakeArg(node),
         9 => Call::TakeCmd(rng.below(form.names.len() + 1)),
-        10 => Call::Eval(node, ANSWER_WORDS - rng.below(8) / 7),
+        10 => Call::Eval(node, ANSWER_WORDS - rng.below(8) / 7, LIST_WORDS - rng.below(8) / 7),
         _ => Call::Text(if rng.chance(1, 4) { 256 + rng.below(form.names.len() + 2) } else { place } as u32),
     }
 }
@@ -105,16 +105,18 @@ fn only_once(table: &[[u32; 7]], area: &[u8], place: usize) -> Answer {
     }
 }
 
-/// What a call says and leaves, in words that can be compared: its answer, the state, and the answer words or the text.
+/// What a call says and leaves, in words that can be compared: its answer, the state, and the answer words with the list's
+/// behind them, or the text.
 type Told = (Said, Vec<u32>);
 
 fn ours(lent: &Lent, call: &Call) -> Told {
     match *call {
-        Call::Eval(node, length) => {
-            let mut answers = vec![u32::MAX; length];
-            let r = proved::eval(lent, &mut answers, node);
+        Call::Eval(node, answers, list) => {
+            let mut written = vec![u32::MAX; answers + list];
+            let (answers, list) = written.split_at_mut(answers);
+            let r = proved::eval(lent, answers, list, node);
             let answer = Answer { number: r.number, place: r.place, found: r.words, first: r.tries, second: 0 };
-            (Said::new(answer, r.state), answers)
+            (Said::new(answer, r.state), written)
         }
         Call::Text(word) => match run::text(lent, word) {
             Ok(text) => (refused(lent, Refusal::new(0)), text.iter().map(|b| u32::from(*b)).collect()),
@@ -136,8 +138,8 @@ fn refused(lent: &Lent, r: Refusal) -> Said {
 fn theirs(lent: &Lent, call: &Call) -> Told {
     let table = records(lent.items);
     if let Some(r) = forged::refusal(lent, call) {
-        let answers = if let Call::Eval(_, length) = *call { vec![u32::MAX; length] } else { Vec::new() };
-        return (refused(lent, r), answers);
+        let written = if let Call::Eval(_, answers, list) = *call { vec![u32::MAX; answers + list] } else { Vec::new() };
+        return (refused(lent, r), written);
     }
     match *call {
         Call::OnlyOnce(place) => {

@@ -6,7 +6,7 @@ use std::{ffi::OsString, os::unix::ffi::OsStringExt};
 use bpaf::{construct, long, positional, short, Parser};
 use line::{
     cases,
-    forged::{ANSWER_WORDS, ITEM_WORDS},
+    forged::{ANSWER_WORDS, ITEM_WORDS, LIST_WORDS},
     format::*,
     notation,
 };
@@ -40,8 +40,8 @@ pub struct Benchmark {
     pub number: u32,
     /// none where bpaf has nothing that does the same
     pub fields: Option<Box<dyn Fields>>,
-    /// words of the item slice and of the answer slice
-    pub slices: (usize, usize),
+    /// words of the item slice, of the answer slice and of the list slice
+    pub slices: [usize; 3],
 }
 
 impl Benchmark {
@@ -59,7 +59,7 @@ impl Benchmark {
             sheets: lines.into_iter().map(|arguments| Sheet { arguments }.write()).collect(),
             number: 0,
             fields: Some(both.fields),
-            slices: (ITEM_WORDS, ANSWER_WORDS),
+            slices: [ITEM_WORDS, ANSWER_WORDS, LIST_WORDS],
         }
     }
 
@@ -78,12 +78,12 @@ impl Benchmark {
             lines: Vec::new(),
             number,
             fields: None,
-            slices: (ITEM_WORDS, ANSWER_WORDS),
+            slices: [ITEM_WORDS, ANSWER_WORDS, LIST_WORDS],
         }
     }
 
     pub fn lend(&self) -> Slices {
-        Slices { items: vec![0; self.slices.0], answers: vec![0; self.slices.1] }
+        Slices::of(self.slices)
     }
 
     /// Stops unless both sides answer alike, with the number that the list says.
@@ -417,7 +417,7 @@ fn refused() -> Vec<Benchmark> {
     [refused_bytes(), refused_lines()].into_iter().flatten().collect()
 }
 
-/// Refusals 1 to 8, of which bpaf has none.
+/// Refusals 1 to 8 and 14, of which bpaf has none.
 fn refused_bytes() -> Vec<Benchmark> {
     let form = notation::parse(&wear().form).expect("a form of the notation");
     let bytes = form.write();
@@ -430,7 +430,9 @@ fn refused_bytes() -> Vec<Benchmark> {
     let mut cut = short();
     cut.pop();
     let mut seven = Benchmark::alone(7, "an answer slice one word short", bytes.clone(), short());
-    seven.slices.1 -= 1;
+    seven.slices[1] -= 1;
+    let mut fourteen = Benchmark::alone(14, "a list slice one word short", bytes.clone(), short());
+    fourteen.slices[2] -= 1;
     vec![
         Benchmark::alone(1, "a form cut short", bytes[..bytes.len() - 1].to_vec(), short()),
         Benchmark::alone(2, "the last name of no type", name.write(), short()),
@@ -439,6 +441,7 @@ fn refused_bytes() -> Vec<Benchmark> {
         Benchmark::alone(5, "a sheet cut short", bytes.clone(), cut),
         Benchmark::alone(6, "257 arguments", bytes.clone(), vec![1, 1]),
         seven,
+        fourteen,
         Benchmark::alone(8, "257 items", bytes, sheet(vec![b"-12".to_vec(); 129])),
     ]
 }

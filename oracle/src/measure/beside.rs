@@ -7,6 +7,7 @@ use proved::RunAnswer;
 use crate::{
     benchmarks::{groups, Benchmark},
     clock,
+    ours::Slices,
     table::thousands,
 };
 
@@ -24,12 +25,16 @@ extern "C" {
         items_len: usize,
         answers: *mut u32,
         answers_len: usize,
+        list: *mut u32,
+        list_len: usize,
     ) -> RunAnswer;
 }
 
-fn other_run(form: &[u8], sheet: &[u8], items: &mut [u32], answers: &mut [u32]) -> RunAnswer {
-    let (i, a) = ((items.as_mut_ptr(), items.len()), (answers.as_mut_ptr(), answers.len()));
-    unsafe { beside_silverpoise_run(form.as_ptr(), form.len(), sheet.as_ptr(), sheet.len(), i.0, i.1, a.0, a.1) }
+/// A build from before there was a list does not look at it: these arguments stand last, on the stack of the caller.
+fn other_run(form: &[u8], sheet: &[u8], lent: &mut Slices) -> RunAnswer {
+    let (f, s) = ((form.as_ptr(), form.len()), (sheet.as_ptr(), sheet.len()));
+    let [i, a, l] = [&mut lent.items, &mut lent.answers, &mut lent.list].map(|words| (words.as_mut_ptr(), words.len()));
+    unsafe { beside_silverpoise_run(f.0, f.1, s.0, s.1, i.0, i.1, a.0, a.1, l.0, l.1) }
 }
 
 /// The best nanoseconds a line: this build, the other, and clearing alone.
@@ -46,7 +51,7 @@ fn best(benchmark: &Benchmark, budget: Duration) -> [f64; 3] {
             },
             &mut || {
                 for sheet in &benchmark.sheets {
-                    black_box(other_run(black_box(form), black_box(sheet), &mut theirs.items, &mut theirs.answers));
+                    black_box(other_run(black_box(form), black_box(sheet), &mut theirs));
                 }
             },
             &mut || benchmark.sheets.iter().for_each(|_| cleared.clear()),

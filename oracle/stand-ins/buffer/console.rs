@@ -1,4 +1,5 @@
 //! Stands in for bpaf's src/buffer/console.rs, which was not at hand. Only the rendering of messages uses it; no run does.
+//! Being inside `buffer`, it sees what a `Doc` holds, so it also tells the harness the text of a help.
 
 use super::Doc;
 
@@ -11,6 +12,11 @@ pub(crate) enum Color {
 }
 
 impl Doc {
+    /// All of the text, with no style.
+    pub(crate) fn plain(&self) -> &str {
+        &self.payload
+    }
+
     pub(crate) fn render_console(&self, _full: bool, _color: Color, _max_width: usize) -> String {
         panic!("stand-in reached: Doc::render_console")
     }

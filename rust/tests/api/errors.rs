@@ -3,7 +3,7 @@
 use std::ffi::OsString;
 use std::os::unix::ffi::OsStringExt;
 
-use silverpoise::{long, short, Form, Node, Takes};
+use silverpoise::{long, short, Form, Node, ReadError, Takes};
 
 fn text() -> Node {
     Node::positional(Takes::Text)
@@ -15,6 +15,10 @@ fn number() -> Node {
 
 fn weight() -> Node {
     Node::argument(short('w').long("weight"), Takes::Number)
+}
+
+fn limit() -> Node {
+    Node::argument(short('l').long("limit"), Takes::Text)
 }
 
 fn switch(name: char) -> Node {
@@ -63,17 +67,76 @@ fn an_ambiguous_letter() {
 #[test]
 fn something_missing() {
     is([text()], &[], 20, "an operand is required, and was not found");
-    is([weight()], &[], 20, "`-w`/`--weight` is required, and was not found");
-    let adjacent = "`-w`/`--weight` with its value in the same argument is required, and was not found";
+    is([weight()], &[], 20, "`-w` or `--weight` is required, and was not found");
+    let adjacent = "`-w` or `--weight` with its value in the same argument is required, and was not found";
     is([weight().adjacent()], &["-w", "7"], 20, adjacent);
     is([text().strict()], &[], 20, "an operand behind `--` is required, and was not found");
+    is([weight().guard(1..=5).last(), switch('v')], &["-v"], 20, "`-w` or `--weight` is required, and was not found");
+    // the first field that looks in vain ends the run, and the others are not asked
+    let fields = |first: Node| [first, weight().optional(), text().non_strict(), text().many()];
+    is(fields(Node::flag(long("yes"))), &[], 20, "`--yes` is required, and was not found");
+    is(fields(Node::flag(long("yes"))), &["--yes"], 20, "an operand before `--` is required, and was not found");
+}
+
+/// Where several looked in vain each of them is named, the first side of a choice first.
+#[test]
+fn either_of_several_missing() {
+    is([limit().or(text())], &[], 20, "`-l` or `--limit`, or an operand is required, and was not found");
+    is([text().or(limit())], &[], 20, "an operand, or `-l` or `--limit` is required, and was not found");
     is([Node::flag(short('v')).or(Node::flag(short('q')))], &[], 20, "`-v` or `-q` is required, and was not found");
-    is([weight().guard(1..=5).last(), switch('v')], &["-v"], 20, "`-w`/`--weight` is required, and was not found");
+    let flag = |name: char| Node::flag(short(name));
+    is([flag('a').or(flag('b').or(flag('c')))], &[], 20, "`-a` or `-b` or `-c` is required, and was not found");
+    let words = "an operand behind `--`, or `-w` is required, and was not found";
+    is([text().strict().or(Node::argument(short('w'), Takes::Text))], &[], 20, words);
+    // an optional, a fallback and a repeat do without, and name nothing
+    let fields = [weight().optional(), weight().fallback(9), text().many(), limit().last()];
+    is(fields, &[], 20, "`-l` or `--limit` is required, and was not found");
+}
+
+/// Of a choice that was refused with 24 nothing is named, not even what its other side looked for in vain.
+#[test]
+fn only_what_is_missing_is_named() {
+    let argument = |name: char| Node::argument(short(name), Takes::Text);
+    let choice = || argument('v').or(text().non_strict()).or(argument('w'));
+    is([choice()], &["--", "x"], 20, "`-w` is required, and was not found");
+    is([choice()], &["--"], 20, "`-v`, or an operand before `--`, or `-w` is required, and was not found");
+}
+
+/// What is missing as data: the names, the number of the node, and the places that were looked at.
+#[test]
+fn what_is_missing() {
+    let form = Form::of([switch('v'), limit().or(text().strict()), Node::flag(long("yes"))]).unwrap();
+    let error = form.read_values(&["-v", "--"]).unwrap_err();
+    let seen = |error: &ReadError| -> Vec<String> {
+        error.missing().iter().map(|one| format!("{one}: {:?} {} {:?}", one.names, one.node, one.scope)).collect()
+    };
+    let first = "`-l` or `--limit`: [\"-l\", \"--limit\"] 1 0..2";
+    assert_eq!(seen(&error), [first, "an operand behind `--`: [] 2 0..2"]);
+    let error = form.read_values(&["-v", "-lx", "a"]).unwrap_err();
+    assert_eq!(seen(&error), ["`--yes`: [\"--yes\"] 4 0..4"]);
+    // every other refusal misses nothing
+    for (args, number) in [(&["-l"][..], 22), (&["x"], 23), (&["-lx", "--yes", "y"], 27)] {
+        let error = form.read_values(args).unwrap_err();
+        assert_eq!((error.number(), error.missing()), (number, &[][..]), "{args:?}");
+    }
+}
+
+/// An option that the form does not have is said first, with its place, and then what is missing.
+#[test]
+fn an_unknown_option_and_something_missing() {
+    let missing = "an operand is required, and was not found";
+    is([text()], &["--limt=7"], 20, &format!("`--limt` is not a known option\n  wear --limt=7\n       ^^^^^^\n{missing}"));
+    is([switch('v'), text()], &["-v", "-x"], 20, &format!("`-x` is not a known option\n  wear -v -x\n          ^^\n{missing}"));
+    // the first of several, before the operand that they are not
+    let first = format!("`-7` is not a known option\n  wear -7 --also\n       ^^\n{missing}");
+    is([number()], &["-7", "--also"], 20, &first);
+    // options that the form has are known, also where nothing takes them here
+    is([switch('v'), text()], &["-v", "-v"], 20, missing);
     is(
-        [Node::flag(long("yes")), weight().optional(), text().non_strict(), text().many()],
-        &[],
+        [weight().adjacent()],
+        &["--weight", "7"],
         20,
-        "something required was not found; required are `--yes`, an operand before `--`",
+        "`-w` or `--weight` with its value in the same argument is required, and was not found",
     );
 }
 
@@ -82,7 +145,9 @@ fn none_of_some() {
     is([text().some()], &[], 21, "an operand (one at least) is required, and was not found");
     // what is no number is not counted, and the fallback is not asked
     is([number().fallback(9).some().catch()], &["a"], 21, "an operand (one at least) is required, and was not found");
-    is([text(), weight().some()], &["a"], 21, "`-w`/`--weight` (one at least) is required, and was not found");
+    is([text(), weight().some()], &["a"], 21, "`-w` or `--weight` (one at least) is required, and was not found");
+    let choice = Node::flag(short('v')).or(Node::flag(short('q')));
+    is([choice.some()], &[], 21, "`-v` or `-q` (one at least) is required, and was not found");
 }
 
 #[test]

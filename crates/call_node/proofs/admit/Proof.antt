@@ -1,5 +1,5 @@
 use borrow.Author.Needs.{needs}
-use Rattle.call_node.proofs.Tests.{check-eight, form-refused, sheet-refused, items-short, answers-short, items-refused, state-refused, node-refused, all-passed}
+use Rattle.call_node.proofs.Tests.{check-eight, form-refused, sheet-refused, items-short, answers-short, list-short, items-refused, state-refused, node-refused, all-passed}
 use Rattle.call_node.proofs.admit.Statement.{statement}
 use Rattle.call_node.proofs.admit.Tie as tie
 
@@ -30,38 +30,44 @@ refused-requires-3 c κs = search needs
 returns-4 : tie.Need-returns-4
 returns-4 c = search answers-short
 
-check-requires-3 : tie.Need-check-requires-3
-check-requires-3 c κs = search needs
-
 refused-requires-4 : tie.Need-refused-requires-4
 refused-requires-4 c κs = search needs
 
 returns-5 : tie.Need-returns-5
-returns-5 c = search items-refused
+returns-5 c = search list-short
 
-good-requires : tie.Need-good-requires
-good-requires c κs = search needs
+check-requires-3 : tie.Need-check-requires-3
+check-requires-3 c κs = search needs
 
 refused-requires-5 : tie.Need-refused-requires-5
 refused-requires-5 c κs = search needs
 
 returns-6 : tie.Need-returns-6
-returns-6 c = search state-refused
+returns-6 c = search items-refused
 
-node-count-requires : tie.Need-node-count-requires
-node-count-requires c κs = search check-eight
+good-requires : tie.Need-good-requires
+good-requires c κs = search needs
 
 refused-requires-6 : tie.Need-refused-requires-6
 refused-requires-6 c κs = search needs
 
 returns-7 : tie.Need-returns-7
-returns-7 c = search node-refused
+returns-7 c = search state-refused
+
+node-count-requires : tie.Need-node-count-requires
+node-count-requires c κs = search check-eight
 
 refused-requires-7 : tie.Need-refused-requires-7
 refused-requires-7 c κs = search needs
 
 returns-8 : tie.Need-returns-8
-returns-8 c = search all-passed
+returns-8 c = search node-refused
+
+refused-requires-8 : tie.Need-refused-requires-8
+refused-requires-8 c κs = search needs
+
+returns-9 : tie.Need-returns-9
+returns-9 c = search all-passed
 
 pub admit-spec : {M : Type 1} → statement M
 admit-spec =
@@ -76,14 +82,16 @@ admit-spec =
     returns-3
     refused-requires-3
     returns-4
-    check-requires-3
     refused-requires-4
     returns-5
-    good-requires
+    check-requires-3
     refused-requires-5
     returns-6
-    node-count-requires
+    good-requires
     refused-requires-6
     returns-7
+    node-count-requires
     refused-requires-7
-    returns-8)
+    returns-8
+    refused-requires-8
+    returns-9)

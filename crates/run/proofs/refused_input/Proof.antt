@@ -9,6 +9,9 @@ fill-requires c κs = search needs
 fill-requires-2 : tie.Need-fill-requires-2
 fill-requires-2 c κs = search needs
 
+fill-requires-3 : tie.Need-fill-requires-3
+fill-requires-3 c κs = search needs
+
 refused-requires : tie.Need-refused-requires
 refused-requires c κs = search needs
 
@@ -18,10 +21,21 @@ same-length c = search needs
 same-length-2 : tie.Need-same-length-2
 same-length-2 c = search needs
 
+same-length-3 : tie.Need-same-length-3
+same-length-3 c = search needs
+
 returns : tie.Need-returns
 returns c = search refused-answer
 
 pub refused-input-spec : {M : Type 1} → statement M
 refused-input-spec =
     tie.close
-    (tie.spec fill-requires fill-requires-2 refused-requires same-length same-length-2 returns)
+    (tie.spec
+    fill-requires
+    fill-requires-2
+    fill-requires-3
+    refused-requires
+    same-length
+    same-length-2
+    same-length-3
+    returns)

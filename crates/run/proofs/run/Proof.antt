@@ -18,6 +18,9 @@ same-length c = search needs
 same-length-2 : tie.Need-same-length-2
 same-length-2 c = search needs
 
+same-length-3 : tie.Need-same-length-3
+same-length-3 c = search needs
+
 returns : tie.Need-returns
 returns c = search joined-answer
 
@@ -30,4 +33,5 @@ run-spec =
     joined-requires
     same-length
     same-length-2
+    same-length-3
     returns)

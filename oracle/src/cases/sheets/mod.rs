@@ -1,6 +1,7 @@
 //! Well-made sheets: a line for a form, made by looking at its names.
 
 mod long;
+mod sparse;
 
 use super::forms::{LONG_NAMES, OTHER_LETTERS};
 use super::Rng;
@@ -119,14 +120,20 @@ impl<'a> Line<'a> {
 
     /// What a few flags, arguments and positionals ask for, in any order.
     fn leaves(&mut self) {
-        let n = self.form.nodes.len();
         for _ in 0..self.rng.between(1, 6) {
-            let start = self.rng.below(n);
-            let leaf = (start..n)
-                .chain(0..start)
-                .find(|k| self.form.nodes[*k].kind <= POSITIONAL);
-            self.fit(leaf.unwrap_or(0) as u16, 0, u32::MAX);
+            let leaf = self.leaf();
+            self.fit(leaf, 0, u32::MAX);
         }
+    }
+
+    /// A flag, argument or positional of the form.
+    fn leaf(&mut self) -> u16 {
+        let n = self.form.nodes.len();
+        let start = self.rng.below(n);
+        let leaf = (start..n)
+            .chain(0..start)
+            .find(|k| self.form.nodes[*k].kind <= POSITIONAL);
+        leaf.unwrap_or(0) as u16
     }
 
     /// What a node asks for; a number is mostly from `lo` to `hi`.

@@ -8,9 +8,10 @@ use Rattle.replay.proofs.cases.run.Tie as tie
 
 returns-2 : tie.Need-returns-2
 returns-2 c e =
-    let ran = c .before .before .before .before .before .before .before .run .ensures in
-    let same = c .before .before .before .answer-same .ensures (not-false _ (c .before .before .if1 .left)) in
-    run-told _ _ _ (search needs) _ (search needs) _ _ _ ran _ _ same (c .words-same .ensures e)
+    let by-same = c .before .before .before in
+    let ran = by-same .before .before .before .before .before .run .ensures in
+    let same = by-same .answer-same .ensures (not-false _ (c .before .before .if1 .left)) in
+    run-told _ _ _ (search needs) _ (search needs) _ (search needs) _ _ _ _ ran _ _ same (c .words-same .ensures e)
 
 pub run-spec : {M : Type 1} → statement M
 run-spec =
@@ -18,6 +19,8 @@ run-spec =
     (tie.spec
     (λ c κs. search needs)
     (λ c κs. search needs)
+    (λ c κs. search needs)
+    (λ c. search needs)
     (λ c. search needs)
     (λ c. search needs)
     (λ c κs. search needs)

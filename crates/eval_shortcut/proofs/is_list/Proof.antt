@@ -1,10 +1,10 @@
 -- Invariant: the node that the walk is at is a list just where the first one is. Measure: the number of that node. Assumes nothing.
 use mathlib.Core.Logic.{inl, inr}
 use mathlib.Core.Path.{refl, sym, _∙_}
 use Rattle.eval_shortcut.proofs.Trees.{form-good, node-inside}
-use Rattle.run_fields.proofs.Shapes.{list-here, single-here, Walked, walked-first, walked-less, walked-next}
-use Rattle.run_fields.proofs.is_list.Statement.{statement}
-use Rattle.run_fields.proofs.is_list.Tie as tie
+use Rattle.eval_shortcut.proofs.Shapes.{list-here, single-here, Walked, walked-first, walked-less, walked-next}
+use Rattle.eval_shortcut.proofs.is_list.Statement.{statement}
+use Rattle.eval_shortcut.proofs.is_list.Tie as tie
 
 abbrev Inv-loop : tie.InvT-loop
 Inv-loop form node n₀ n = Walked form node n
