@@ -17,7 +17,7 @@ use Rattle.rules.specs.Sheet.{sheetFault, arguments}
 use Rattle.rules.specs.Form.{Form, readForm, fieldCount}
 use Rattle.rules.specs.Accept.{Checked, accepted, refusedAt, Accepted, checkForm}
 use Rattle.rules.specs.Eval.{ended}
-use Rattle.rules.specs.Run.{Line, tooMany, padded, refusedInput, report, reportWith, parsedMark, split, runAll, runLine, run}
+use Rattle.rules.specs.Run.{Line, tooMany, padded, refusedInput, report, reportWith, split, runAll, runLine, run}
 use Rattle.rules.specs.Answered.{AtFault, badForm, sheetAtFault, shortSlice, shortList, Ready, Demand1}
 use Rattle.rules.proofs.Acceptance.{accepted-form, accepted-fields}
 use Rattle.rules.proofs.WellMadeLaws.{well-made, refused-not-made, check-fault, check-numbers}
@@ -184,20 +184,20 @@ module _ (b s : List ℕ) (ni na nl : ℕ) (a : Accepted) (form : checkForm b �
       few-items = line-good a s l splits u .few
 
       -- what is missing fits the list, and only 20 has any
-      line-refused : (x : Refusal) → runLine (a .fields) l .outcome ≡ refused x → runAll parsedMark (l .items) (a .fields) (l .state) .outcome ≡ refused x
+      line-refused : (x : Refusal) → runLine (a .fields) l .outcome ≡ refused x → runAll 0 (l .items) (a .fields) (l .state) .outcome ≡ refused x
       unfolding runLine
       line-refused x e = rw (u, runLine) at e
 
-      list-fits : (x : Refusal) → runAll parsedMark (l .items) (a .fields) (l .state) .outcome ≡ refused x → length (listWords (x .missing)) ≤ nl
-      list-fits x e = omega (arith, list-length (x .missing), room, missing-told .fits b a form parsedMark (l .items) (l .state) x e)
+      list-fits : (x : Refusal) → runAll 0 (l .items) (a .fields) (l .state) .outcome ≡ refused x → length (listWords (x .missing)) ≤ nl
+      list-fits x e = omega (arith, list-length (x .missing), room, missing-told .fits b a form 0 (l .items) (l .state) x e)
 
       list-empty :
           (x : Refusal)
-          → runAll parsedMark (l .items) (a .fields) (l .state) .outcome ≡ refused x
+          → runAll 0 (l .items) (a .fields) (l .state) .outcome ≡ refused x
           → (x .number ≡ 20 → ⊥)
           → x .missing ≡ []
       unfolding isMissing
-      list-empty x e h = missing-told .run parsedMark (l .items) (a .fields) (l .state) x e .only (ne-eqb (x .number) 20 h)
+      list-empty x e h = missing-told .run 0 (l .items) (a .fields) (l .state) x e .only (ne-eqb (x .number) 20 h)
 
       values-reported : (vs : List Value) → runLine (a .fields) l .outcome ≡ ok vs → Demand1 b s ni na nl
       unfolding report reportWith

@@ -9,9 +9,8 @@ use Rattle.rules.specs.Outcome.{ok, _>>=_}
 use Rattle.rules.specs.Sheet.{sheetFault, arguments}
 use Rattle.rules.specs.Accept.{Accepted, accepted, checkForm}
 use Rattle.rules.specs.Value.{BaseValue}
-use Rattle.rules.specs.State.{parsed}
 use Rattle.rules.specs.Eval.{Visit, statesOf}
-use Rattle.rules.specs.Run.{Line, split, runLine, tooMany, parsedMark, report, run}
+use Rattle.rules.specs.Run.{Line, split, runLine, tooMany, report, run}
 use Rattle.rules.specs.Demands.{All, Counted, Bytes, Means, Faultless, WholeRun, Demand3}
 use Rattle.rules.specs.WellMade.{SheetMade}
 use Rattle.rules.proofs.Acceptance.{accepted-sound}
@@ -44,8 +43,8 @@ module _ (b s : List ℕ) (a : Accepted) (form : checkForm b ≡ accepted a) whe
   module _ (l : Line) (splits : split (a .form) s ≡ ok l) (unrefused : l .refusal ≡ none) where
     -- the run of all fields on the items of the line, whatever base values mean and under what they mean
     pub line-runs : RunsAll Any (length (l .items)) (a .fields) (l .state) (runLine (a .fields) l)
-    unfolding runLine parsedMark parsed
-    line-runs = rw unrefused (all-sound 1 refl (l .items) (a .fields) (accepted-sound b a form) (l .state) (line-good a s l splits unrefused .good))
+    unfolding runLine
+    line-runs = rw unrefused (all-sound 0 (l .items) (a .fields) (accepted-sound b a form) (l .state) (line-good a s l splits unrefused .good))
 
     abbrev M : BaseValue → Type 0
     M = Means (l .items) (a .form .names)
@@ -54,12 +53,12 @@ module _ (b s : List ℕ) (a : Accepted) (form : checkForm b ≡ accepted a) whe
     few = line-good a s l splits unrefused .few
 
     line-means : Bytes b → RunsAll M (length (l .items)) (a .fields) (l .state) (runLine (a .fields) l)
-    unfolding runLine parsedMark parsed
+    unfolding runLine
     line-means bytes =
         let means = line-meaning (l .items) (a .form .names) few in
         let sound = accepted-sound b a form in
         let fallbacks = accepted-mean (l .items) b a bytes form in
-        rw unrefused (all-means 1 refl (l .items) M means (a .fields) sound fallbacks (l .state) (line-good a s l splits unrefused .good))
+        rw unrefused (all-means 0 (l .items) M means (a .fields) sound fallbacks (l .state) (line-good a s l splits unrefused .good))
 
     -- what is reported is this run's
     run-reported : (ni na nl : ℕ) → sheetFault s ≡ 0 → 1792 ≤ ni → 8240 ≤ na → 192 ≤ nl → run b s ni na nl ≡ report ni na nl l (runLine (a .fields) l)

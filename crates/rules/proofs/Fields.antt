@@ -13,7 +13,7 @@ use Rattle.rules.specs.Tree.{Tree, kindOf, hasRepeat}
 use Rattle.rules.specs.Split.{Item}
 use Rattle.rules.specs.State.{State, Found, parsed, presentAt, presentFrom, unused, first}
 use Rattle.rules.specs.Eval.{Ran, ended, _then_, eval}
-use Rattle.rules.specs.Run.{runFields, leftOver, runAll}
+use Rattle.rules.specs.Run.{parsedMark, markOf, runFields, leftOver, runAll}
 use Rattle.rules.specs.Demands.{All, OnePerField, Ends}
 use Rattle.rules.specs.Sound.{Good, leaves, allLeaves, Sound}
 use Rattle.rules.proofs.Steps.{Step, inner, most, Visited}
@@ -63,17 +63,21 @@ most-leaves t r = if-holds (λ (x : ℕ). x ≤ (r + 2) * leaves t) (hasRepeat t
 abbrev pub AllMean : (BaseValue → Type 0) → List Tree → Type 0
 AllMean M ts = All (λ (t : Tree). All M (fallbacks t)) ts
 
-module _ (k : ℕ) (p : parsed k ≡ true) (is : List Item) (M : BaseValue → Type 0) (means : Meaning is M) where
+pub field-parsed : (k : ℕ) → parsed (markOf k) ≡ true
+unfolding parsed markOf parsedMark
+field-parsed k = refl
+
+module _ (is : List Item) (M : BaseValue → Type 0) (means : Meaning is M) where
   pub fields-sound :
-      (ts : List Tree)
+      (k : ℕ) (ts : List Tree)
       → All Sound ts
       → AllMean M ts
       → (s : State)
       → Good (length is) s
       → Went M (length is) 26 (FieldsFit M (s .remaining + 1) ts) s ((s .remaining + 2) * allLeaves ts) (runFields k is ts s)
   unfolding runFields allLeaves
-  fields-sound [] z y s g = went-cost (omega arith) (ended-went s (ok []) (step-refl g) (tt, tt))
-  fields-sound (t ∷ ts) z y s g = first-field (λ u h. fields-sound ts (z .1) (y .1) u h)
+  fields-sound k [] z y s g = went-cost (omega arith) (ended-went s (ok []) (step-refl g) (tt, tt))
+  fields-sound k (t ∷ ts) z y s g = first-field (λ u h. fields-sound (suc k) ts (z .1) (y .1) u h)
     where
       n : ℕ
       n = length is
@@ -82,18 +86,18 @@ module _ (k : ℕ) (p : parsed k ≡ true) (is : List Item) (M : BaseValue → T
       m = s .remaining + 1
 
       r : Ran Value
-      r = eval k is t s
+      r = eval (markOf k) is t s
 
       w : Went M n 26 (Fits M m (kindOf t)) s (most t (s .remaining)) r
-      w = eval-means k p is M means t (z .0) (y .0) s g .went
+      w = eval-means (markOf k) (field-parsed k) is M means t (z .0) (y .0) s g .went
 
       small : (vs : List Value) → All (Small (r .state .remaining + 1)) vs → All (Small m) vs
       small vs = all-weaker _ (Small m) vs (λ v h. let f = w .step .fewer in omega (arith, h .0, h .1))
 
       first-field :
-          ((u : State) → Good n u → Went M n 26 (FieldsFit M (u .remaining + 1) ts) u ((u .remaining + 2) * allLeaves ts) (runFields k is ts u))
+          ((u : State) → Good n u → Went M n 26 (FieldsFit M (u .remaining + 1) ts) u ((u .remaining + 2) * allLeaves ts) (runFields (suc k) is ts u))
           → Went M n 26 (FieldsFit M m (t ∷ ts)) s ((s .remaining + 2) * (leaves t + allLeaves ts))
-          (r then λ v u. runFields k is ts u then λ vs w. ended (ok (v ∷ vs)) w)
+          (r then λ v u. runFields (suc k) is ts u then λ vs w. ended (ok (v ∷ vs)) w)
       first-field rest =
           let f = w .step .fewer in
           went-cost (omega (arith, most-leaves t (s .remaining), mul-add (s .remaining + 2) (leaves t) (allLeaves ts)))
@@ -144,13 +148,13 @@ left-fine P vs none p = p
 left-fine P vs (some x) p = omega arith
 
 module _
-    (k : ℕ) (p : parsed k ≡ true) (is : List Item) (M : BaseValue → Type 0) (means : Meaning is M) (ts : List Tree)
+    (k : ℕ) (is : List Item) (M : BaseValue → Type 0) (means : Meaning is M) (ts : List Tree)
     (z : All Sound ts) (y : AllMean M ts) (s : State) (g : Good (length is) s)
   where
     pub all-means : RunsAll M (length is) ts s (runAll k is ts s)
     unfolding runAll _>>=_
     all-means =
-        let w = fields-sound k p is M means ts z y s g in
+        let w = fields-sound is M means k ts z y s g in
         let x = first-found is (runFields k is ts s .state) (w .step .good) in
         went-all M (length is) ts s _ g
         (then-ended (λ vs t. first is t >>= leftOver vs) (went-weaker (omega arith) (λ v q. q) w)
@@ -161,9 +165,9 @@ pub all-fallbacks : (ts : List Tree) → AllMean Any ts
 all-fallbacks [] = tt
 all-fallbacks (t ∷ ts) = (all-any (fallbacks t), all-fallbacks ts)
 
-module _ (k : ℕ) (p : parsed k ≡ true) (is : List Item) (ts : List Tree) (z : All Sound ts) (s : State) (g : Good (length is) s) where
+module _ (k : ℕ) (is : List Item) (ts : List Tree) (z : All Sound ts) (s : State) (g : Good (length is) s) where
   pub fields-run : RunsAll Any (length is) ts s (runFields k is ts s)
-  fields-run = went-all Any _ ts s _ g (went-weaker (omega arith) (λ v q. q) (fields-sound k p is Any (any-meaning is) ts z (all-fallbacks ts) s g))
+  fields-run = went-all Any _ ts s _ g (went-weaker (omega arith) (λ v q. q) (fields-sound is Any (any-meaning is) k ts z (all-fallbacks ts) s g))
 
   pub all-sound : RunsAll Any (length is) ts s (runAll k is ts s)
-  all-sound = all-means k p is Any (any-meaning is) ts z (all-fallbacks ts) s g
+  all-sound = all-means k is Any (any-meaning is) ts z (all-fallbacks ts) s g

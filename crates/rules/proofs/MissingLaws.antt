@@ -23,7 +23,7 @@ use Rattle.rules.specs.Take.{took, matchesArg, takeFlag, valueText, take
 use Rattle.rules.specs.Eval.{Ran, ended, after, _then_, visit, leaf, refuseMissing, shownName, notFound, flagValue, evalFlag, numberOf, parseText, argumentValue, evalArgument}
 use Rattle.rules.specs.Eval.{wrongPosition, placedValue, positionalValue, evalPositional, fewer, swallowed, parseOption, evalOptional, idle, repeat, repeated}
 use Rattle.rules.specs.Eval.{evalMany, evalSome, evalCount, lastOf, evalLast, side, picksFirst, won, valueOf, picked, chosen, evalChoice, evalFallback, guarded, evalGuard, eval}
-use Rattle.rules.specs.Run.{runFields, leftOver, runAll}
+use Rattle.rules.specs.Run.{markOf, runFields, leftOver, runAll}
 use Rattle.rules.specs.Demands.{All}
 use Rattle.rules.specs.Sound.{leaves, allLeaves}
 use Rattle.rules.specs.Missing.{entry, endsMissing, lacking, LookedIn, Lacks, FieldLacks, MissingTold}
@@ -690,12 +690,20 @@ then-refused {A = A} r f e q = go (r .outcome) refl
 
 -- one field before them
 later-field :
-    (mark : ℕ) (is : List Item) (t : Tree) (ts : List Tree) (left : State) (e : Refusal)
-    → FieldLacks mark is ts left e
-    → FieldLacks mark is (t ∷ ts) left e
-later-field mark is t ts left e f = record {
+    (k : ℕ) (is : List Item) (t : Tree) (ts : List Tree) (left : State) (e : Refusal)
+    → FieldLacks (suc k) is ts left e
+    → FieldLacks k is (t ∷ ts) left e
+later-field k is t ts left e f = record {
   only = f .only;
-  listed = λ h. let x = f .listed h in record { field = suc (x .field); tree = x .tree; here = x .here; same = x .same };
+  listed = λ h.
+      let x = f .listed h in
+      let next : suc k + x .field ≡ k + suc (x .field) = omega arith in
+      record {
+        field = suc (x .field);
+        tree = x .tree;
+        here = x .here;
+        same = x .same ∙ ap (λ (n : ℕ). lacking (markOf n) is (x .tree) left) next;
+      };
 }
 
 tree-lacks :
@@ -706,48 +714,55 @@ tree-lacks mark is t s e q =
     subst (λ (o : Outcome Value). Tells (lacking mark is t s) s o (eval mark is t s .state)) q (eval-tells mark is t s)
 
 field-lacks :
-    (mark : ℕ) (is : List Item) (t : Tree) (ts : List Tree) (s : State) (e : Refusal)
-    → eval mark is t s .outcome ≡ refused e
-    → FieldLacks mark is (t ∷ ts) (eval mark is t s .state) e
-field-lacks mark is t ts s e q =
-    let law = tree-lacks mark is t s e q in
+    (k : ℕ) (is : List Item) (t : Tree) (ts : List Tree) (s : State) (e : Refusal)
+    → eval (markOf k) is t s .outcome ≡ refused e
+    → FieldLacks k is (t ∷ ts) (eval (markOf k) is t s .state) e
+field-lacks k is t ts s e q =
+    let law = tree-lacks (markOf k) is t s e q in
+    let here : k ≡ k + 0 = omega arith in
+    let left = eval (markOf k) is t s .state in
     record {
       only = law .only;
-      listed = λ h. record { field = 0; tree = t; here = refl; same = law .listed h ∙ ap (lacking mark is t) (sym (law .unchanged h)) };
+      listed = λ h. record {
+        field = 0;
+        tree = t;
+        here = refl;
+        same =
+            law .listed h ∙ ap (lacking (markOf k) is t) (sym (law .unchanged h))
+            ∙ ap (λ (n : ℕ). lacking (markOf n) is t left) here;
+      };
     }
 
-module _ (mark : ℕ) (is : List Item) (t : Tree) (ts : List Tree) where
+module _ (k : ℕ) (is : List Item) (t : Tree) (ts : List Tree) where
   abbrev rest : Value → State → Ran (List Value)
-  rest v u = runFields mark is ts u then λ vs w. ended (ok (v ∷ vs)) w
+  rest v u = runFields (suc k) is ts u then λ vs w. ended (ok (v ∷ vs)) w
 
-  module _ (h : (u : State) (e : Refusal) → runFields mark is ts u .outcome ≡ refused e → FieldLacks mark is ts (runFields mark is ts u .state) e) where
-    rest-lacks : (v : Value) (u : State) (e : Refusal) → rest v u .outcome ≡ refused e → FieldLacks mark is (t ∷ ts) (rest v u .state) e
+  module _ (h : (u : State) (e : Refusal) → runFields (suc k) is ts u .outcome ≡ refused e → FieldLacks (suc k) is ts (runFields (suc k) is ts u .state) e) where
+    rest-lacks : (v : Value) (u : State) (e : Refusal) → rest v u .outcome ≡ refused e → FieldLacks k is (t ∷ ts) (rest v u .state) e
     unfolding ended
-    rest-lacks v u e q = go (then-refused (runFields mark is ts u) (λ vs w. ended (ok (v ∷ vs)) w) e q)
+    rest-lacks v u e q = go (then-refused (runFields (suc k) is ts u) (λ vs w. ended (ok (v ∷ vs)) w) e q)
       where
-        go : Refuses (runFields mark is ts u) (λ vs w. ended (ok (v ∷ vs)) w) e → FieldLacks mark is (t ∷ ts) (rest v u .state) e
-        go (at-once k l) =
-            rw l (later-field mark is t ts (runFields mark is ts u .state) e (h u e k))
-        go (going-on vs k l) = absurd (let z : _≡_ {A = ℕ} 0 1 = cc in omega arith)
+        go : Refuses (runFields (suc k) is ts u) (λ vs w. ended (ok (v ∷ vs)) w) e → FieldLacks k is (t ∷ ts) (rest v u .state) e
+        go (at-once w l) = rw l (later-field k is t ts (runFields (suc k) is ts u .state) e (h u e w))
+        go (going-on vs w l) = absurd (let z : _≡_ {A = ℕ} 0 1 = cc in omega arith)
 
     first-lacks :
         (s : State) (e : Refusal)
-        → (eval mark is t s then rest) .outcome ≡ refused e
-        → FieldLacks mark is (t ∷ ts) ((eval mark is t s then rest) .state) e
-    first-lacks s e q = go (then-refused (eval mark is t s) rest e q)
+        → (eval (markOf k) is t s then rest) .outcome ≡ refused e
+        → FieldLacks k is (t ∷ ts) ((eval (markOf k) is t s then rest) .state) e
+    first-lacks s e q = go (then-refused (eval (markOf k) is t s) rest e q)
       where
-        go : Refuses (eval mark is t s) rest e → FieldLacks mark is (t ∷ ts) ((eval mark is t s then rest) .state) e
-        go (at-once k l) =
-            rw l (field-lacks mark is t ts s e k)
-        go (going-on v k l) = rw l (rest-lacks v (eval mark is t s .state) e k)
+        go : Refuses (eval (markOf k) is t s) rest e → FieldLacks k is (t ∷ ts) ((eval (markOf k) is t s then rest) .state) e
+        go (at-once w l) = rw l (field-lacks k is t ts s e w)
+        go (going-on v w l) = rw l (rest-lacks v (eval (markOf k) is t s .state) e w)
 
 fields-lack :
-    (mark : ℕ) (is : List Item) (ts : List Tree) (s : State) (e : Refusal)
-    → runFields mark is ts s .outcome ≡ refused e
-    → FieldLacks mark is ts (runFields mark is ts s .state) e
+    (k : ℕ) (is : List Item) (ts : List Tree) (s : State) (e : Refusal)
+    → runFields k is ts s .outcome ≡ refused e
+    → FieldLacks k is ts (runFields k is ts s .state) e
 unfolding runFields ended
-fields-lack mark is [] s e q = absurd (let z : _≡_ {A = ℕ} 0 1 = cc in omega arith)
-fields-lack mark is (t ∷ ts) s e q = first-lacks mark is t ts (λ u d k. fields-lack mark is ts u d k) s e q
+fields-lack k is [] s e q = absurd (let z : _≡_ {A = ℕ} 0 1 = cc in omega arith)
+fields-lack k is (t ∷ ts) s e q = first-lacks k is t ts (λ u d h. fields-lack (suc k) is ts u d h) s e q
 
 -- 27 has no entries
 left-never : (vs : List Value) (o : Outcome (Option Found)) → NoRefusal o → Never (o >>= leftOver vs)
@@ -758,25 +773,25 @@ left-never vs (refused e) h = absurd h
 left-never vs (fault x) h = tt
 
 run-lacks :
-    (mark : ℕ) (is : List Item) (ts : List Tree) (s : State) (e : Refusal)
-    → runAll mark is ts s .outcome ≡ refused e
-    → FieldLacks mark is ts (runAll mark is ts s .state) e
+    (k : ℕ) (is : List Item) (ts : List Tree) (s : State) (e : Refusal)
+    → runAll k is ts s .outcome ≡ refused e
+    → FieldLacks k is ts (runAll k is ts s .state) e
 unfolding runAll first find ended
-run-lacks mark is ts s e q = go (then-refused (runFields mark is ts s) (λ vs t. ended (first is t >>= leftOver vs) t) e q)
+run-lacks k is ts s e q = go (then-refused (runFields k is ts s) (λ vs t. ended (first is t >>= leftOver vs) t) e q)
   where
     go :
-        Refuses (runFields mark is ts s) (λ vs t. ended (first is t >>= leftOver vs) t) e
-        → FieldLacks mark is ts ((runFields mark is ts s then λ vs t. ended (first is t >>= leftOver vs) t) .state) e
-    go (at-once k l) = rw l (fields-lack mark is ts s e k)
-    go (going-on vs k l) = rw l (over vs (runFields mark is ts s .state) k)
+        Refuses (runFields k is ts s) (λ vs t. ended (first is t >>= leftOver vs) t) e
+        → FieldLacks k is ts ((runFields k is ts s then λ vs t. ended (first is t >>= leftOver vs) t) .state) e
+    go (at-once w l) = rw l (fields-lack k is ts s e w)
+    go (going-on vs w l) = rw l (over vs (runFields k is ts s .state) w)
       where
         over :
             (vs : List Value) (t : State)
             → ended (first is t >>= leftOver vs) t .outcome ≡ refused e
-            → FieldLacks mark is ts (ended (first is t >>= leftOver vs) t .state) e
-        over vs t k =
+            → FieldLacks k is ts (ended (first is t >>= leftOver vs) t .state) e
+        over vs t w =
             let n = left-never vs (first is t) (find-none is (λ _. true) (unused t)) in
-            let none : Never {A = List Value} (refused e) = subst (λ (o : Outcome (List Value)). Never o) k n in
+            let none : Never {A = List Value} (refused e) = subst (λ (o : Outcome (List Value)). Never o) w n in
             record { only = λ _. none .1; listed = λ h. absurd (true≢false (sym h ∙ none .0)) }
 
 -- an accepted form has 64 nodes at most
@@ -797,16 +812,16 @@ leaves-within (u ∷ ts) (suc k) t e = let h = leaves-within ts k t e in omega a
 list-fits :
     (b : List ℕ) (a : Accepted)
     → checkForm b ≡ accepted a
-    → (mark : ℕ) (is : List Item) (s : State) (e : Refusal)
-    → runAll mark is (a .fields) s .outcome ≡ refused e
+    → (k : ℕ) (is : List Item) (s : State) (e : Refusal)
+    → runAll k is (a .fields) s .outcome ≡ refused e
     → 3 * length (e .missing) ≤ 192
-list-fits b a h mark is s e q = go (isMissing e) refl (run-lacks mark is (a .fields) s e q)
+list-fits b a h k is s e q = go (isMissing e) refl (run-lacks k is (a .fields) s e q)
   where
-    go : (b : Bool) → isMissing e ≡ b → FieldLacks mark is (a .fields) (runAll mark is (a .fields) s .state) e → 3 * length (e .missing) ≤ 192
+    go : (b : Bool) → isMissing e ≡ b → FieldLacks k is (a .fields) (runAll k is (a .fields) s .state) e → 3 * length (e .missing) ≤ 192
     go true x f =
         let y = f .listed x in
         let same = ap length (y .same) in
-        let few = lacking-few mark is (y .tree) (runAll mark is (a .fields) s .state) in
+        let few = lacking-few (markOf (k + y .field)) is (y .tree) (runAll k is (a .fields) s .state) in
         let within = leaves-within (a .fields) (y .field) (y .tree) (y .here) in
         let all = accepted-few b a h in
         omega arith

@@ -12,7 +12,7 @@ use Rattle.rules.specs.Value.{Value, answerWords}
 use Rattle.rules.specs.Form.{Form, readForm}
 use Rattle.rules.specs.Eval.{Ran}
 use Rattle.rules.specs.Accept.{Accepted, accepted, checkForm}
-use Rattle.rules.specs.Run.{Line, Report, parsedMark, report, reportWith, split, runAll, runLine, run}
+use Rattle.rules.specs.Run.{Line, Report, report, reportWith, split, runAll, runLine, run}
 use Rattle.rules.specs.Answered.{FormFault, badCounts, badName, badNode, badField, badUse, SheetFault, manyArguments, badSheet}
 use Rattle.rules.specs.Answered.{AtFault, badForm, sheetAtFault, shortSlice, shortList, manyItems, ambiguousLetter, Left, Ready, RunNumber}
 use Rattle.rules.specs.Missing.{ListReported}
@@ -46,7 +46,7 @@ fault-other b s ni na nl n k (ambiguousLetter x j w m i o l p h q) e = omega ari
 
 module _ (b s : List ℕ) (ni na nl : ℕ) (ready : Ready b s ni na nl) (a : Accepted) (form : checkForm b ≡ accepted a) where
   abbrev all : Ran (List Value)
-  all = runAll parsedMark (ready .line .items) (a .fields) (ready .line .state)
+  all = runAll 0 (ready .line .items) (a .fields) (ready .line .state)
 
   splits : split (a .form) s ≡ ok (ready .line)
   splits = ap (λ (f : Form). split f s) (accepted-form b a form) ∙ ready .splits
@@ -80,7 +80,7 @@ module _ (b s : List ℕ) (ni na nl : ℕ) (ready : Ready b s ni na nl) (a : Acc
             line = ready .line;
             splits = splits;
             entries = d .missing;
-            ofField = rw (ap (λ (x : Report). x .state) same) (missing-told .run parsedMark (ready .line .items) (a .fields) (ready .line .state) d q .listed twenty);
+            ofField = rw (ap (λ (x : Report). x .state) same) (missing-told .run 0 (ready .line .items) (a .fields) (ready .line .state) d q .listed twenty);
             list = ap (λ (x : Report). x .list) same;
           }
       go (fault x) q =

@@ -37,7 +37,7 @@ use Rattle.rules.specs.Eval.{wrongPosition, placedValue, positionalValue
 use Rattle.rules.specs.Eval.{evalOptional, idle, repeat, repeated, evalMany, evalSome, evalCount, lastOf, evalLast, side}
 use Rattle.rules.specs.Eval.{picksFirst, won, valueOf, picked, chosen, evalChoice, evalFallback, guarded, evalGuard, eval}
 use Rattle.rules.specs.Given.{formIn, sheetIn, roomIn, listRoomIn, sliceIn, inputIn}
-use Rattle.rules.specs.Run.{parsedMark, tooMany, ambiguity, lineOf, split, runFields, leftOver, runAll, runLine, padded}
+use Rattle.rules.specs.Run.{parsedMark, markOf, tooMany, ambiguity, lineOf, split, runFields, leftOver, runAll, runLine, padded}
 use Rattle.rules.specs.Run.{refusedInput, reportWith, report, run}
 use Rattle.rules.specs.Encode.{bytesOf, wordsOf, offsetsFrom, encodeSheet, encodeNode, encodeName, encodeForm}
 use Rattle.rules.specs.Lines.{reported, entries, allKinds}
@@ -82,7 +82,7 @@ unfolding ended after _then_ visit statesOf leaf refuseMissing shownName notFoun
 evaluation = tt
 
 unfoldable pub running : Unit {0}
-unfolding formIn sheetIn roomIn listRoomIn sliceIn inputIn parsedMark tooMany ambiguity lineOf split runFields leftOver runAll
+unfolding formIn sheetIn roomIn listRoomIn sliceIn inputIn parsedMark markOf tooMany ambiguity lineOf split runFields leftOver runAll
     runLine padded refusedInput reportWith report run bytesOf wordsOf offsetsFrom encodeSheet encodeNode encodeName
     encodeForm reported entries allKinds
 running = tt

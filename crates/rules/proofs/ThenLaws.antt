@@ -1,7 +1,7 @@
 -- Laws of `_then_`, of traces, and of fields one after the other.
 use mathlib.Core.List.{List, [], _∷_, _++_, append-nil, append-assoc}
 use mathlib.Core.Path.{_≡_, refl, sym, _∙_}
-use Prim.Native.Nat.{ℕ, _*_}
+use Prim.Native.Nat.{ℕ, suc, _+_, _*_}
 use native.Mathlib.Nat.{zero-add, add-zero, add-assoc}
 use native.Mathlib.Omega.{arith}
 use lib.ListN.{length}
@@ -70,14 +70,18 @@ module _ {A B C : Type 0} where
 -- fields one after the other
 pub fields-append :
     (k : ℕ) (is : List Item) (ts us : List Tree) (s : State)
-    → runFields k is (ts ++ us) s ≡ (runFields k is ts s then λ vs u. runFields k is us u then λ ws w. ended (ok (vs ++ ws)) w)
+    → runFields k is (ts ++ us) s
+    ≡ (runFields k is ts s then λ vs u. runFields (k + length ts) is us u then λ ws w. ended (ok (vs ++ ws)) w)
 unfolding runFields
 fields-append k is [] us s =
-    sym (then-first [] s (λ vs u. runFields k is us u then λ ws w. ended (ok (vs ++ ws)) w) ∙ then-last (runFields k is us s))
+    let here : k + 0 ≡ k = omega arith in
+    rw here (sym (then-first [] s (λ vs u. runFields k is us u then λ ws w. ended (ok (vs ++ ws)) w) ∙ then-last (runFields k is us s)))
 fields-append k is (t ∷ ts) us s =
+    let next : k + suc (length ts) ≡ suc k + length ts = omega arith in
     let ih :
     (u : State)
-    → runFields k is (ts ++ us) u ≡ (runFields k is ts u then λ vs u. runFields k is us u then λ ws w. ended (ok (vs ++ ws)) w) =
-    fields-append k is ts us
+    → runFields (suc k) is (ts ++ us) u
+    ≡ (runFields (suc k) is ts u then λ vs u. runFields (suc k + length ts) is us u then λ ws w. ended (ok (vs ++ ws)) w) =
+    fields-append (suc k) is ts us
     in
-    simp (ih, then-assoc, then-first)
+    rw next (simp (ih, then-assoc, then-first))

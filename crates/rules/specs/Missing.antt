@@ -3,7 +3,7 @@ use mathlib.Core.Bool.{Bool, true, false}
 use mathlib.Core.List.{List, [], _∷_, _++_}
 use mathlib.Core.Option.{some}
 use mathlib.Core.Path.{_≡_}
-use Prim.Native.Nat.{ℕ, _*_, _≤_}
+use Prim.Native.Nat.{ℕ, _+_, _*_, _≤_}
 use lib.ListN.{length, getElem?}
 use Rattle.utf8.specs.Utf8.{if_then_else_}
 use Rattle.rules.specs.Outcome.{Outcome, ok, refused, fault, MissingItem, listWords, Refusal, isMissing}
@@ -13,7 +13,7 @@ use Rattle.rules.specs.Accept.{Accepted, accepted, checkForm}
 use Rattle.rules.specs.Split.{Item}
 use Rattle.rules.specs.State.{State}
 use Rattle.rules.specs.Eval.{eval}
-use Rattle.rules.specs.Run.{Line, Report, parsedMark, padded, split, runAll}
+use Rattle.rules.specs.Run.{Line, Report, markOf, padded, split, runAll}
 use Rattle.rules.specs.Demands.{All}
 use Rattle.rules.specs.Sound.{leaves}
 
@@ -55,16 +55,17 @@ pub record Lacks (entries : List MissingItem) (s left : State) (e : Refusal) : T
 abbrev pub LookedIn : State → MissingItem → Type 0
 LookedIn s x = (x .start ≡ s .start) × (x .end ≡ s .end)
 
--- the run of all fields: only 20 has entries, and they are what one of the fields lacks in the state that is left
-pub record OfField (mark : ℕ) (is : List Item) (ts : List Tree) (left : State) (entries : List MissingItem) : Type 0 where
+-- the run of all fields, of which the first has number k: only 20 has entries, and they are what one of the fields lacks in the
+-- state that is left
+pub record OfField (k : ℕ) (is : List Item) (ts : List Tree) (left : State) (entries : List MissingItem) : Type 0 where
   pub field : ℕ
   pub tree : Tree
   pub here : getElem? ts field ≡ some tree
-  pub same : entries ≡ lacking mark is tree left
+  pub same : entries ≡ lacking (markOf (k + field)) is tree left
 
-pub record FieldLacks (mark : ℕ) (is : List Item) (ts : List Tree) (left : State) (e : Refusal) : Type 0 where
+pub record FieldLacks (k : ℕ) (is : List Item) (ts : List Tree) (left : State) (e : Refusal) : Type 0 where
   pub only : isMissing e ≡ false → e .missing ≡ []
-  pub listed : isMissing e ≡ true → OfField mark is ts left (e .missing)
+  pub listed : isMissing e ≡ true → OfField k is ts left (e .missing)
 
 pub record MissingTold : Type 0 where
   pub lacks :
@@ -75,15 +76,15 @@ pub record MissingTold : Type 0 where
   pub scopes : (mark : ℕ) (is : List Item) (t : Tree) (s : State) → All (LookedIn s) (lacking mark is t s)
   pub few : (mark : ℕ) (is : List Item) (t : Tree) (s : State) → length (lacking mark is t s) ≤ leaves t
   pub run :
-      (mark : ℕ) (is : List Item) (ts : List Tree) (s : State) (e : Refusal)
-      → runAll mark is ts s .outcome ≡ refused e
-      → FieldLacks mark is ts (runAll mark is ts s .state) e
+      (k : ℕ) (is : List Item) (ts : List Tree) (s : State) (e : Refusal)
+      → runAll k is ts s .outcome ≡ refused e
+      → FieldLacks k is ts (runAll k is ts s .state) e
   -- of an accepted form: three words an entry fit into 192
   pub fits :
       (b : List ℕ) (a : Accepted)
       → checkForm b ≡ accepted a
-      → (mark : ℕ) (is : List Item) (s : State) (e : Refusal)
-      → runAll mark is (a .fields) s .outcome ≡ refused e
+      → (k : ℕ) (is : List Item) (s : State) (e : Refusal)
+      → runAll k is (a .fields) s .outcome ≡ refused e
       → 3 * length (e .missing) ≤ 192
 
 -- ---- what a run reports with 20: the list is what one of the form's fields lacks in the state that is handed back
@@ -93,5 +94,5 @@ pub record ListReported (b s : List ℕ) (nl : ℕ) (r : Report) : Type 0 where
   pub line : Line
   pub splits : split (form .form) s ≡ ok line
   pub entries : List MissingItem
-  pub ofField : OfField parsedMark (line .items) (form .fields) (r .state) entries
+  pub ofField : OfField 0 (line .items) (form .fields) (r .state) entries
   pub list : r .list ≡ padded nl (listWords entries)

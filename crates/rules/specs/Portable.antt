@@ -10,7 +10,7 @@ use Rattle.rules.specs.Outcome.{ok}
 use Rattle.rules.specs.Form.{Node, Name, Form, nameBytes, oneCharacter, portableName, portable}
 use Rattle.rules.specs.Calls.{callPortable}
 use Rattle.rules.specs.Encode.{encodeForm}
-use Rattle.rules.specs.Lines.{numberArgument, switch, positional, optional, many, guard, letter, long, node}
+use Rattle.rules.specs.Lines.{switch, positional, optional, many, guard, letter, long, node}
 use Rattle.rules.specs.Demands.{All}
 
 -- POSIX chapter 12, guideline 3: alphanumeric, so 0..9 belong; `-W` is reserved for vendor options

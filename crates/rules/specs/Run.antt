@@ -1,7 +1,7 @@
 -- The run: the whole answer to a form and a sheet, with what the three slices hold.
 use mathlib.Core.List.{List, [], _∷_, _++_}
 use mathlib.Core.Option.{Option, some, none}
-use Prim.Native.Nat.{ℕ, _+_, _-_}
+use Prim.Native.Nat.{ℕ, suc, _+_, _-_}
 use lib.Dec.{ltb}
 use lib.ListN.{length, replicate}
 use Rattle.utf8.specs.Utf8.{if_then_else_}
@@ -51,10 +51,15 @@ lineOf args x =
 unfoldable pub split : Form → List ℕ → Outcome Line
 split f s = splitFrom (lettersOf f) 0 (arguments s) >>= lineOf (arguments s)
 
--- ---- fields in order on one state, `current` carried on, stopping at the first refusal
+-- the mark of what field k uses: every field has the same
+unfoldable pub markOf : ℕ → ℕ
+markOf k = parsedMark
+
+-- ---- fields in order on one state, of which the first has number k, `current` carried on, stopping at the first refusal
 unfoldable pub runFields : ℕ → List Item → List Tree → State → Ran (List Value)
 runFields k is [] s = ended (ok []) s
-runFields k is (t ∷ ts) s = eval k is t s then λ v u. runFields k is ts u then λ vs w. ended (ok (v ∷ vs)) w
+runFields k is (t ∷ ts) s =
+    eval (markOf k) is t s then λ v u. runFields (suc k) is ts u then λ vs w. ended (ok (v ∷ vs)) w
 
 -- then 27 if a present place is left in scope
 unfoldable pub leftOver : List Value → Option Found → Outcome (List Value)
@@ -66,7 +71,7 @@ runAll k is ts s = runFields k is ts s then λ vs t. ended (first is t >>= leftO
 
 -- splitting's refusal stands, or the fields run
 unfoldable pub runLine : List Tree → Line → Ran (List Value)
-runLine ts l = elim (l .refusal) [ some e ↦ ended (refused e) (l .state) | none ↦ runAll parsedMark (l .items) ts (l .state) ]
+runLine ts l = elim (l .refusal) [ some e ↦ ended (refused e) (l .state) | none ↦ runAll 0 (l .items) ts (l .state) ]
 
 -- ---- what is reported
 pub record Report : Type 0 where

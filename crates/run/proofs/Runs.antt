@@ -20,7 +20,7 @@ use Rattle.rules.specs.Split.{Item}
 use Rattle.rules.specs.State.{State, parsed, emptyState}
 use Rattle.rules.specs.Eval.{Ran as Run}
 use Rattle.rules.specs.Eval as eval
-use Rattle.rules.specs.Run.{Line, split, padded, refusedInput, reportWith, report, run, runAll, runLine, parsedMark}
+use Rattle.rules.specs.Run.{Line, split, padded, refusedInput, reportWith, report, run, runAll, runLine, markOf}
 use Rattle.rules.specs.Missing.{lacking}
 use Rattle.rules.specs.Calls.{toRaw}
 use Rattle.rules.specs.declared.State.{State as Raw}
@@ -218,13 +218,13 @@ reached-fits :
     (b : List ℕ) (a : Accepted)
     → checkForm b ≡ accepted a
     → (is : List Item) (s : State)
-    → length (listWords (missingOf (runAll parsedMark is (a .fields) s))) ≤ 192
+    → length (listWords (missingOf (runAll 0 is (a .fields) s))) ≤ 192
 unfolding missingOf
-reached-fits b a e is s = go (runAll parsedMark is (a .fields) s .outcome) refl
+reached-fits b a e is s = go (runAll 0 is (a .fields) s .outcome) refl
   where
-    go : (o : Outcome (List Value)) → runAll parsedMark is (a .fields) s .outcome ≡ o → length (listWords (missingOf (runAll parsedMark is (a .fields) s))) ≤ 192
+    go : (o : Outcome (List Value)) → runAll 0 is (a .fields) s .outcome ≡ o → length (listWords (missingOf (runAll 0 is (a .fields) s))) ≤ 192
     go (ok vs) h = rw (h, missingOf) (omega (arith, list-length []))
-    go (refused x) h = rw (h, missingOf) (omega (arith, list-length (x .missing), missing-told .fits b a e parsedMark is s x h))
+    go (refused x) h = rw (h, missingOf) (omega (arith, list-length (x .missing), missing-told .fits b a e 0 is s x h))
     go (fault x) h = rw (h, missingOf) (omega (arith, list-length []))
 
 -- ---- a checked input, its answer slice and its list cleared, its sheet split
@@ -315,19 +315,19 @@ module _ (form sheet i a k : List ℕ) (c : CheckedInput form sheet i a k) (a′
 
     pub fields-end :
         (m′ a″ k″ : List ℕ) (r : Reached)
-        → ((b : Accepted) → checkForm form ≡ accepted b → RunsListed (sheetArea sheet) i′ (b .fields) m p m′ a′ a″ k′ k″ r)
+        → ((b : Accepted) → checkForm form ≡ accepted b → RunsListed (sheetArea sheet) i′ 0 (b .fields) m p m′ a′ a″ k′ k″ r)
         → runAnswer (run form sheet (length i) (length a) (length k)) ≡ ended (answerOf r m′) i′ a″ k″
     unfolding runLine
     fields-end m′ a″ k″ r reaches =
         let both = reaches (c .ready .result) (c .ready .accepts) in
         let u = both .reached in
         let l = w .line in
-        let all : runLine (c .ready .result .fields) l ≡ runAll parsedMark (l .items) (c .ready .result .fields) (stateOf m p) = rw (free, runLine, same-state) in
+        let all : runLine (c .ready .result .fields) l ≡ runAll 0 (l .items) (c .ready .result .fields) (stateOf m p) = rw (free, runLine, same-state) in
         let told = u .same (l .items) (table, count) in
         let fits = reached-fits form (c .ready .result) (c .ready .accepts) (l .items) (stateOf m p) in
-        let entries = listWords (missingOf (runAll parsedMark (l .items) (c .ready .result .fields) (stateOf m p))) in
+        let entries = listWords (missingOf (runAll 0 (l .items) (c .ready .result .fields) (stateOf m p))) in
         ap runAnswer (runs ∙ ap (report (length i) (length a) (length k) l) all)
-        ∙ reported-told (length i) (length a) (length k) l (runAll parsedMark (l .items) (c .ready .result .fields) (stateOf m p)) _ told
+        ∙ reported-told (length i) (length a) (length k) l (runAll 0 (l .items) (c .ready .result .fields) (stateOf m p)) _ told
         ∙ answer-same refl refl refl (sym (u .count))
         (raw-back m′ (r .numbers) (u .left .fine) (u .left .long ∙ long))
         (sym (w .words))
@@ -337,7 +337,7 @@ module _ (form sheet i a k : List ℕ) (c : CheckedInput form sheet i a k) (a′
 
     pub fields-long :
         (m′ a″ k″ : List ℕ) (r : Reached)
-        → ((b : Accepted) → checkForm form ≡ accepted b → RunsListed (sheetArea sheet) i′ (b .fields) m p m′ a′ a″ k′ k″ r)
+        → ((b : Accepted) → checkForm form ≡ accepted b → RunsListed (sheetArea sheet) i′ 0 (b .fields) m p m′ a′ a″ k′ k″ r)
         → length a″ ≡ length a
     fields-long m′ a″ k″ r reaches =
         let u = reaches (c .ready .result) (c .ready .accepts) .reached in
@@ -345,11 +345,11 @@ module _ (form sheet i a k : List ℕ) (c : CheckedInput form sheet i a k) (a′
 
     pub list-long :
         (m′ a″ k″ : List ℕ) (r : Reached)
-        → ((b : Accepted) → checkForm form ≡ accepted b → RunsListed (sheetArea sheet) i′ (b .fields) m p m′ a′ a″ k′ k″ r)
+        → ((b : Accepted) → checkForm form ≡ accepted b → RunsListed (sheetArea sheet) i′ 0 (b .fields) m p m′ a′ a″ k′ k″ r)
         → length k″ ≡ length k
     list-long m′ a″ k″ r reaches =
         let u = reaches (c .ready .result) (c .ready .accepts) in
-        let entries = listWords (missingOf (runAll parsedMark (w .line .items) (c .ready .result .fields) (stateOf m p))) in
+        let entries = listWords (missingOf (runAll 0 (w .line .items) (c .ready .result .fields) (stateOf m p))) in
         ap length (u .listed (w .line .items) (table, count)) ∙ length-sets k′ 0 entries ∙ fill-long k′ k 0 (length k) v
 
 -- ---- which nodes each item matches
@@ -387,12 +387,12 @@ module _ (b codes s words m : List ℕ) (p : Numbers) (first : ℕ) (o l : List 
 
   -- the fields have run: what is missing
   module _ (known : List ℕ) (k : Known b (sheetArea s) words n known) (m′ o′ : List ℕ) (r : Reached)
-      (ran : (a : Accepted) → checkForm b ≡ accepted a → RunsAll (sheetArea s) words (a .fields) m p m′ o o′ r) where
+      (ran : (a : Accepted) → checkForm b ≡ accepted a → RunsAll (sheetArea s) words first (a .fields) m p m′ o o′ r) where
     pub unlisted-runs :
         (r .number ≡ 20 → ⊥)
         → (a : Accepted)
         → checkForm b ≡ accepted a
-        → RunsListed (sheetArea s) words (a .fields) m p m′ o o′ l l r
+        → RunsListed (sheetArea s) words first (a .fields) m p m′ o o′ l l r
     unfolding listWords concatMap
     unlisted-runs z a f = record {
       reached = ran a f;
@@ -409,7 +409,7 @@ module _ (b codes s words m : List ℕ) (p : Numbers) (first : ℕ) (o l : List 
       pub list-number : first + r .field < 18446744073709551616
       list-number = refused-number _ _ _ _ _ _ _ _ (items-start known k) (g .result) (g .accepts) _ _ _ _ (ran (g .result) (g .accepts)) z
 
-      module _ (node : ℕ) (h : getElem? (readForm b .fields) (r .field) ≡ some node) (mark : ℕ) (em : mark ≡ parsedMark) where
+      module _ (node : ℕ) (h : getElem? (readForm b .fields) (r .field) ≡ some node) (mark : ℕ) (em : mark ≡ markOf (first + r .field)) where
         pub list-begins : Listing b known s words m′ (r .numbers) mark node l
         list-begins = record {
           stands = refused-marked _ _ _ _ _ _ _ _ (items-start known k) (g .result) (g .accepts) _ _ _ _ (ran (g .result) (g .accepts)) z node h mark em;
@@ -421,7 +421,7 @@ module _ (b codes s words m : List ℕ) (p : Numbers) (first : ℕ) (o l : List 
             → ((t : Tree) → treeAt b node ≡ some t → Lists mark (sheetArea s) words t m′ (r .numbers) 0 l l′ stop)
             → (a : Accepted)
             → checkForm b ≡ accepted a
-            → RunsListed (sheetArea s) words (a .fields) m p m′ o o′ l l′ r
+            → RunsListed (sheetArea s) words first (a .fields) m p m′ o o′ l l′ r
         list-runs l′ stop lists a f =
             let start = items-start known k in
             let there = refused-field _ _ _ _ _ _ _ _ start a f _ _ _ _ (ran a f) z node h in

@@ -86,7 +86,7 @@ pub record ItemsBegin (b codes s words m : List ℕ) (p : Numbers) (first : ℕ)
   pub entries : 192 ≤ length l
 
 -- ---- what the run of all fields reaches, and the list, written from the first word on
-pub record RunsListed (area words : List ℕ) (fields : List Tree) (m : List ℕ) (p : Numbers) (m′ o o′ l l′ : List ℕ) (r : Reached) : Type 0 where
-  pub reached : RunsAll area words fields m p m′ o o′ r
+pub record RunsListed (area words : List ℕ) (first : ℕ) (fields : List Tree) (m : List ℕ) (p : Numbers) (m′ o o′ l l′ : List ℕ) (r : Reached) : Type 0 where
+  pub reached : RunsAll area words first fields m p m′ o o′ r
   pub listed : (is : List Item) → states.Items area words p is
-      → l′ ≡ sets l 0 (listWords (missingOf (runAll parsedMark is fields (stateOf m p))))
+      → l′ ≡ sets l 0 (listWords (missingOf (runAll first is fields (stateOf m p))))

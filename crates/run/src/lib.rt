@@ -69,7 +69,7 @@ pub fn run_items(
     list: &mut [u32],
 ) -> Reached
     requires { ⌜ ItemsBegin (now form) (now codes) (now sheet) (now items) (now marks) p first (now answers) (now list) ⌝ }
-    ensures { λ r. ⌜ ((a : Accepted) → checkForm (now (form .entry)) ≡ accepted a → RunsListed (sheetArea (now (sheet .entry))) (now (items .entry)) (a .fields) (now (marks .entry)) p (now (marks .exit)) (now (answers .entry)) (now (answers .exit)) (now (list .entry)) (now (list .exit)) r) ⌝ }
+    ensures { λ r. ⌜ ((a : Accepted) → checkForm (now (form .entry)) ≡ accepted a → RunsListed (sheetArea (now (sheet .entry))) (now (items .entry)) first (a .fields) (now (marks .entry)) p (now (marks .exit)) (now (answers .entry)) (now (answers .exit)) (now (list .entry)) (now (list .exit)) r) ⌝ }
 {
     let mut known = run_fields::nothing_known();
     take_table::known(form, codes, sheet, items, wide(p.count), &mut known);

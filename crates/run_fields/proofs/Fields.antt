@@ -4,7 +4,7 @@ use mathlib.Core.List.{List, [], _∷_}
 use mathlib.Core.Option.{some, Option·some-injective, Option·none-ne-some}
 use mathlib.Core.Logic.{_⊎_, inl, ⊎-elim}
 use mathlib.Core.Path.{_≡_, refl, sym, ap, _∙_}
-use Prim.Native.Nat.{ℕ, zero, suc, _≤_, _<_}
+use Prim.Native.Nat.{ℕ, zero, suc, _+_, _≤_, _<_}
 use native.Mathlib.Omega.{arith}
 use lib.ListN.{length, getElem?}
 use Rattle.rules.specs.Form.{Node, Form, nodeCount, fieldCount, readForm}
@@ -12,10 +12,11 @@ use Rattle.rules.specs.Tree.{Tree, kindOf}
 use Rattle.rules.specs.Accept.{Accepted, accepted, checkForm, lengthGood, treesAt}
 use Rattle.rules.specs.Split.{Item}
 use Rattle.rules.specs.State.{State}
-use Rattle.rules.specs.Run.{parsedMark}
+use Rattle.rules.specs.Run.{markOf}
 use Rattle.rules.specs.Missing.{lacking}
 use Rattle.rules.specs.Sound.{Sound, leaves}
 use Rattle.rules.proofs.Acceptance.{All-at, fields-step, accepted-passed, accepted-length, accepted-form, accepted-sound, accepted-fields}
+use Rattle.rules.proofs.Fields.{field-parsed}
 use Rattle.rules.proofs.MissingLaws.{leaves-within}
 use Rattle.rules.proofs.Uses.{leaves-law, leaf-few}
 use Rattle.form_layout.specs.Layout.{nodeOf}
@@ -176,12 +177,12 @@ module _ (b : List ℕ) (a : Accepted) (e : checkForm b ≡ accepted a) where
 
 -- what field k lacks
 pub lacking-here :
-    (is : List Item) (fields : List Tree) (k : ℕ) (t : Tree)
+    (first : ℕ) (is : List Item) (fields : List Tree) (k : ℕ) (t : Tree)
     → getElem? fields k ≡ some t
     → (s : State)
-    → lackingField is fields k s ≡ lacking parsedMark is t s
+    → lackingField first is fields k s ≡ lacking (markOf (first + k)) is t s
 unfolding lackingField
-lacking-here is fields k t here s = rw (here, lackingField) refl
+lacking-here first is fields k t here s = rw (here, lackingField) refl
 
 -- field k stands in every state that the run leaves
 module _ (b known s words m : List ℕ) (p : Numbers) (first : ℕ) (o : List ℕ) (start : Starts b known s words m p first o) where
@@ -190,7 +191,7 @@ module _ (b known s words m : List ℕ) (p : Numbers) (first : ℕ) (o : List �
       → LeftState m p m′ q
       → (k n : ℕ)
       → getElem? (readForm b .fields) k ≡ some n
-      → Standing b known s words m′ q parsedMark n
+      → Standing b known s words m′ q (markOf (first + k)) n
   field-stands m′ q l k n h =
       let mine = field b (start .result) (start .accepts) k n h in
       record {
@@ -203,7 +204,7 @@ module _ (b known s words m : List ℕ) (p : Numbers) (first : ℕ) (o : List �
           table = start .state .table;
           same = start .state .same ∙ sym (l .count);
           fine = l .fine;
-          told = start .state .told;
+          told = field-parsed (first + k);
         };
         knows = start .knows;
       }

@@ -21,13 +21,13 @@ use Rattle.rules.specs.Accept.{Accepted, accepted, checkForm, lengthGood}
 use Rattle.rules.specs.Split.{Item}
 use Rattle.rules.specs.State.{State}
 use Rattle.rules.specs.Eval.{Ran as Run, ended, after, _then_, eval}
-use Rattle.rules.specs.Run.{parsedMark, runFields}
+use Rattle.rules.specs.Run.{markOf, runFields}
 use Rattle.rules.specs.Missing.{lacking, Lacks}
 use Rattle.rules.specs.Sound.{Good, leaves}
 use Rattle.rules.proofs.Acceptance.{accepted-same, accepted-length}
 use Rattle.rules.proofs.EvalSound.{eval-sound}
 use Rattle.rules.proofs.StepLaws.{remaining-within}
-use Rattle.rules.proofs.Fields.{most-leaves}
+use Rattle.rules.proofs.Fields.{most-leaves, field-parsed}
 use Rattle.rules.proofs.Places.{drop-below}
 use Rattle.rules.proofs.MissingLaws.{missing-told}
 use Rattle.rules.proofs.Steps.{Runs, most}
@@ -125,16 +125,16 @@ module _ (r : Run Value) where
     missing-refused e h = rw (h, _then_) refl
 
 -- of a field that is refused: what it lacks in the state that it left
-module _ (is : List Item) (fields : List Tree) (k : ℕ) (t : Tree) (here : getElem? fields k ≡ some t) where
+module _ (first : ℕ) (is : List Item) (fields : List Tree) (k : ℕ) (t : Tree) (here : getElem? fields k ≡ some t) where
   field-lacks :
       (s left : State) (e : Refusal)
-      → Lacks (lacking parsedMark is t s) s left e
-      → e .missing ≡ (if isMissing e then lackingField is fields k left else [])
+      → Lacks (lacking (markOf (first + k)) is t s) s left e
+      → e .missing ≡ (if isMissing e then lackingField first is fields k left else [])
   unfolding if_then_else_
   field-lacks s left e l = go (isMissing e) refl
     where
-      go : (b : Bool) → isMissing e ≡ b → e .missing ≡ (if b then lackingField is fields k left else [])
-      go true q = l .listed q ∙ ap (lacking parsedMark is t) (sym (l .unchanged q)) ∙ sym (lacking-here is fields k t here left)
+      go : (b : Bool) → isMissing e ≡ b → e .missing ≡ (if b then lackingField first is fields k left else [])
+      go true q = l .listed q ∙ ap (lacking (markOf (first + k)) is t) (sym (l .unchanged q)) ∙ sym (lacking-here first is fields k t here left)
       go false q = l .only q
 
 -- a refusal has no words
@@ -161,11 +161,11 @@ pub record Going (b known s words m₀ : List ℕ) (p₀ : Numbers) (first : ℕ
   pub count : n ≡ fieldCount b
   pub values : List ℕ
   pub same : (is : List Item) → Items (sheetArea s) words p₀ is
-      → toldAll (runFields parsedMark is (start .result .fields) (stateOf m₀ p₀))
-      ≡ behind tries values (runFields parsedMark is (drop k (start .result .fields)) (stateOf m p))
+      → toldAll (runFields first is (start .result .fields) (stateOf m₀ p₀))
+      ≡ behind tries values (runFields (first + k) is (drop k (start .result .fields)) (stateOf m p))
   pub lost : (is : List Item) → Items (sheetArea s) words p₀ is
-      → missingOf (runFields parsedMark is (start .result .fields) (stateOf m₀ p₀))
-      ≡ missingOf (runFields parsedMark is (drop k (start .result .fields)) (stateOf m p))
+      → missingOf (runFields first is (start .result .fields) (stateOf m₀ p₀))
+      ≡ missingOf (runFields (first + k) is (drop k (start .result .fields)) (stateOf m p))
   pub size : at ≡ length values
   pub put : o ≡ sets o₀ 0 values
   pub within : k ≤ length (start .result .fields)
@@ -177,8 +177,8 @@ product-most : (a b : ℕ) → a ≤ 258 → b ≤ 64 → a * b ≤ 16512
 product-most a b h k = mul-le-mul h k
 
 module _ (b known s words m₀ : List ℕ) (p₀ : Numbers) (first : ℕ) (o₀ : List ℕ) where
-  abbrev mark : ℕ
-  mark = parsedMark
+  here : first ≡ first + 0
+  here = omega arith
 
   module _ (start : Starts b known s words m₀ p₀ first o₀) where
     pub starts-long : 8 ≤ length b
@@ -189,8 +189,10 @@ module _ (b known s words m₀ : List ℕ) (p₀ : Numbers) (first : ℕ) (o₀ 
       start = start;
       count = c;
       values = [];
-      same = λ is h. behind-nothing (runFields mark is (start .result .fields) (stateOf m₀ p₀));
-      lost = λ is h. refl;
+      same = λ is h.
+          behind-nothing (runFields first is (start .result .fields) (stateOf m₀ p₀))
+          ∙ ap (λ (j : ℕ). behind 0 [] (runFields j is (start .result .fields) (stateOf m₀ p₀))) here;
+      lost = λ is h. ap (λ (j : ℕ). missingOf (runFields j is (start .result .fields) (stateOf m₀ p₀))) here;
       size = refl;
       put = refl;
       within = omega arith;
@@ -210,9 +212,9 @@ module _ (b known s words m₀ : List ℕ) (p₀ : Numbers) (first : ℕ) (o₀ 
     e = start .accepts
 
     -- of the form's fields, however it is said that they are accepted
-    told-fields : (m′ o′ : List ℕ) (r : Reached) → RunsFields (sheetArea s) words (a .fields) m₀ p₀ m′ o₀ o′ r
-        → (x : Accepted) → checkForm b ≡ accepted x → RunsFields (sheetArea s) words (x .fields) m₀ p₀ m′ o₀ o′ r
-    told-fields m′ o′ r h x q = subst (λ (y : Accepted). RunsFields (sheetArea s) words (y .fields) m₀ p₀ m′ o₀ o′ r) (accepted-same a x (sym e ∙ q)) h
+    told-fields : (m′ o′ : List ℕ) (r : Reached) → RunsFields (sheetArea s) words first (a .fields) m₀ p₀ m′ o₀ o′ r
+        → (x : Accepted) → checkForm b ≡ accepted x → RunsFields (sheetArea s) words first (x .fields) m₀ p₀ m′ o₀ o′ r
+    told-fields m′ o′ r h x q = subst (λ (y : Accepted). RunsFields (sheetArea s) words first (y .fields) m₀ p₀ m′ o₀ o′ r) (accepted-same a x (sym e ∙ q)) h
 
     pub field-good : k < n → lengthGood b ≡ true
     field-good l = accepted-length b a e
@@ -242,7 +244,7 @@ module _ (b known s words m₀ : List ℕ) (p₀ : Numbers) (first : ℕ) (o₀ 
     items is h = (h .0, h .1 ∙ sym (g .left .count))
 
     pub going-end : n ≤ k → (r : Reached) → r ≡ valuesOf tries at p
-        → (x : Accepted) → checkForm b ≡ accepted x → RunsFields (sheetArea s) words (x .fields) m₀ p₀ m o₀ o r
+        → (x : Accepted) → checkForm b ≡ accepted x → RunsFields (sheetArea s) words first (x .fields) m₀ p₀ m o₀ o r
     unfolding runFields ended behind answerWords missingOf if_then_else_
     going-end l r q =
         let few = field-count b a e in
@@ -253,18 +255,21 @@ module _ (b known s words m₀ : List ℕ) (p₀ : Numbers) (first : ℕ) (o₀ 
           values = g .values;
           same = λ is i.
               g .same is i
-              ∙ ap (λ (l : List Tree). behind tries (g .values) (runFields mark is l (stateOf m p))) none-left
+              ∙ ap (λ (l : List Tree). behind tries (g .values) (runFields (first + k) is l (stateOf m p))) none-left
               ∙ told-same refl refl (omega arith) (append-nil (g .values)) refl;
           count = g .size;
           put = g .put;
           few = omega (arith, g .size, g .near, g .within, few-fields b a e, g .count);
           left = g .left;
           lacks = λ is i.
-              g .lost is i ∙ ap (λ (l : List Tree). missingOf (runFields mark is l (stateOf m p))) none-left;
+              g .lost is i ∙ ap (λ (l : List Tree). missingOf (runFields (first + k) is l (stateOf m p))) none-left;
           inside = λ z. omega arith;
         }))
 
-    module _ (l : k < n) (node : ℕ) (h : getElem? (readForm b .fields) k ≡ some node) (u : ℕ) (eu : u ≡ parsedMark) where
+    module _ (l : k < n) (node : ℕ) (h : getElem? (readForm b .fields) k ≡ some node) (u : ℕ) (eu : u ≡ markOf (first + k)) where
+      abbrev mark : ℕ
+      mark = markOf (first + k)
+
       abbrev mine : FieldAt b (a .fields) k node
       mine = field b a e k node h
 
@@ -288,35 +293,35 @@ module _ (b known s words m₀ : List ℕ) (p₀ : Numbers) (first : ℕ) (o₀ 
           says = wrote .same is (items is i)
 
           runs : Runs (length is) (mine .tree) (stateOf m p) one
-          runs = eval-sound mark (start .state .told) is (mine .tree) (mine .sound) (stateOf m p)
+          runs = eval-sound mark (field-parsed (first + k)) is (mine .tree) (mine .sound) (stateOf m p)
               (subst (λ (j : ℕ). Good j (stateOf m p)) (sym (items is i .1)) (g .left .fine .good))
 
           numbered : Numbered (one .outcome)
           numbered = runs-numbered (length is) (mine .tree) (stateOf m p) one runs
 
           abbrev others : State → Run (List Value)
-          others u = runFields mark is (drop (suc k) (a .fields)) u
+          others u = runFields (suc (first + k)) is (drop (suc k) (a .fields)) u
 
-          parts : runFields mark is (drop k (a .fields)) (stateOf m p) ≡ next one others
+          parts : runFields (first + k) is (drop k (a .fields)) (stateOf m p) ≡ next one others
           unfolding runFields
-          parts = ap (λ (l : List Tree). runFields mark is l (stateOf m p)) (drop-below (a .fields) k (mine .tree) (mine .here))
+          parts = ap (λ (l : List Tree). runFields (first + k) is l (stateOf m p)) (drop-below (a .fields) k (mine .tree) (mine .here))
 
-          whole : toldAll (runFields mark is (a .fields) (stateOf m₀ p₀)) ≡ behind tries (g .values) (next one others)
+          whole : toldAll (runFields first is (a .fields) (stateOf m₀ p₀)) ≡ behind tries (g .values) (next one others)
           whole = g .same is i ∙ ap (behind tries (g .values)) parts
 
-          whole-lost : missingOf (runFields mark is (a .fields) (stateOf m₀ p₀)) ≡ missingOf (next one others)
+          whole-lost : missingOf (runFields first is (a .fields) (stateOf m₀ p₀)) ≡ missingOf (next one others)
           whole-lost = g .lost is i ∙ ap missingOf parts
 
           -- refused: what was missing
-          refused-lost : (r .number ≡ 0 → ⊥) → missingOf (runFields mark is (a .fields) (stateOf m₀ p₀))
-              ≡ (if eqb (r .number) 20 then lackingField is (a .fields) k (stateOf m′ (r .numbers)) else [])
+          refused-lost : (r .number ≡ 0 → ⊥) → missingOf (runFields first is (a .fields) (stateOf m₀ p₀))
+              ≡ (if eqb (r .number) 20 then lackingField first is (a .fields) k (stateOf m′ (r .numbers)) else [])
           unfolding isMissing
           refused-lost z =
               let d = told-denied one _ says z in
               let l = missing-told .lacks mark is (mine .tree) (stateOf m p) (d .refusal) (d .outcome) in
               whole-lost ∙ missing-refused one others (d .refusal) (d .outcome)
-              ∙ field-lacks is (a .fields) k (mine .tree) (mine .here) (stateOf m p) (one .state) (d .refusal) l
-              ∙ (λ j. if eqb (d .number j) 20 then lackingField is (a .fields) k (told-state one _ says j) else [])
+              ∙ field-lacks first is (a .fields) k (mine .tree) (mine .here) (stateOf m p) (one .state) (d .refusal) l
+              ∙ (λ j. if eqb (d .number j) 20 then lackingField first is (a .fields) k (told-state one _ says j) else [])
 
         cost : r .tries ≤ 16512
         unfolding stateOf
@@ -342,7 +347,7 @@ module _ (b known s words m₀ : List ℕ) (p₀ : Numbers) (first : ℕ) (o₀ 
 
         pub going-refused : (r .number ≡ 0 → ⊥) → (o″ : List ℕ) → o″ ≡ sets o′ 0 (replicate at 0) → (x : Reached)
             → x ≡ refusedWith (r .number) (r .place) (tries + r .tries) k (r .numbers)
-            → (y : Accepted) → checkForm b ≡ accepted y → RunsFields (sheetArea s) words (y .fields) m₀ p₀ m′ o₀ o″ x
+            → (y : Accepted) → checkForm b ≡ accepted y → RunsFields (sheetArea s) words first (y .fields) m₀ p₀ m′ o₀ o″ x
         going-refused z o″ c x q =
             let is = start .state .items in
             let i : Items (sheetArea s) words p₀ is = (start .state .table, start .state .same) in
@@ -370,6 +375,10 @@ module _ (b known s words m₀ : List ℕ) (p₀ : Numbers) (first : ℕ) (o₀ 
               inside = λ _. omega (arith, field-count b a e, g .count);
             }))
 
+        -- the number of the next field
+        following : suc (first + k) ≡ first + (k + 1)
+        following = omega arith
+
         pub going-next : r .number ≡ 0 → (x : ℕ) → x ≡ r .len → Going b known s words m₀ p₀ first o₀ n m′ (r .numbers) (tries + r .tries) (at + x) (k + 1) o′
         going-next z x q = record {
           start = start;
@@ -381,12 +390,12 @@ module _ (b known s words m₀ : List ℕ) (p₀ : Numbers) (first : ℕ) (o₀ 
               ∙ behind-value tries (g .values) (one is i) (others is i) (d .value) (d .outcome)
               ∙
               (λ j. behind (tries + told-tries (one is i) _ (says is i) j) (g .values ++ d .words j)
-              (runFields mark is (drop (sym (add-one k) j) (a .fields)) (told-state (one is i) _ (says is i) j)));
+              (runFields (following j) is (drop (sym (add-one k) j) (a .fields)) (told-state (one is i) _ (says is i) j)));
           lost = λ is i.
               let d = told-value (one is i) _ (says is i) (numbered is i) z in
               whole-lost is i
               ∙ missing-value (one is i) (others is i) (d .value) (d .outcome)
-              ∙ (λ j. missingOf (runFields mark is (drop (sym (add-one k) j) (a .fields)) (told-state (one is i) _ (says is i) j)));
+              ∙ (λ j. missingOf (runFields (following j) is (drop (sym (add-one k) j) (a .fields)) (told-state (one is i) _ (says is i) j)));
           size = let l = length-append (g .values) (wrote .value) in omega (arith, g .size, wrote .len);
           put =
               wrote .put

@@ -14,7 +14,7 @@ use Rattle.rules.specs.Value.{Value}
 use Rattle.rules.specs.Accept.{Accepted, accepted, checkForm, lengthGood}
 use Rattle.rules.specs.Split.{Item}
 use Rattle.rules.specs.Eval.{Ran as Run}
-use Rattle.rules.specs.Run.{parsedMark}
+use Rattle.rules.specs.Run.{markOf}
 use Rattle.rules.specs.Missing.{lacking}
 use Rattle.rules.proofs.Acceptance.{accepted-length}
 use Rattle.state_marks.specs.declared.Numbers.{Numbers}
@@ -27,7 +27,7 @@ use Rattle.run_fields.proofs.Fields.{FieldAt, field, field-stands, few-
 
 module _ (b known s words m : List ℕ) (p : Numbers) (first : ℕ) (o : List ℕ) (start : Starts b known s words m p first o) where
   module _ (a : Accepted) (e : checkForm b ≡ accepted a) (run : List Item → Run (List Value)) (m′ o′ : List ℕ) (r : Reached)
-      (t : RunTold run (a .fields) (sheetArea s) words m p m′ o o′ r) where
+      (t : RunTold run first (a .fields) (sheetArea s) words m p m′ o o′ r) where
     -- the items of the state that is left are those of the state that was given
     pub left-items : (is : List Item) → Items (sheetArea s) words p is → Items (sheetArea s) words (r .numbers) is
     left-items is i = (i .0, i .1 ∙ sym (t .left .count))
@@ -49,11 +49,11 @@ module _ (b known s words m : List ℕ) (p : Numbers) (first : ℕ) (o : List �
       refused-number = omega (arith, start .small, refused-inside, few-fields b a e)
 
       module _ (n : ℕ) (h : getElem? (readForm b .fields) (r .field) ≡ some n) where
-        pub refused-stands : Standing b known s words m′ (r .numbers) parsedMark n
+        pub refused-stands : Standing b known s words m′ (r .numbers) (markOf (first + r .field)) n
         refused-stands = field-stands b known s words m p first o start m′ (r .numbers) (t .left) (r .field) n h
 
         -- with the mark that the field's number has
-        pub refused-marked : (u : ℕ) → u ≡ parsedMark → Standing b known s words m′ (r .numbers) u n
+        pub refused-marked : (u : ℕ) → u ≡ markOf (first + r .field) → Standing b known s words m′ (r .numbers) u n
         refused-marked u eu = rw eu refused-stands
 
         -- its tree
@@ -62,7 +62,7 @@ module _ (b known s words m : List ℕ) (p : Numbers) (first : ℕ) (o : List �
 
         -- what was missing is what the tree lacks in the state that is left
         pub refused-missing : (is : List Item) → Items (sheetArea s) words p is
-            → missingOf (run is) ≡ lacking parsedMark is (refused-field .tree) (stateOf m′ (r .numbers))
+            → missingOf (run is) ≡ lacking (markOf (first + r .field)) is (refused-field .tree) (stateOf m′ (r .numbers))
         unfolding if_then_else_
         refused-missing is i =
-            t .lacks is i ∙ rw (eq-eqb (r .number) 20 z) (lacking-here is (a .fields) (r .field) (refused-field .tree) (refused-field .here) (stateOf m′ (r .numbers)))
+            t .lacks is i ∙ rw (eq-eqb (r .number) 20 z) (lacking-here first is (a .fields) (r .field) (refused-field .tree) (refused-field .here) (stateOf m′ (r .numbers)))

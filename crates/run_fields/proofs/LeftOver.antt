@@ -15,7 +15,7 @@ use Rattle.rules.specs.Accept.{Accepted, accepted, checkForm}
 use Rattle.rules.specs.Split.{Item}
 use Rattle.rules.specs.State.{Found, presentFrom, findIn, find, first}
 use Rattle.rules.specs.Eval.{Ran as Run, ended, after, _then_}
-use Rattle.rules.specs.Run.{parsedMark, runFields, leftOver, runAll}
+use Rattle.rules.specs.Run.{runFields, leftOver, runAll}
 use Rattle.rules.specs.Demands.{Ends}
 use Rattle.rules.specs.Sound.{Good}
 use Rattle.rules.proofs.Acceptance.{lookup-some, accepted-sound}
@@ -139,17 +139,17 @@ module _ (m : List ℕ) (p : Numbers) (f : Fine m p) (is : List Item) (n : lengt
 
 -- ---- all fields, and then the test
 module _ (b known s words m₀ : List ℕ) (p₀ : Numbers) (first : ℕ) (o₀ : List ℕ) (start : Starts b known s words m₀ p₀ first o₀) where
-  module _ (m o : List ℕ) (r : Reached) (a : Accepted) (e : checkForm b ≡ accepted a) (t : RunsFields (sheetArea s) words (a .fields) m₀ p₀ m o₀ o r) where
-    pub all-refused : (r .number ≡ 0 → ⊥) → RunsAll (sheetArea s) words (a .fields) m₀ p₀ m o₀ o r
+  module _ (m o : List ℕ) (r : Reached) (a : Accepted) (e : checkForm b ≡ accepted a) (t : RunsFields (sheetArea s) words first (a .fields) m₀ p₀ m o₀ o r) where
+    pub all-refused : (r .number ≡ 0 → ⊥) → RunsAll (sheetArea s) words first (a .fields) m₀ p₀ m o₀ o r
     unfolding runAll
     all-refused z = record {
       values = t .values;
-      same = λ is i. tested-refused is (runFields parsedMark is (a .fields) (stateOf m₀ p₀)) _ (t .same is i) z;
+      same = λ is i. tested-refused is (runFields first is (a .fields) (stateOf m₀ p₀)) _ (t .same is i) z;
       count = t .count;
       put = t .put;
       few = t .few;
       left = t .left;
-      lacks = λ is i. tested-lost is (runFields parsedMark is (a .fields) (stateOf m₀ p₀)) _ (t .same is i) z ∙ t .lacks is i;
+      lacks = λ is i. tested-lost is (runFields first is (a .fields) (stateOf m₀ p₀)) _ (t .same is i) z ∙ t .lacks is i;
       inside = t .inside;
     }
 
@@ -176,28 +176,28 @@ module _ (b known s words m₀ : List ℕ) (p₀ : Numbers) (first : ℕ) (o₀ 
       items : (is : List Item) → Items (sheetArea s) words p₀ is → length is ≡ r .numbers .count
       items is i = i .1 ∙ sym (t .left .count)
 
-      pub all-empty : y ≤ place → RunsAll (sheetArea s) words (a .fields) m₀ p₀ m o₀ o r
+      pub all-empty : y ≤ place → RunsAll (sheetArea s) words first (a .fields) m₀ p₀ m o₀ o r
       unfolding runAll
       all-empty h = record {
         values = t .values;
         same = λ is i.
-            tested-none is (runFields parsedMark is (a .fields) (stateOf m₀ p₀)) _ (t .same is i)
+            tested-none is (runFields first is (a .fields) (stateOf m₀ p₀)) _ (t .same is i)
             (nothing-left m (r .numbers) (t .left .fine) is (items is i) place here (omega (arith, d)));
         count = t .count;
         put = t .put;
         few = t .few;
         left = t .left;
         lacks = λ is i.
-            first-lost is (runFields parsedMark is (a .fields) (stateOf m₀ p₀)) _ (t .same is i) none
+            first-lost is (runFields first is (a .fields) (stateOf m₀ p₀)) _ (t .same is i) none
             (nothing-left m (r .numbers) (t .left .fine) is (items is i) place here (omega (arith, d)))
             ∙ t .lacks is i;
         inside = t .inside;
       }
 
-      numbered : (is : List Item) → Items (sheetArea s) words p₀ is → Numbered (runFields parsedMark is (a .fields) (stateOf m₀ p₀) .outcome)
+      numbered : (is : List Item) → Items (sheetArea s) words p₀ is → Numbered (runFields first is (a .fields) (stateOf m₀ p₀) .outcome)
       numbered is i =
-          go (runFields parsedMark is (a .fields) (stateOf m₀ p₀) .outcome)
-          (fields-run parsedMark (start .state .told) is (a .fields) (accepted-sound b a e) (stateOf m₀ p₀)
+          go (runFields first is (a .fields) (stateOf m₀ p₀) .outcome)
+          (fields-run first is (a .fields) (accepted-sound b a e) (stateOf m₀ p₀)
           (subst (λ (j : ℕ). Good j (stateOf m₀ p₀)) (sym (i .1)) (start .state .fine .good)) .ends)
         where
           go : (o : Outcome (List Value)) → Ends Any (a .fields) o → Numbered o
@@ -207,7 +207,7 @@ module _ (b known s words m₀ : List ℕ) (p₀ : Numbers) (first : ℕ) (o₀ 
 
       pub all-left : r .number ≡ 0 → place < y → (n : ℕ) → n ≡ r .words → (o′ : List ℕ) → o′ ≡ sets o 0 (replicate n 0) → (v : Reached)
           → v ≡ refusedWith 27 (place + 1) (r .tries) 0 (r .numbers)
-          → RunsAll (sheetArea s) words (a .fields) m₀ p₀ m o₀ o′ v
+          → RunsAll (sheetArea s) words first (a .fields) m₀ p₀ m o₀ o′ v
       unfolding runAll if_then_else_
       all-left z h n w o′ q v u =
           let cleared : o′ ≡ o₀ =
@@ -219,7 +219,7 @@ module _ (b known s words m₀ : List ℕ) (p₀ : Numbers) (first : ℕ) (o₀ 
             values = [];
             same = λ is i.
                 let (y, g, k) = something-left m (r .numbers) (t .left .fine) is (items is i) place here (omega (arith, d)) in
-                tested-found is (runFields parsedMark is (a .fields) (stateOf m₀ p₀)) _ (t .same is i) y (numbered is i) z k
+                tested-found is (runFields first is (a .fields) (stateOf m₀ p₀)) _ (t .same is i) y (numbered is i) z k
                 ∙ told-same refl (omega (arith, g)) refl refl refl;
             count = refl;
             put = cleared;
@@ -227,7 +227,7 @@ module _ (b known s words m₀ : List ℕ) (p₀ : Numbers) (first : ℕ) (o₀ 
             left = t .left;
             lacks = λ is i.
                 let (y, g, k) = something-left m (r .numbers) (t .left .fine) is (items is i) place here (omega (arith, d)) in
-                first-lost is (runFields parsedMark is (a .fields) (stateOf m₀ p₀)) _ (t .same is i) (some y) k
+                first-lost is (runFields first is (a .fields) (stateOf m₀ p₀)) _ (t .same is i) (some y) k
                 ∙ t .lacks is i ∙ rw z refl;
             inside = λ q. omega arith;
           })

@@ -2,7 +2,7 @@
 use mathlib.Core.List.{List, []}
 use mathlib.Core.Option.{Option, some, none}
 use mathlib.Core.Path.{_≡_}
-use Prim.Native.Nat.{ℕ, _≤_, _<_}
+use Prim.Native.Nat.{ℕ, _+_, _≤_, _<_}
 use lib.Dec.{eqb}
 use lib.ListN.{length, getD, getElem?}
 use lib.Seq.{sets}
@@ -16,7 +16,7 @@ use Rattle.rules.specs.Accept.{Accepted, accepted, checkForm}
 use Rattle.rules.specs.Split.{Item}
 use Rattle.rules.specs.State.{State}
 use Rattle.rules.specs.Eval.{Ran as Run}
-use Rattle.rules.specs.Run.{parsedMark, runFields, runAll}
+use Rattle.rules.specs.Run.{parsedMark, markOf, runFields, runAll}
 use Rattle.rules.specs.Missing.{lacking}
 use Rattle.state_marks.specs.declared.Numbers.{Numbers}
 use Rattle.state_marks.specs.Lent.{stateOf}
@@ -67,9 +67,10 @@ toldAll r = elim (r .outcome) [
 unfoldable pub missingOf : Run (List Value) → List MissingItem
 missingOf r = elim (r .outcome) [ ok vs ↦ [] | refused e ↦ e .missing | fault x ↦ [] ]
 
--- what field k lacks in a state
-unfoldable pub lackingField : List Item → List Tree → ℕ → State → List MissingItem
-lackingField is fields k s = elim (getElem? fields k) [ none ↦ [] | some t ↦ lacking parsedMark is t s ]
+-- what field k lacks in a state, where the first has number `first`
+unfoldable pub lackingField : ℕ → List Item → List Tree → ℕ → State → List MissingItem
+lackingField first is fields k s =
+    elim (getElem? fields k) [ none ↦ [] | some t ↦ lacking (markOf (first + k)) is t s ]
 
 abbrev pub reachedWith : Reached → List ℕ → List ℕ → Told
 reachedWith r m w = record {
@@ -80,9 +81,9 @@ reachedWith r m w = record {
   state = stateOf m (r .numbers);
 }
 
--- what a run of fields over the items reaches, whose words are written from the first word on. Refused with 20, what was missing is
+-- what a run of fields over the items reaches, of which the first has number `first`, and whose words are written from the first word on. Refused with 20, what was missing is
 -- what the refused field lacks in the state that is left
-pub record RunTold (run : List Item → Run (List Value)) (fields : List Tree) (area words m : List ℕ) (p : Numbers) (m′ o o′ : List ℕ) (r : Reached) : Type 0 where
+pub record RunTold (run : List Item → Run (List Value)) (first : ℕ) (fields : List Tree) (area words m : List ℕ) (p : Numbers) (m′ o o′ : List ℕ) (r : Reached) : Type 0 where
   pub values : List ℕ
   pub same : (is : List Item) → Items area words p is → toldAll (run is) ≡ some (reachedWith r m′ values)
   pub count : r .words ≡ length values
@@ -90,18 +91,18 @@ pub record RunTold (run : List Item → Run (List Value)) (fields : List Tree) (
   pub few : length values ≤ 8240
   pub left : LeftState m p m′ (r .numbers)
   pub lacks : (is : List Item) → Items area words p is
-      → missingOf (run is) ≡ (if eqb (r .number) 20 then lackingField is fields (r .field) (stateOf m′ (r .numbers)) else [])
+      → missingOf (run is) ≡ (if eqb (r .number) 20 then lackingField first is fields (r .field) (stateOf m′ (r .numbers)) else [])
   pub inside : r .number ≡ 20 → r .field < length fields
 
 -- the fields in order
-abbrev pub RunsFields : List ℕ → List ℕ → List Tree → List ℕ → Numbers → List ℕ → List ℕ → List ℕ → Reached → Type 0
-RunsFields area words fields m p m′ o o′ r =
-    RunTold (λ is. runFields parsedMark is fields (stateOf m p)) fields area words m p m′ o o′ r
+abbrev pub RunsFields : List ℕ → List ℕ → ℕ → List Tree → List ℕ → Numbers → List ℕ → List ℕ → List ℕ → Reached → Type 0
+RunsFields area words first fields m p m′ o o′ r =
+    RunTold (λ is. runFields first is fields (stateOf m p)) first fields area words m p m′ o o′ r
 
 -- then 27
-abbrev pub RunsAll : List ℕ → List ℕ → List Tree → List ℕ → Numbers → List ℕ → List ℕ → List ℕ → Reached → Type 0
-RunsAll area words fields m p m′ o o′ r =
-    RunTold (λ is. runAll parsedMark is fields (stateOf m p)) fields area words m p m′ o o′ r
+abbrev pub RunsAll : List ℕ → List ℕ → ℕ → List Tree → List ℕ → Numbers → List ℕ → List ℕ → List ℕ → Reached → Type 0
+RunsAll area words first fields m p m′ o o′ r =
+    RunTold (λ is. runAll first is fields (stateOf m p)) first fields area words m p m′ o o′ r
 
 -- ---- results
 abbrev pub refusedWith : ℕ → ℕ → ℕ → ℕ → Numbers → Reached

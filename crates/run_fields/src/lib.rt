@@ -4,7 +4,7 @@ ghost use Prim.Native.Nat.{_+_, _≤_};
 ghost use lib.ListN.{length, replicate};
 ghost use Rattle.rules.specs.Accept.{Accepted, accepted, checkForm};
 ghost use Rattle.rules.specs.Sheet.{sheetArea};
-ghost use Rattle.rules.specs.Run.{parsedMark};
+ghost use Rattle.rules.specs.Run.{markOf};
 ghost use Rattle.run_fields.specs.Line.{Starts, FieldReady, PutValue, RunsFields, RunsAll, refusedWith, valuesOf};
 ghost use Rattle.eval_list.specs.Lists.{WritesField, withMark};
 use eval_list::Field;
@@ -132,7 +132,7 @@ pub fn nothing_known() -> [u64; TABLE_WORDS]
 
 // The mark of what field `number` uses. Every field has the same: this is the one place where the number tells.
 pub fn field_mark(number: usize) -> u16
-    ensures { λ r. ⌜ r ≡ parsedMark ⌝ }
+    ensures { λ r. ⌜ r ≡ markOf number ⌝ }
 {
     let _ = number;
     state_marks::FIELD
@@ -150,7 +150,7 @@ fn each_field(
     out: &mut [u32],
 ) -> Reached
     requires { ⌜ Starts (now form) (now known) (now sheet) (now items) (now marks) p first (now out) ⌝ }
-    ensures { λ r. ⌜ ((a : Accepted) → checkForm (now (form .entry)) ≡ accepted a → RunsFields (sheetArea (now (sheet .entry))) (now (items .entry)) (a .fields) (now (marks .entry)) p (now (marks .exit)) (now (out .entry)) (now (out .exit)) r) ⌝ }
+    ensures { λ r. ⌜ ((a : Accepted) → checkForm (now (form .entry)) ≡ accepted a → RunsFields (sheetArea (now (sheet .entry))) (now (items .entry)) first (a .fields) (now (marks .entry)) p (now (marks .exit)) (now (out .entry)) (now (out .exit)) r) ⌝ }
 {
     let n = form_layout::field_count(form);
     let mut s = p;
@@ -188,7 +188,7 @@ pub fn run_fields(
     out: &mut [u32],
 ) -> Reached
     requires { ⌜ Starts (now form) (now known) (now sheet) (now items) (now marks) p first (now out) ⌝ }
-    ensures { λ r. ⌜ ((a : Accepted) → checkForm (now (form .entry)) ≡ accepted a → RunsAll (sheetArea (now (sheet .entry))) (now (items .entry)) (a .fields) (now (marks .entry)) p (now (marks .exit)) (now (out .entry)) (now (out .exit)) r) ⌝ }
+    ensures { λ r. ⌜ ((a : Accepted) → checkForm (now (form .entry)) ≡ accepted a → RunsAll (sheetArea (now (sheet .entry))) (now (items .entry)) first (a .fields) (now (marks .entry)) p (now (marks .exit)) (now (out .entry)) (now (out .exit)) r) ⌝ }
 {
     let all = each_field(form, known, sheet, items, marks, p, first, out);
     if all.number != 0 {

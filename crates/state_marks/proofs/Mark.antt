@@ -9,7 +9,7 @@ use Rattle.utf8.specs.Utf8.{if_then_else_}
 use Rattle.rules.specs.State.{parsed, present, winner, markGood}
 use Rattle.rules.proofs.Places.{parsed-good}
 use Rattle.rules.proofs.CodeLaws.{place-next}
-use Rattle.rules.specs.Run.{parsedMark}
+use Rattle.rules.specs.Run.{parsedMark, markOf}
 use Rattle.rules.specs.Base.{minus}
 use Rattle.rules.specs.Codes.{placeOf}
 use Rattle.state_marks.specs.Written.{markerMark, commandMark, fieldMark}
@@ -39,6 +39,10 @@ field-parsed = refl
 pub field-told : fieldMark ≡ parsedMark
 unfolding parsedMark
 field-told = refl
+
+pub field-numbered : (k : ℕ) → fieldMark ≡ markOf k
+unfolding markOf parsedMark
+field-numbered k = refl
 
 -- ---- parsed or present
 
