@@ -2,7 +2,7 @@
 // a wrong declaration shows as a wrong answer. Prints each check that fails, then the counts; exits with 1 if one failed.
 //
 // The form is that of 7.1, the line `-vw7`, whose items are 0 Short v, 1 Short w, 2 Word `7`. S is the state after the split;
-// S0, S1 and S2 are S with place 0, 1 or 2 used.
+// S0, S1 and S2 are S with place 0, 1 or 2 used: 0 by field 0, the others by field 2.
 #include <stdlib.h>
 #include <string.h>
 
@@ -60,6 +60,9 @@ static uint32_t *items, *answers, *list;
 #define LIST list, SILVERPOISE_LIST_SLICE
 
 static SilverpoiseState S, S0, S1, S2;
+
+// The marks of what the five fields of the form use.
+enum { BY_V = 512, BY_Q, BY_W, BY_FLAG_B, BY_TEXT_B };
 
 static void *lend(const void *bytes, size_t size) {
   void *copy = malloc(size);
@@ -160,6 +163,8 @@ static void splitting(void) {
   static const uint32_t records[] = {1, 0, 'v', 0, 0, 0, 4, 1, 1, 'w', 0, 0, 0, 4, 4, 0, 0, 0, 0, 3, 1};
   static const uint32_t ambiguous[] = {1, 0, 'v', 0, 0, 0, 3, 4, 0, 0, 0, 0, 0, 3};
   static const uint8_t both[] = {U16(1), U16(0), U16(3), '-', 'v', 'b'};
+  // `-v` `--` `--`: only the first `--` opens
+  static const uint8_t dashes[] = {U16(3), U16(0), U16(2), U16(4), U16(6), '-', 'v', '-', '-', '-', '-'};
   const SilverpoiseState empty = {{0}, 0, 0, 0, 0, 0}, two = {{0}, 2, 2, 0, 0, 2};
 
   fill(ITEMS, 7);
@@ -171,6 +176,8 @@ static void splitting(void) {
   a = silverpoise_split(FORM, both, sizeof both, ITEMS);
   CHECK(a.number == 9 && a.place == 2 && same(a.state, two));
   CHECK(holds(ITEMS, ambiguous, 14, 0));
+  a = silverpoise_split(FORM, dashes, sizeof dashes, ITEMS);
+  CHECK(a.number == 0 && a.place == 0 && same(a.state, state(0, 510, 0, 2, 0)));
 
   fill(ITEMS, 7);
   a = silverpoise_split(FORM, SHEET, items, SILVERPOISE_ITEM_SLICE - 1);
@@ -182,7 +189,7 @@ static void splitting(void) {
 static void running(void) {
   static const uint32_t values[] = {1, 0, 1, 7, 0, 0}, fallback[] = {257};
   static const uint8_t no_value[] = {U16(1), U16(0), U16(3), '-', 'v', 'w'};
-  const SilverpoiseState empty = {{0}, 0, 0, 0, 0, 0}, one_left = {{1}, 2, 1, 1, 0, 2};
+  const SilverpoiseState empty = {{0}, 0, 0, 0, 0, 0}, one_left = {{BY_V}, 2, 1, 1, 0, 2};
 
   fill(ANSWERS, 7);
   SilverpoiseRunAnswer a =
@@ -205,7 +212,7 @@ static void running(void) {
   // last, since the checks that follow use the items that it leaves
   fill(ANSWERS, 7);
   fill(LIST, 7);
-  CHECK(ran(silverpoise_run(FORM, SHEET, ITEMS, ANSWERS, LIST), 0, 0, 5, 6, state(1, 1, 1, 0, 3)));
+  CHECK(ran(silverpoise_run(FORM, SHEET, ITEMS, ANSWERS, LIST), 0, 0, 5, 6, state(BY_V, BY_W, BY_W, 0, 3)));
   CHECK(holds(ANSWERS, values, 6, 0) && holds(LIST, NULL, 0, 0));
   CHECK(stands(silverpoise_text(FORM, SHEET, ITEMS, 2), 0, SILVERPOISE_SOURCE_SHEET, 9, 1));
   CHECK(stands(silverpoise_text(FORM, SHEET, ITEMS, 3), 28, 0, 0, 0));
@@ -259,26 +266,57 @@ static void evaluation(void) {
   fill(LIST, 9);
   CHECK(ran(silverpoise_eval(FORM, SHEET, ITEMS, ANSWERS, LIST, scoped, 4), 20, 0, 1, 0, scoped));
   CHECK(holds(ANSWERS, NULL, 0, 0) && holds(LIST, in_scope, 3, 0));
-  CHECK(ran(silverpoise_eval(FORM, SHEET, ITEMS, ANSWERS, LIST, S, 3), 0, 0, 1, 2, state(0, 1, 1, 1, 3)));
+  CHECK(ran(silverpoise_eval(FORM, SHEET, ITEMS, ANSWERS, LIST, S, 3), 0, 0, 1, 2, state(0, BY_W, BY_W, 1, 3)));
   CHECK(holds(ANSWERS, value, 2, 0) && holds(LIST, NULL, 0, 0));
+  // a child has the number of its field
+  CHECK(ran(silverpoise_eval(FORM, SHEET, ITEMS, ANSWERS, LIST, S, 2), 0, 0, 1, 1, state(0, BY_W, BY_W, 1, 3)));
 }
 
 static void states(void) {
   SilverpoiseState scoped = S;
   scoped.start = 1;
   scoped.remaining = 2;
-  CHECK(leaves(silverpoise_remove(S, 0), 0, 0, 1, 0, 0, state(1, 0, 0, 2, 1)));
-  CHECK(leaves(silverpoise_remove(S, 3), 28, 0, 0, 0, 0, S));
+  CHECK(leaves(silverpoise_remove(S, 0, 0), 0, 0, 1, 0, 0, S0));
+  CHECK(leaves(silverpoise_remove(S, 0, 15), 0, 0, 1, 0, 0, state(512 + 15, 0, 0, 2, 1)));
+  CHECK(leaves(silverpoise_remove(S, 0, 16), 28, 0, 0, 0, 0, S));
+  CHECK(leaves(silverpoise_remove(S, 0, (size_t)1 << 32), 28, 0, 0, 0, 0, S)); // a number of 64 bits
+  CHECK(leaves(silverpoise_remove(S0, 0, 1), 0, 0, 1, 0, 0, S0));              // used already, so the mark stays
+  CHECK(leaves(silverpoise_remove(S, 3, 0), 28, 0, 0, 0, 0, S));
   CHECK(is(silverpoise_pick_winner(S1, S0), 0, 0, 0, 1, 0));
   CHECK(is(silverpoise_pick_winner(S0, S1), 0, 0, 1, 1, 0));
-  CHECK(leaves(silverpoise_save_conflicts(S0, S1, 0), 0, 0, 1, 0, 0, state(1, 2, 0, 2, 1)));
+  CHECK(leaves(silverpoise_save_conflicts(S0, S1, 0), 0, 0, 1, 0, 0, state(BY_V, 2, 0, 2, 1)));
+  // used is used, whoever did it; and what lost a choice may be used by a field
+  CHECK(is(silverpoise_pick_winner(S0, state(BY_Q, 0, 0, 2, 1)), 0, 0, 1, 0, 0));
+  CHECK(leaves(silverpoise_save_conflicts(S0, state(BY_Q, BY_Q, 0, 1, 2), 0), 0, 0, 1, 0, 0, state(BY_V, 2, 0, 2, 1)));
+  CHECK(leaves(silverpoise_remove(state(BY_V, 2, 0, 2, 1), 1, 2), 0, 0, 1, 0, 0, state(BY_V, BY_W, 0, 1, 2)));
   CHECK(leaves(silverpoise_set_scope(S, 1, 3), 0, 0, 1, 0, 0, scoped));
   CHECK(leaves(silverpoise_set_scope(S, 3, 1), 28, 0, 0, 0, 0, S));
   CHECK(is(silverpoise_adjacent_scope(S0, S), 0, 0, 1, 0, 1));
   CHECK(is(silverpoise_adjacently_available_from(S1, 0), 0, 0, 1, 0, 1));
   CHECK(is(silverpoise_adjacently_available_from(S, 4), 28, 0, 0, 0, 0));
   scoped.remaining = 3;
-  CHECK(leaves(silverpoise_remove(scoped, 9), 29, 0, 0, 0, 0, scoped));
+  CHECK(leaves(silverpoise_remove(scoped, 9, 16), 29, 0, 0, 0, 0, scoped));
+}
+
+// Marks that nobody wrote: which of them a state may have. Without a form there may be 16 fields; the form has five.
+static void forged_marks(void) {
+  static const uint16_t good[] = {510, 511, 512, 512 + 4}, bad[] = {1, 2 + 3, 258, 509, 512 + 16, 65535};
+  for (size_t i = 0; i < sizeof good / sizeof *good; i++) {
+    SilverpoiseState s = state(good[i], 0, good[i], 1, 0);
+    CHECK(leaves(silverpoise_set_scope(s, 0, 3), 0, 0, 1, 0, 0, s));
+    CHECK(leaves(silverpoise_take_flag(FORM, SHEET, ITEMS, s, 0, 0), 0, 0, 0, 0, 0, s));
+  }
+  for (size_t i = 0; i < sizeof bad / sizeof *bad; i++) {
+    for (uint32_t remaining = 2; remaining <= 3; remaining++) { // right if it were used, or if it were present
+      SilverpoiseState s = state(bad[i], 0, 0, remaining, 0);
+      CHECK(leaves(silverpoise_remove(s, 1, 0), 29, 0, 0, 0, 0, s));
+      CHECK(leaves(silverpoise_take_flag(FORM, SHEET, ITEMS, s, 0, 0), 29, 0, 0, 0, 0, s));
+    }
+  }
+  SilverpoiseState s = state(512 + 5, 0, 0, 2, 0);
+  CHECK(leaves(silverpoise_set_scope(s, 0, 3), 0, 0, 1, 0, 0, s));
+  CHECK(leaves(silverpoise_take_flag(FORM, SHEET, ITEMS, s, 0, 0), 29, 0, 0, 0, 0, s));
+  CHECK(ran(silverpoise_eval(FORM, SHEET, ITEMS, ANSWERS, LIST, s, 0), 29, 0, 0, 0, s));
 }
 
 static void item_calls(void) {
@@ -290,9 +328,11 @@ static void item_calls(void) {
   CHECK(got.number == 0 && got.place == 0 && holds(got.item, SILVERPOISE_RECORD_WORDS, NULL, 0, 0));
   got = silverpoise_get(SHEET, ITEMS, S, 3);
   CHECK(got.number == 28 && got.place == 0 && holds(got.item, SILVERPOISE_RECORD_WORDS, NULL, 0, 0));
-  CHECK(is(silverpoise_conflict(SHEET, ITEMS, state(1, 2, 0, 2, 1)), 0, 0, 1, 1, 0));
-  CHECK(leaves(silverpoise_take_positional_word(SHEET, ITEMS, S), 0, 0, 1, 2, 0, state(0, 0, 1, 2, 3)));
-  CHECK(leaves(silverpoise_take_positional_word(SHEET, ITEMS, S2), 20, 0, 0, 0, 0, S2));
+  CHECK(is(silverpoise_conflict(SHEET, ITEMS, state(BY_V, 2, 0, 2, 1)), 0, 0, 1, 1, 0));
+  CHECK(leaves(silverpoise_take_positional_word(SHEET, ITEMS, S, 15), 0, 0, 1, 2, 0, state(0, 0, 512 + 15, 2, 3)));
+  CHECK(leaves(silverpoise_take_positional_word(SHEET, ITEMS, S, 16), 28, 0, 0, 0, 0, S));
+  CHECK(leaves(silverpoise_take_positional_word(SHEET, ITEMS, S2, 0), 20, 0, 0, 0, 0, S2));
+  CHECK(leaves(silverpoise_take_positional_word(SHEET, ITEMS, S2, 16), 28, 0, 0, 0, 0, S2)); // before 20
   CHECK(is(silverpoise_only_once(SHEET, ITEMS, 1), 0, 0, 0, 0, 0));
 
   uint32_t *three = (uint32_t *)lend(NULL, SILVERPOISE_ITEM_SLICE * sizeof *three);
@@ -305,16 +345,21 @@ static void form_calls(void) {
   // the Word `v` is the text of name record 0
   static const uint8_t command[] = {U16(1), U16(0), U16(1), 'v'};
   static const uint32_t word[SILVERPOISE_ITEM_SLICE] = {SILVERPOISE_ITEM_WORD, 0, 0, 0, 0, 0, 1};
-  const SilverpoiseState one = {{0}, 1, 1, 0, 0, 1}, taken = {{1}, 1, 0, 1, 0, 1};
+  const SilverpoiseState one = {{0}, 1, 1, 0, 0, 1}, taken = {{511}, 1, 0, 1, 0, 1};
 
   CHECK(is(silverpoise_matches_arg(FORM, SHEET, ITEMS, S, 2, 1), 0, 0, 1, 0, 0));
   CHECK(is(silverpoise_matches_arg(FORM, SHEET, ITEMS, S, 1, 2), 0, 0, 0, 0, 0));
-  CHECK(leaves(silverpoise_take_flag(FORM, SHEET, ITEMS, S, 0), 0, 0, 1, 0, 0, S0));
-  CHECK(leaves(silverpoise_take_flag(FORM, SHEET, ITEMS, S, 1), 0, 0, 0, 0, 0, S));
-  CHECK(leaves(silverpoise_take_flag(FORM, SHEET, ITEMS, S, 2), 28, 0, 0, 0, 0, S));
-  CHECK(leaves(silverpoise_take_arg(FORM, SHEET, ITEMS, S, 2), 0, 0, 1, 2, 0, state(0, 1, 1, 1, 3)));
-  CHECK(leaves(silverpoise_take_arg(FORM, SHEET, ITEMS, S2, 2), 22, 2, 0, 0, 0, S2));
-  CHECK(leaves(silverpoise_take_cmd(FORM, SHEET, ITEMS, S0, 2), 0, 0, 0, 0, 0, state(1, 0, 0, 2, 0)));
+  // the field is told, and need not be the node's own
+  CHECK(leaves(silverpoise_take_flag(FORM, SHEET, ITEMS, S, 0, 0), 0, 0, 1, 0, 0, S0));
+  CHECK(leaves(silverpoise_take_flag(FORM, SHEET, ITEMS, S, 0, 4), 0, 0, 1, 0, 0, state(BY_TEXT_B, 0, 0, 2, 1)));
+  CHECK(leaves(silverpoise_take_flag(FORM, SHEET, ITEMS, S, 0, 5), 28, 0, 0, 0, 0, S));
+  CHECK(leaves(silverpoise_take_flag(FORM, SHEET, ITEMS, S, 1, 1), 0, 0, 0, 0, 0, S));
+  CHECK(leaves(silverpoise_take_flag(FORM, SHEET, ITEMS, S, 2, 0), 28, 0, 0, 0, 0, S));
+  CHECK(leaves(silverpoise_take_arg(FORM, SHEET, ITEMS, S, 2, 2), 0, 0, 1, 2, 0, state(0, BY_W, BY_W, 1, 3)));
+  CHECK(leaves(silverpoise_take_arg(FORM, SHEET, ITEMS, S, 2, 5), 28, 0, 0, 0, 0, S));
+  CHECK(leaves(silverpoise_take_arg(FORM, SHEET, ITEMS, S2, 2, 2), 22, 2, 0, 0, 0, S2));
+  CHECK(leaves(silverpoise_take_arg(FORM, SHEET, ITEMS, S2, 2, 5), 28, 0, 0, 0, 0, S2)); // before 22
+  CHECK(leaves(silverpoise_take_cmd(FORM, SHEET, ITEMS, S0, 2), 0, 0, 0, 0, 0, state(BY_V, 0, 0, 2, 0)));
   SilverpoiseStateAnswer a = silverpoise_take_cmd(FORM, command, sizeof command, word, SILVERPOISE_ITEM_SLICE, one, 0);
   CHECK(leaves(a, 0, 0, 1, 0, 0, taken));
 }
@@ -322,9 +367,17 @@ static void form_calls(void) {
 static void lent_calls(void) {
   SilverpoiseState *lent = (SilverpoiseState *)lend(&S, sizeof S);
   SilverpoiseItemRecord *records = (SilverpoiseItemRecord *)lend(items, 3 * sizeof *records);
-  CHECK(is(silverpoise_remove_in_place(lent, 1), 0, 0, 1, 0, 0) && same(*lent, S1));
-  CHECK(is(silverpoise_remove_in_place(lent, 3), 28, 0, 0, 0, 0) && same(*lent, S1));
-  CHECK(is(silverpoise_take_flag_in_place(lent, FORM, SHEET, ITEMS, 0), 0, 0, 1, 0, 0) && same(*lent, state(1, 1, 0, 1, 1)));
+  CHECK(is(silverpoise_remove_in_place(lent, 1, 2), 0, 0, 1, 0, 0) && same(*lent, S1));
+  CHECK(is(silverpoise_remove_in_place(lent, 3, 2), 28, 0, 0, 0, 0) && same(*lent, S1));
+  CHECK(is(silverpoise_remove_in_place(lent, 2, 16), 28, 0, 0, 0, 0) && same(*lent, S1));
+  CHECK(is(silverpoise_take_flag_in_place(lent, FORM, SHEET, ITEMS, 0, 5), 28, 0, 0, 0, 0) && same(*lent, S1));
+  CHECK(is(silverpoise_take_flag_in_place(lent, FORM, SHEET, ITEMS, 0, 1), 0, 0, 1, 0, 0));
+  CHECK(same(*lent, state(BY_Q, BY_W, 0, 1, 1)));
+  CHECK(is(silverpoise_remove_in_place(lent, 2, 15), 0, 0, 1, 0, 0) && same(*lent, state(BY_Q, BY_W, 512 + 15, 0, 3)));
+  // the form has no field 15
+  CHECK(is(silverpoise_take_flag_in_place(lent, FORM, SHEET, ITEMS, 0, 0), 29, 0, 0, 0, 0));
+  lent->marks[0] = 1;
+  CHECK(is(silverpoise_remove_in_place(lent, 2, 0), 29, 0, 0, 0, 0) && same(*lent, state(1, BY_W, 512 + 15, 0, 3)));
   CHECK(is(silverpoise_find(FORM, SHEET, records, 3, S, 2), 0, 0, 1, 1, 0));
   CHECK(is(silverpoise_find(FORM, SHEET, records, 3, S1, 2), 0, 0, 0, 0, 0));
   CHECK(is(silverpoise_find(FORM, SHEET, records, 2, S, 2), 29, 0, 0, 0, 0));
@@ -339,9 +392,9 @@ int main(void) {
   answers = (uint32_t *)lend(NULL, SILVERPOISE_ANSWER_SLICE * sizeof *answers);
   list = (uint32_t *)lend(NULL, SILVERPOISE_LIST_SLICE * sizeof *list);
   S = state(0, 0, 0, 3, 0);
-  S0 = state(1, 0, 0, 2, 1);
-  S1 = state(0, 1, 0, 2, 2);
-  S2 = state(0, 0, 1, 2, 3);
+  S0 = state(BY_V, 0, 0, 2, 1);
+  S1 = state(0, BY_W, 0, 2, 2);
+  S2 = state(0, 0, BY_W, 2, 3);
 
   utf8();
   refusals();
@@ -351,6 +404,7 @@ int main(void) {
   running();
   evaluation();
   states();
+  forged_marks();
   item_calls();
   form_calls();
   lent_calls();

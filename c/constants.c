@@ -157,10 +157,12 @@ static void refusals_of_calls(void) {
   static const uint8_t flag[] = FORM(1, FLAG_V(SILVERPOISE_FLAG_REQUIRED));
   SilverpoiseState state = RUN(flag, "-v").state;
   size_t length = make_sheet("-v");
-  CHECK(silverpoise_remove(state, 0).number == SILVERPOISE_ACCEPTED);
-  CHECK(silverpoise_remove(state, 1).number == SILVERPOISE_REFUSED_NOT_THERE);
+  CHECK(silverpoise_remove(state, 0, 0).number == SILVERPOISE_ACCEPTED);
+  CHECK(silverpoise_remove(state, 1, 0).number == SILVERPOISE_REFUSED_NOT_THERE);
+  CHECK(silverpoise_remove(state, 0, SILVERPOISE_MAX_FIELDS - 1).number == SILVERPOISE_ACCEPTED);
+  CHECK(silverpoise_remove(state, 0, SILVERPOISE_MAX_FIELDS).number == SILVERPOISE_REFUSED_NOT_THERE);
   state.marks[0] = SILVERPOISE_MARK_CONFLICT + 1; // there is no place 1
-  CHECK(silverpoise_remove(state, 0).number == SILVERPOISE_REFUSED_STATE);
+  CHECK(silverpoise_remove(state, 0, 0).number == SILVERPOISE_REFUSED_STATE);
   items[0] = SILVERPOISE_ITEM_POS_WORD + 1;
   CHECK(silverpoise_get(sheet, length, items, SILVERPOISE_ITEM_SLICE, state, 0).number == SILVERPOISE_REFUSED_RECORD);
 }
@@ -219,9 +221,32 @@ static void marks(void) {
   static const uint8_t choice[] =
       FORM(3, ARGUMENT_V(SILVERPOISE_VALUE_TEXT), POSITIONAL(SILVERPOISE_POSITIONAL_UNRESTRICTED, SILVERPOISE_VALUE_TEXT),
            NODE(SILVERPOISE_NODE_CHOICE, 0, 1, 0, 0, 0));
-  SilverpoiseState state = RUN(choice, "a -v 7 b").state;
-  CHECK(state.marks[0] == SILVERPOISE_MARK_PARSED && state.marks[1] == SILVERPOISE_MARK_CONFLICT + 0);
+  SilverpoiseState state = RUN(choice, "a -v 7 b --").state;
+  CHECK(state.marks[0] == SILVERPOISE_MARK_FIELD + 0 && state.marks[1] == SILVERPOISE_MARK_CONFLICT + 0);
   CHECK(state.marks[2] == SILVERPOISE_MARK_CONFLICT + 0 && state.marks[3] == SILVERPOISE_MARK_UNPARSED);
+  CHECK(state.marks[4] == SILVERPOISE_MARK_MARKER);
+
+  // the Word v is the text of the only name
+  state = silverpoise_split(choice, sizeof choice, sheet, make_sheet("v"), items, SILVERPOISE_ITEM_SLICE).state;
+  state = silverpoise_take_cmd(choice, sizeof choice, sheet, make_sheet("v"), items, SILVERPOISE_ITEM_SLICE, state, 0).state;
+  CHECK(state.marks[0] == SILVERPOISE_MARK_COMMAND);
+}
+
+// Of a form with as many fields as there may be each has its own mark; the marks beside those that are used are at fault.
+static void marks_of_fields(void) {
+  enum { FIELDS = SILVERPOISE_MAX_FIELDS };
+  size_t length = make_form(FIELDS, FIELDS, 0, 0);
+  SilverpoiseState state = run(form, length, "0 1 2 3 4 5 6 7 8 9 10 11 12 13 14 15", SILVERPOISE_LIST_SLICE).state;
+  bool own = state.count == FIELDS;
+  for (int k = 0; k < FIELDS; k++) own = own && state.marks[k] == SILVERPOISE_MARK_FIELD + k;
+  CHECK(own);
+
+  state.marks[0] = SILVERPOISE_MARK_FIELD + FIELDS;
+  CHECK(silverpoise_remove(state, 0, 0).number == SILVERPOISE_REFUSED_STATE);
+  state.marks[0] = SILVERPOISE_MARK_MARKER - 1;
+  CHECK(silverpoise_remove(state, 0, 0).number == SILVERPOISE_REFUSED_STATE);
+  state.marks[0] = SILVERPOISE_MARK_COMMAND;
+  CHECK(silverpoise_remove(state, 0, 0).number == SILVERPOISE_ACCEPTED);
 }
 
 // Neither side of the choice finds anything. Each has its entry: node plus 1, and the scope, here all of the two items.
@@ -244,6 +269,7 @@ int main(void) {
   all_kinds();
   value_kinds();
   marks();
+  marks_of_fields();
   missing();
   return report();
 }

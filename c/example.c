@@ -2,8 +2,8 @@
 //
 //     example [-l LIMIT | --limit LIMIT] [-1] [-2] [-3] [-4] [-5] [-6] LABEL [PART..]
 //
-// Prints the order and exits with 0, or says what is wrong with the line and exits with 1. A limit is 1 to 9999; a label that
-// begins with a dash stands behind `--`.
+// Prints the order, with what used each option and word of the line, and exits with 0; or says what is wrong with the line and
+// exits with 1. A limit is 1 to 9999; a label that begins with a dash stands behind `--`.
 #include <inttypes.h>
 #include <stdio.h>
 #include <string.h>
@@ -41,6 +41,10 @@ static const uint8_t FORM[] = {
   SILVERPOISE_NAME(SILVERPOISE_NAME_SHORT, 10, 1), SILVERPOISE_NAME(SILVERPOISE_NAME_SHORT, 11, 1),
   // the area
   'l', 'l', 'i', 'm', 'i', 't', '1', '2', '3', '4', '5', '6'};
+
+// The fields by name, in the form's order.
+static const char *const FIELD_NAMES[] = {
+  "limit", "cradle-1", "cradle-2", "cradle-3", "cradle-4", "cradle-5", "cradle-6", "label", "parts"};
 
 // One command line and what the reader writes about it.
 struct line {
@@ -138,8 +142,18 @@ static bool is_mistyped_option(const struct line *line, uint32_t place) {
   return item.kind == SILVERPOISE_ITEM_WORD && part.length > 0 && line->sheet[part.offset] == '-';
 }
 
+// Prints which field used each item. The line is accepted, so every item is used: by a field, or it is the opening `--`.
+static void print_users(const SilverpoiseState *state) {
+  printf("used by:");
+  for (uint32_t place = 0; place < state->count; place++) {
+    uint16_t mark = state->marks[place];
+    printf(" %s", mark == SILVERPOISE_MARK_MARKER ? "--" : FIELD_NAMES[mark - SILVERPOISE_MARK_FIELD]);
+  }
+  printf("\n");
+}
+
 // Reads the answer words, field after field, and prints the order.
-static int print_order(const struct line *line) {
+static int print_order(const struct line *line, const SilverpoiseState *state) {
   const uint32_t *word = line->answers;
   bool limited = *word++ == 1;
   uint32_t limit = limited ? *word++ : DEFAULT_LIMIT;
@@ -164,6 +178,7 @@ static int print_order(const struct line *line) {
     print_text(line, parts[i], stdout);
   }
   printf("\n");
+  print_users(state);
   return fflush(stdout) == 0 ? 0 : 1;
 }
 
@@ -173,5 +188,5 @@ int main(int argc, char **argv) {
   SilverpoiseRunAnswer answer =
       silverpoise_run(FORM, sizeof FORM, line.sheet, line.length, line.items, SILVERPOISE_ITEM_SLICE, line.answers,
                       SILVERPOISE_ANSWER_SLICE, line.list, SILVERPOISE_LIST_SLICE);
-  return answer.number == SILVERPOISE_ACCEPTED ? print_order(&line) : refuse(&line, answer);
+  return answer.number == SILVERPOISE_ACCEPTED ? print_order(&line, &answer.state) : refuse(&line, answer);
 }

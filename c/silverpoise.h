@@ -76,8 +76,8 @@ enum SilverpoiseRefusal {
   SILVERPOISE_REFUSED_UNCONSUMED = 27,     // nothing takes an item; place: the first left over
 
   // because of a single call, that is, any call but silverpoise_split and silverpoise_run; tested in the order 30, 29, 28
-  SILVERPOISE_REFUSED_NOT_THERE = 28, // no such node, name record, place or scope
-  SILVERPOISE_REFUSED_STATE = 29,     // a state does not hold together, or does not fit the items
+  SILVERPOISE_REFUSED_NOT_THERE = 28, // no such node, name record, place, scope or field
+  SILVERPOISE_REFUSED_STATE = 29,     // a state does not hold together, or does not fit the items or the form
   SILVERPOISE_REFUSED_RECORD = 30     // an item record is at fault
 };
 
@@ -151,12 +151,25 @@ typedef struct {
 } SilverpoiseItemRecord;
 
 enum {
+  // present
   SILVERPOISE_MARK_UNPARSED = 0,
-  SILVERPOISE_MARK_PARSED = 1,
-  SILVERPOISE_MARK_CONFLICT = 2 // plus the place that decided a choice against this one
+  SILVERPOISE_MARK_CONFLICT = 2, // plus the place that decided a choice against this one
+
+  // used: all marks from 510 on
+  SILVERPOISE_MARK_MARKER = 510,  // the opening `--`, used from the start
+  SILVERPOISE_MARK_COMMAND = 511, // a command word, by silverpoise_take_cmd
+  SILVERPOISE_MARK_FIELD = 512    // plus the number of the field that used the place, from 0
 };
 
-// Which places are used (5): a place is used if its mark is 1, else it is present.
+// Which places are used, and by whom (5). A mark is one of
+//
+//   0            the place is not used
+//   2 + w        not used either: a choice was decided against it by the place w, which is below the count
+//   510          used: the opening `--`
+//   511          used: a command word
+//   512 + k      used by field number k, which is below the form's count of fields, and below 16 where a call has no form
+//
+// So a place is used if its mark is 510 or more, else it is present. A state with any other mark is refused with 29.
 typedef struct {
   uint16_t marks[SILVERPOISE_MAX_ITEMS];
   uint32_t count;      // of items; the marks behind are 0
@@ -260,9 +273,9 @@ SilverpoiseTold silverpoise_portable(const uint8_t *form, size_t form_count);
 
 // ---- A form and a sheet ----
 
-// Splits a line into items, written to `items`, and gives the state they start in. Refused: 1 to 4, 6, 5, 7, then 8 or 9.
-// After 1 to 8 the item slice is all 0 and the state empty. After 9 the slice has the items up to the Word, and none is used.
-// In every case the words behind the last item are 0.
+// Splits a line into items, written to `items`, and gives the state they start in: only the opening `--` is used, with the
+// mark SILVERPOISE_MARK_MARKER. Refused: 1 to 4, 6, 5, 7, then 8 or 9. After 1 to 8 the item slice is all 0 and the state
+// empty. After 9 the slice has the items up to the Word, and none is used. In every case the words behind the last item are 0.
 SilverpoiseSplitAnswer silverpoise_split(const uint8_t *form, size_t form_count, const uint8_t *sheet, size_t sheet_count,
                                          uint32_t *items, size_t item_count);
 
@@ -274,6 +287,8 @@ SilverpoiseSplitAnswer silverpoise_split(const uint8_t *form, size_t form_count,
 //   text               a word for silverpoise_text: an item's place, or 256 plus the name record of a fallback
 //   optional           0; or 1 and then the value
 //   list               the count of elements, then each element
+//
+// In `state` a place that field k used has the mark SILVERPOISE_MARK_FIELD + k, so it tells which field took which word.
 //
 // The words behind the last value are 0. Refused: as silverpoise_split, with 14 right behind 7, then one of 20 to 27. Refused,
 // the answer slice is all 0 and so is `words`. After 1 to 9 item slice and state are as silverpoise_split leaves them, and
@@ -289,6 +304,7 @@ SilverpoiseRunAnswer silverpoise_run(const uint8_t *form, size_t form_count, con
 // One node on a state, any node of the form; its value is written to `answers`. Refused with 1 to 4, 6, 5, 7, 14, 30, 29 or
 // 28: answer slice and list slice are as they were and the state is the given one. Refused with 20 to 26: the answer slice is
 // all 0 and the state the one that the node left. Accepted, and after 20 to 26, `list` has what silverpoise_run writes there.
+// What the node uses gets the mark of its field: every node of a form belongs to one.
 SilverpoiseRunAnswer silverpoise_eval(const uint8_t *form, size_t form_count, const uint8_t *sheet, size_t sheet_count,
                                       const uint32_t *items, size_t item_count, uint32_t *answers, size_t answer_count,
                                       uint32_t *list, size_t list_count, SilverpoiseState state, size_t node);
@@ -297,10 +313,16 @@ SilverpoiseRunAnswer silverpoise_eval(const uint8_t *form, size_t form_count, co
 SilverpoiseTextPart silverpoise_text(const uint8_t *form, size_t form_count, const uint8_t *sheet, size_t sheet_count,
                                      const uint32_t *items, size_t item_count, uint32_t word);
 
+// ---- The field of a single call ----
+//
+// The calls below that use places are told the number of the field that does so, as `field`: they write the mark
+// SILVERPOISE_MARK_FIELD + field. It must be below the form's count of fields, and below SILVERPOISE_MAX_FIELDS where the call
+// has no form; else 28. silverpoise_take_cmd is told none and writes SILVERPOISE_MARK_COMMAND.
+
 // ---- States alone; refused with 29, then 28 ----
 
 // Uses a place. A place that is used already or out of scope changes nothing, and that is no refusal. found 1.
-SilverpoiseStateAnswer silverpoise_remove(SilverpoiseState state, size_t place);
+SilverpoiseStateAnswer silverpoise_remove(SilverpoiseState state, size_t place, size_t field);
 
 // Which of two states a choice takes. found: 1 the first, 0 the second. first: the place that decided PLUS 1, or 0 for none.
 SilverpoiseAnswer silverpoise_pick_winner(SilverpoiseState state, SilverpoiseState other);
@@ -334,7 +356,7 @@ SilverpoiseAnswer silverpoise_conflict(const uint8_t *sheet, size_t sheet_count,
 // Takes the first present Word or PosWord in scope; refused with 20 if there is none. found 1; first: its place; second: 1
 // for a PosWord.
 SilverpoiseStateAnswer silverpoise_take_positional_word(const uint8_t *sheet, size_t sheet_count, const uint32_t *items,
-                                                        size_t item_count, SilverpoiseState state);
+                                                        size_t item_count, SilverpoiseState state, size_t field);
 
 // The nearest earlier place with the same character or name as the Short or Long at a place. found 1 or 0; first: that place.
 // There is no state, so the items may be more than 256.
@@ -351,12 +373,13 @@ SilverpoiseAnswer silverpoise_matches_arg(const uint8_t *form, size_t form_count
 // Takes a flag. found: 1 taken, 0 not there.
 SilverpoiseStateAnswer silverpoise_take_flag(const uint8_t *form, size_t form_count, const uint8_t *sheet,
                                              size_t sheet_count, const uint32_t *items, size_t item_count,
-                                             SilverpoiseState state, size_t node);
+                                             SilverpoiseState state, size_t node, size_t field);
 
 // Takes an argument and its value. found: 1 taken, 0 not there; first: the value's place. Refused with 22 at the key if there
 // is no value.
 SilverpoiseStateAnswer silverpoise_take_arg(const uint8_t *form, size_t form_count, const uint8_t *sheet, size_t sheet_count,
-                                            const uint32_t *items, size_t item_count, SilverpoiseState state, size_t node);
+                                            const uint32_t *items, size_t item_count, SilverpoiseState state, size_t node,
+                                            size_t field);
 
 // Takes the first present item in scope if it is a Word, a Short or a Long that is not adjacent, and its text is that of a
 // short or long name record. found: 1 taken; 0 not taken, and `current` of the state becomes none.
@@ -366,10 +389,10 @@ SilverpoiseStateAnswer silverpoise_take_cmd(const uint8_t *form, size_t form_cou
 // ---- A state that is lent, and items as structs ----
 
 // As silverpoise_remove and silverpoise_take_flag. Refused, the lent state is as it was.
-SilverpoiseAnswer silverpoise_remove_in_place(SilverpoiseState *state, size_t place);
+SilverpoiseAnswer silverpoise_remove_in_place(SilverpoiseState *state, size_t place, size_t field);
 SilverpoiseAnswer silverpoise_take_flag_in_place(SilverpoiseState *state, const uint8_t *form, size_t form_count,
                                                  const uint8_t *sheet, size_t sheet_count, const uint32_t *items,
-                                                 size_t item_count, size_t node);
+                                                 size_t item_count, size_t node, size_t field);
 
 // The first present item in scope that matches a flag or argument. `item_count` is that of the structs, of which those behind
 // the last that is not all 0 are left out. found 1 or 0; first: the place. Refused: 1 to 4, 6, 5, 30, 29, 28.

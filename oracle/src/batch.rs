@@ -152,7 +152,8 @@ struct Probe {
 
 impl Probe {
     fn case(&mut self, case: &Case) {
-        let ran = caught(|| run_bytes(&case.form, &case.sheet, Wanted { items: true, probe: true, ..Wanted::default() }));
+        let wanted = Wanted { items: true, probe: true, put_back: true, ..Wanted::default() };
+        let ran = caught(|| run_bytes(&case.form, &case.sheet, wanted));
         self.cases += 1;
         let broken = match &ran {
             Ok(ran) => {

@@ -6,7 +6,7 @@ use std::collections::BTreeMap;
 use bpaf::doc::harness::{run_bytes, View, Wanted};
 use line::{cases, cases::Case, cases::Rng, forged::too_short, format::*};
 
-use crate::{lists::short_case, script::Script};
+use crate::{lines, lists::short_case, script::Script};
 
 /// The definitions' files, in the order in which they stand on one another.
 const SPECS: [(&str, &[&str]); 3] = [
@@ -72,7 +72,7 @@ fn place(place: Option<usize>) -> usize {
 
 fn state_words(view: &View) -> Vec<usize> {
     let head = [view.remaining, place(view.current), view.scope.start, view.scope.end, view.marks.len()];
-    head.into_iter().chain(view.marks.iter().map(|m| *m as usize)).collect()
+    head.into_iter().chain(view.marks.iter().map(|m| usize::from(*m))).collect()
 }
 
 /// A state as the definitions write it.
@@ -170,7 +170,9 @@ fn call_term(call: &str, given: &View, second: Option<&View>) -> Option<String> 
     let t = second.map_or(String::new(), state_term);
     let n = |k: usize| numbers[k];
     Some(match name {
-        "remove" => format!("shownCall (remove 1 {s} {} >>= λ u. ok (record {{ answer = []; state = u }}))", n(0)),
+        "remove" => {
+            format!("shownCall (remove (fieldMark {}) {s} {} >>= λ u. ok (record {{ answer = []; state = u }}))", n(1), n(0))
+        }
         "get" => format!("shownCall (ok (record {{ answer = bit (isSome (get is {s} {})) ∷ []; state = {s} }}))", n(0)),
         "conflict" => format!("shownCall (conflict is {s} >>= λ c. ok (record {{ answer = conflictWords c; state = {s} }}))"),
         "pick_winner" => format!("shownCall (ok (record {{ answer = pickedWords (pickWinner {s} {t}); state = {s} }}))"),
@@ -191,14 +193,12 @@ fn call_term(call: &str, given: &View, second: Option<&View>) -> Option<String> 
             n(0),
             n(1)
         ),
-        "take_flag" => {
-            format!("shownCall (takeFlag 1 is (treeNamed a {} .0) {s} >>= λ t. ok (record {{ answer = bit (t .answer) ∷ []; state = t .state }}))", n(0))
+        "take_flag" => format!("shownTook (takeFlag (fieldMark {}) is (treeNamed a {} .0) {s})", n(1), n(0)),
+        "take_arg" => {
+            format!("shownArg {s} (takeArg (fieldMark {}) is (treeNamed a {} .0) (treeNamed a {} .1) {s})", n(1), n(0), n(0))
         }
-        "take_arg" => format!("shownArg {s} (takeArg 1 is (treeNamed a {} .0) (treeNamed a {} .1) {s})", n(0), n(0)),
-        "take_positional_word" => format!("shownOperand (takePositionalWord 1 is {s})"),
-        "take_cmd" => {
-            format!("shownCall (takeCmd 1 is (recordBytes a {}) {s} >>= λ t. ok (record {{ answer = bit (t .answer) ∷ []; state = t .state }}))", n(0))
-        }
+        "take_positional_word" => format!("shownOperand (takePositionalWord (fieldMark {}) is {s})", n(0)),
+        "take_cmd" => format!("shownTook (takeCmd commandMark is (recordBytes a {}) {s})", n(0)),
         "eval" => format!("shownEval (evalNode a is {} {s})", n(0)),
         _ => return None,
     })
@@ -242,12 +242,13 @@ fn rare() -> Vec<Case> {
     lines.iter().map(case).collect()
 }
 
-/// `count` runs, half as many single calls, and a few rare cases.
+/// `count` runs, half as many single calls, a few rare cases, and the lines whose marks are known.
 pub fn print(seed: u64, count: usize) {
     let mut rng = Rng::new(seed);
     let (uses, unfolding) = header();
     let mut equations = Equations { unfolding, ..Equations::default() };
-    for case in rare() {
+    let marked = lines::marks().into_iter().map(|(form, sheet, ..)| Case { form: form.write(), sheet: sheet.write() });
+    for case in rare().into_iter().chain(marked) {
         equations.run(&case, LEAST);
     }
     for slices in [[1791, 8240, 192], [1792, 8239, 192], [1792, 8240, 191], [1792, 8239, 191], [1792, 8240, 0]] {

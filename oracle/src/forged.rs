@@ -2,6 +2,7 @@
 //! from the Rattle code, for states and item tables that no split gives.
 
 use crate::format::*;
+use crate::marks::{fields_of, mark_good, used};
 
 /// A state as it is handed over. `current` is the place plus 1, or 0 for none.
 #[repr(C)]
@@ -55,15 +56,14 @@ fn record_good(record: &[u32; 7], area: usize) -> bool {
     unused && adjacent <= 1 && inside(name_at, name_length) && inside(text_at, text_length)
 }
 
-/// Whether a state is one that refusal 29 lets through, over that many items.
-pub fn state_good(s: &State, items: usize) -> bool {
+/// Whether a state is one that refusal 29 lets through, over that many items and that many fields.
+pub fn state_good(s: &State, items: usize, fields: usize) -> bool {
     let (count, start, end) = (s.count as usize, s.start as usize, s.end as usize);
     if count != items || count > 256 || start > end || end > count {
         return false;
     }
-    let mark_good = |m: &u16| *m < 2 || ((*m - 2) as usize) < count;
-    let present = s.marks[start..end].iter().filter(|m| **m != 1).count();
-    s.marks[..count].iter().all(mark_good)
+    let present = s.marks[start..end].iter().filter(|m| !used(**m)).count();
+    s.marks[..count].iter().all(|m| mark_good(*m, count, fields))
         && s.marks[count..].iter().all(|m| *m == 0)
         && s.current as usize <= count
         && s.remaining as usize == present
@@ -72,7 +72,8 @@ pub fn state_good(s: &State, items: usize) -> bool {
 /// A call on a state, with what it is told.
 #[derive(Clone, Debug)]
 pub enum Call {
-    Remove(usize),
+    /// a place and a field
+    Remove(usize, usize),
     PickWinner(State),
     SaveConflicts(State, usize),
     SetScope(usize, usize),
@@ -80,11 +81,14 @@ pub enum Call {
     AvailableFrom(usize),
     Get(usize),
     Conflict,
-    TakePositional,
+    /// a field
+    TakePositional(usize),
     OnlyOnce(usize),
+    /// a node and a place
     Matches(usize, usize),
-    TakeFlag(usize),
-    TakeArg(usize),
+    /// a node and a field
+    TakeFlag(usize, usize),
+    TakeArg(usize, usize),
     TakeCmd(usize),
     /// a node, and the lengths of the answer slice and of the list slice
     Eval(usize, usize, usize),
@@ -96,12 +100,12 @@ impl Call {
     /// Whether the call has a form; a sheet and an item slice; a state; a second state.
     fn has_form(&self) -> bool {
         use Call::*;
-        matches!(self, Matches(..) | TakeFlag(_) | TakeArg(_) | TakeCmd(_) | Eval(..) | Text(_))
+        matches!(self, Matches(..) | TakeFlag(..) | TakeArg(..) | TakeCmd(_) | Eval(..) | Text(_))
     }
 
     fn has_items(&self) -> bool {
         use Call::*;
-        self.has_form() || matches!(self, Get(_) | Conflict | TakePositional | OnlyOnce(_))
+        self.has_form() || matches!(self, Get(_) | Conflict | TakePositional(_) | OnlyOnce(_))
     }
 
     fn has_state(&self) -> bool {
@@ -123,23 +127,35 @@ impl Call {
         }
     }
 
-    /// 28: whether what the call names is there.
+    /// The field that the call is told, if it is told one.
+    pub fn field(&self) -> Option<usize> {
+        match *self {
+            Call::Remove(_, field) | Call::TakePositional(field) => Some(field),
+            Call::TakeFlag(_, field) | Call::TakeArg(_, field) => Some(field),
+            _ => None,
+        }
+    }
+
+    /// 28: whether what the call names is there, and the field that it is told.
     fn names_what_is_there(&self, form: Option<&Form>, count: usize) -> bool {
         let kind = |node: usize| form.and_then(|f| f.nodes.get(node)).map(|n| n.kind);
         let ty = |record: usize| form.and_then(|f| f.names.get(record)).map(|n| n.ty);
+        if self.field().is_some_and(|field| field >= fields_of(form)) {
+            return false;
+        }
         match *self {
-            Call::Remove(place) | Call::Get(place) | Call::SaveConflicts(_, place) => place < count,
+            Call::Remove(place, _) | Call::Get(place) | Call::SaveConflicts(_, place) => place < count,
             Call::OnlyOnce(place) => place < count && u32::try_from(place).is_ok(),
             Call::SetScope(start, end) => start <= end && end <= count,
             Call::AvailableFrom(start) => start <= count,
             Call::Matches(node, place) => matches!(kind(node), Some(FLAG | ARGUMENT)) && place < count,
-            Call::TakeFlag(node) => kind(node) == Some(FLAG),
-            Call::TakeArg(node) => kind(node) == Some(ARGUMENT),
+            Call::TakeFlag(node, _) => kind(node) == Some(FLAG),
+            Call::TakeArg(node, _) => kind(node) == Some(ARGUMENT),
             Call::TakeCmd(record) => matches!(ty(record), Some(SHORT | LONG)),
             Call::Eval(node, ..) => kind(node).is_some(),
             Call::Text(word) if word < 256 => (word as usize) < count,
             Call::Text(word) => ty(word as usize - 256) == Some(TEXT),
-            Call::PickWinner(_) | Call::AdjacentScope(_) | Call::Conflict | Call::TakePositional => true,
+            Call::PickWinner(_) | Call::AdjacentScope(_) | Call::Conflict | Call::TakePositional(_) => true,
         }
     }
 }
@@ -176,7 +192,8 @@ pub fn refusal(lent: &Lent, call: &Call) -> Option<Refusal> {
         count = records.len();
     }
     let states = call.has_state().then_some(lent.state).into_iter().chain(call.second());
-    if states.into_iter().any(|s| !state_good(s, count)) {
+    let fields = fields_of(form.as_ref());
+    if states.into_iter().any(|s| !state_good(s, count, fields)) {
         return Some(Refusal::new(29));
     }
     (!call.names_what_is_there(form.as_ref(), count)).then_some(Refusal::new(28))
@@ -190,27 +207,58 @@ mod tests {
         let mut all = [0; 256];
         all[..marks.len()].copy_from_slice(marks);
         let count = marks.len() as u32;
-        let remaining = marks.iter().filter(|m| **m != 1).count() as u32;
+        let remaining = marks.iter().filter(|m| !used(**m)).count() as u32;
         State { marks: all, count, remaining, current: 0, start: 0, end: count }
     }
 
     #[test]
     fn a_state_after_a_choice_is_good() {
-        assert!(state_good(&state(&[1, 2, 0]), 3));
+        assert!(state_good(&state(&[512, 2, 0]), 3, 1));
     }
 
     #[test]
     fn each_rule_of_29_is_looked_at() {
-        let good = state(&[1, 2, 0]);
-        assert!(!state_good(&good, 2), "another count");
-        assert!(!state_good(&State { start: 2, end: 1, ..good }, 3), "a scope that falls");
-        assert!(!state_good(&State { end: 4, ..good }, 3), "a scope that leaves the items");
-        assert!(!state_good(&state(&[5]), 1), "a winner that is not there");
-        assert!(!state_good(&State { current: 4, ..good }, 3), "a current place that is not there");
-        assert!(!state_good(&State { remaining: 3, ..good }, 3), "too many remaining");
-        let mut late = good;
-        late.marks[3] = 1;
-        assert!(!state_good(&late, 3), "a mark past the items");
+        let good = state(&[512, 2, 0]);
+        assert!(!state_good(&good, 2, 1), "another count");
+        assert!(!state_good(&State { start: 2, end: 1, ..good }, 3, 1), "a scope that falls");
+        assert!(!state_good(&State { end: 4, ..good }, 3, 1), "a scope that leaves the items");
+        assert!(!state_good(&state(&[5]), 1, 1), "a winner that is not there");
+        assert!(!state_good(&state(&[513, 2, 0]), 3, 1), "a field that is not there");
+        assert!(!state_good(&state(&[1]), 1, 1), "a mark of nothing");
+        assert!(!state_good(&State { current: 4, ..good }, 3, 1), "a current place that is not there");
+        assert!(!state_good(&State { remaining: 3, ..good }, 3, 1), "too many remaining");
+        for late in [1, 2, 510, 511, 512] {
+            let mut past = good;
+            past.marks[3] = late;
+            assert!(!state_good(&past, 3, 1), "a mark past the items");
+        }
+    }
+
+    #[test]
+    fn the_marker_and_a_command_may_stand_anywhere() {
+        assert!(state_good(&state(&[510, 511, 510, 511, 0, 512]), 6, 1));
+    }
+
+    #[test]
+    fn fields_are_those_of_the_form_or_sixteen() {
+        let form = crate::notation::parse("flag(-v); flag(-q)").expect("a form").write();
+        let sheet = Sheet { arguments: vec![b"-v".to_vec()] }.write();
+        let mut items = vec![0; ITEM_WORDS];
+        items[..7].copy_from_slice(&[1, 0, 'v' as u32, 0, 0, 0, 2]);
+        let number = |mark: u16, call: Call| {
+            let lent = Lent { form: &form, sheet: &sheet, items: &items, state: &state(&[mark]) };
+            refusal(&lent, &call).map_or(0, |r| r.number)
+        };
+        // the mark of a field: below two with the form, below sixteen without
+        assert_eq!([513, 514].map(|m| number(m, Call::TakeFlag(0, 0))), [0, 29]);
+        assert_eq!([527, 528].map(|m| number(m, Call::Remove(0, 0))), [0, 29]);
+        assert_eq!([527, 528].map(|m| number(m, Call::Conflict)), [0, 29]);
+        // the field that is told, and 29 before 28
+        assert_eq!([1, 2, usize::MAX].map(|k| number(0, Call::TakeFlag(0, k))), [0, 28, 28]);
+        assert_eq!([1, 2, usize::MAX].map(|k| number(0, Call::TakeArg(0, k))), [28, 28, 28]);
+        assert_eq!([15, 16, usize::MAX].map(|k| number(0, Call::Remove(0, k))), [0, 28, 28]);
+        assert_eq!([15, 16, usize::MAX].map(|k| number(0, Call::TakePositional(k))), [0, 28, 28]);
+        assert_eq!(number(514, Call::TakeFlag(0, 2)), 29);
     }
 
     #[test]

@@ -3,6 +3,9 @@
 //! Each node becomes the bpaf parser that it stands for. A leaf is wrapped so that tries are counted and the place of a
 //! text is known; in a probed run every node is wrapped by `Visit`, which looks at the states and the value. A leaf carries its
 //! node number in its help or metavar, so that it is known again in what bpaf says is missing.
+//!
+//! bpaf knows that a place is used, and not by which field. `Numbers` finds that out: the fields run one after the other on one
+//! state, and what became used between two looks at it has the number of the field that ran between them.
 
 use std::{
     cell::{Cell, RefCell},
@@ -14,7 +17,7 @@ use std::{
     rc::Rc,
 };
 
-use line::format::*;
+use line::{format::*, marks};
 
 use crate::{
     args::{Arg, Args, State},
@@ -41,10 +44,10 @@ mod error_again {
 
 type Node = Box<dyn Parser<Value>>;
 
-/// The state as numbers: marks are 0 unparsed, 1 parsed, 2 + w conflict with winner w.
+/// The state as numbers, with the marks of `line::marks`.
 #[derive(Clone, Debug, PartialEq, Eq)]
 pub struct View {
-    pub marks: Vec<u32>,
+    pub marks: Vec<u16>,
     pub remaining: usize,
     pub current: Option<usize>,
     pub scope: Range<usize>,
@@ -57,19 +60,64 @@ impl View {
 
     /// Places in scope that are not parsed, counted.
     pub fn unused(&self) -> usize {
-        self.scope.clone().filter(|k| self.marks[*k] != 1).count()
+        self.scope.clone().filter(|k| !self.used(*k)).count()
+    }
+
+    /// Whether there is such a place, and it is used.
+    fn used(&self, place: usize) -> bool {
+        self.marks.get(place).is_some_and(|mark| marks::used(*mark))
     }
 }
 
-fn view(state: &State) -> View {
+/// Whether bpaf has used a place.
+fn used(state: &State, place: usize) -> bool {
+    state.present(place) == Some(false)
+}
+
+/// The mark of each used place, and 0 for the others.
+#[derive(Clone)]
+struct Numbers(Vec<u16>);
+
+impl Numbers {
+    /// Every place that is used has the same mark.
+    fn all(state: &State, mark: u16) -> Numbers {
+        let mut numbers = Numbers(vec![0; state.items.len()]);
+        numbers.look(state, mark);
+        numbers
+    }
+
+    /// After the split: what `construct` used is the opening `--`, and nothing else.
+    fn split(state: &State) -> Numbers {
+        let numbers = Numbers::all(state, marks::MARKER);
+        let opening = (0..state.items.len()).find(|k| matches!(state.items[*k], Arg::PosWord(_)));
+        let good = (0..state.items.len()).all(|k| used(state, k) == (Some(k) == opening));
+        assert!(good, "only the first operand behind the options is used by the split: `--`");
+        numbers
+    }
+
+    /// What is used now and was not at the last look has this mark; what was used then keeps its own.
+    fn look(&mut self, state: &State, mark: u16) {
+        for (place, number) in self.0.iter_mut().enumerate() {
+            *number = match used(state, place) {
+                false => 0,
+                true if *number == 0 => mark,
+                true => *number,
+            };
+        }
+    }
+}
+
+fn view(state: &State, numbers: &Numbers) -> View {
     // marks are private: a conflict shows by the crate's own `conflict` in a scope of one place
     let mut narrow = state.clone();
     let mark = |place: usize| {
-        if state.present(place) == Some(false) {
-            return 1;
+        let number = numbers.0[place];
+        assert_eq!(number != 0, used(state, place), "a used place has a number, and no other");
+        if number != 0 {
+            return number;
         }
         narrow.set_scope(place..place + 1);
-        narrow.conflict().map_or(0, |(_, winner)| 2 + winner as u32)
+        narrow.conflict().map_or(0, |(_, winner)| 2 + winner as u16)
     };
     View {
         marks: (0..state.items.len()).map(mark).collect(),
@@ -79,12 +127,16 @@ fn view(state: &State) -> View {
     }
 }
 
-/// What is shared by all nodes of one run: the count of tries, the choices crossed (`Sides`) and, if probed, the facts found
-/// broken.
+/// What is shared by all nodes of one run: the count of tries, the choices crossed (`Sides`), the places that were used at some
+/// moment of a field and, if probed, the facts found broken.
 #[derive(Default)]
 struct Watch {
     tries: Cell<u64>,
     crossed: RefCell<Vec<usize>>,
+    /// whether it is wanted what a field puts back
+    looks: bool,
+    touched: RefCell<Vec<bool>>,
+    put_back: RefCell<Vec<PutBack>>,
     visits: Cell<u64>,
     longest: Cell<usize>,
     broken: RefCell<Vec<String>>,
@@ -97,14 +149,33 @@ impl Watch {
         }
     }
 
+    /// A field begins: no place was used in it yet.
+    fn field_begins(&self, state: &State) {
+        let places = if self.looks { state.items.len() } else { 0 };
+        self.touched.replace(vec![false; places]);
+    }
+
+    /// All that is ever used is used by a leaf, so it is enough to look whenever a leaf is done.
+    fn leaf_ends(&self, state: &State) {
+        self.touched.borrow_mut().iter_mut().enumerate().for_each(|(place, touched)| *touched |= used(state, place));
+    }
+
+    /// A field ends: what was used in it and no longer is was put back.
+    fn field_ends(&self, field: usize, state: &State) {
+        let touched = self.touched.take();
+        let places = (0..touched.len()).filter(|place| touched[*place] && !used(state, *place));
+        self.put_back.borrow_mut().extend(places.map(|place| PutBack { field, place }));
+    }
+
     /// What holds of every state that a node is given or leaves.
     fn state(&self, node: usize, state: &View) {
         self.must(state.remaining == state.unused(), || format!("node {node}: remaining in {state:?}"));
-        let current = state.current.map_or(true, |c| state.marks.get(c) == Some(&1));
+        let current = state.current.map_or(true, |c| state.used(c));
         self.must(current, || format!("node {node}: current is no used place in {state:?}"));
-        for (place, mark) in state.marks.iter().enumerate().filter(|(_, m)| **m >= 2) {
+        let conflicts = state.marks.iter().enumerate().filter(|(_, m)| **m != 0 && !marks::used(**m));
+        for (place, mark) in conflicts {
             let winner = *mark as usize - 2;
-            let left = winner < place && state.marks[winner] == 1;
+            let left = winner < place && state.used(winner);
             self.must(left, || format!("node {node}: winner of place {place} in {state:?}"));
         }
     }
@@ -115,6 +186,11 @@ impl Watch {
         self.state(node, given);
         self.state(node, left);
         self.must(given.scope == left.scope, || format!("node {node}: scope changed"));
+        // so a place keeps the number of the field that used it
+        let kept = (0..given.marks.len()).all(|place| !given.used(place) || left.used(place));
+        self.must(kept, || format!("node {node}: {given:?} became {left:?}, a used place is not"));
+        let by_leaf = self.touched.borrow().iter().enumerate().all(|(place, touched)| *touched || !left.used(place));
+        self.must(by_leaf, || format!("node {node}: {left:?} has a place that no leaf used"));
         match result {
             Ok(value) => {
                 self.must(value.has_kind(kind), || format!("node {node}: {value:?} is not of kind {kind:?}"));
@@ -145,9 +221,11 @@ struct Visit {
 
 impl Parser<Value> for Visit {
     fn eval(&self, args: &mut State) -> Result<Value, Error> {
-        let given = view(args);
+        // which field used a place does not matter here
+        let seen = |state: &State| view(state, &Numbers::all(state, marks::FIELD));
+        let given = seen(args);
         let result = self.inner.eval(args);
-        self.watch.evaluation(self.node, self.kind, &given, &view(args), &result);
+        self.watch.evaluation(self.node, self.kind, &given, &seen(args), &result);
         result
     }
 
@@ -207,8 +285,9 @@ struct Leaf<P, T> {
 impl<P: Parser<T>, T> Parser<Value> for Leaf<P, T> {
     fn eval(&self, args: &mut State) -> Result<Value, Error> {
         self.watch.tries.set(self.watch.tries.get() + 1);
-        let value = self.inner.eval(args)?;
-        Ok((self.value)(value, args))
+        let result = self.inner.eval(args);
+        self.watch.leaf_ends(args);
+        Ok((self.value)(result?, args))
     }
 
     fn meta(&self) -> Meta {
@@ -301,7 +380,8 @@ struct Builder<'a> {
 impl Builder<'_> {
     fn new(form: &Form, wanted: Wanted) -> Builder<'_> {
         let kinds = form.kinds().expect("a checked form");
-        Builder { form, kinds, watch: Rc::new(Watch::default()), wanted }
+        let watch = Watch { looks: wanted.put_back, ..Watch::default() };
+        Builder { form, kinds, watch: Rc::new(watch), wanted }
     }
 
     fn node(&self, k: usize) -> Node {
@@ -496,6 +576,13 @@ fn record(arg: &Arg, argument: &[u8], start: usize) -> Record {
     }
 }
 
+/// A place that a field used at some moment and that is not used at the field's end.
+#[derive(Clone, Copy, Debug, PartialEq, Eq)]
+pub struct PutBack {
+    pub field: usize,
+    pub place: usize,
+}
+
 /// All that a run shows.
 #[derive(Clone, Debug, PartialEq, Eq)]
 pub struct Run {
@@ -506,6 +593,8 @@ pub struct Run {
     pub state: View,
     /// the choices whose first side was refused with 24 and whose second with 20, if that was looked at
     pub crossed: Vec<usize>,
+    /// the places that were put back, field by field, if that was looked at
+    pub put_back: Vec<PutBack>,
     /// evaluations looked at, and the facts found broken, in a probed run
     pub visits: u64,
     pub broken: Vec<String>,
@@ -517,6 +606,7 @@ pub struct Wanted {
     pub items: bool,
     pub probe: bool,
     pub sides: bool,
+    pub put_back: bool,
 }
 
 /// A form and a sheet in bytes, run by the real bpaf; refusals 1 to 6 are those of `line::format`.
@@ -536,6 +626,7 @@ pub fn refused_run(refused: Refusal) -> Run {
         records: Vec::new(),
         state: View::empty(),
         crossed: Vec::new(),
+        put_back: Vec::new(),
         visits: 0,
         broken: Vec::new(),
     }
@@ -546,26 +637,27 @@ pub fn run(form: &Form, sheet: &Sheet, wanted: Wanted) -> Run {
     let builder = Builder::new(form, wanted);
     let fields = builder.fields();
     let (flags, args) = letters(&fields);
-    let (mut state, refused) = construct(&sheet.arguments, &flags, &args);
+    let (state, refused) = construct(&sheet.arguments, &flags, &args);
     if refused.is_some_and(|r| r.number == 8) {
         return refused_run(Refusal::new(8));
     }
     let records = if wanted.items { records(sheet, &state, &flags, &args) } else { Vec::new() };
+    let (mut held, watch) = (Held::after_split(state), &builder.watch);
     let ran = match refused {
         Some(r) => Err((r, Vec::new())),
-        None => run_fields(&fields, &mut state),
+        None => run_fields(&fields, &mut held, watch),
     };
-    let watch = &builder.watch;
     if wanted.probe {
-        probe_run(form, sheet, &flags, &args, watch, &state, refused.is_none());
+        probe_run(form, sheet, &flags, &args, watch, &held.state, refused.is_none());
     }
     let (answer, missing) = ended(ran, watch.tries.get());
     Run {
         answer,
         missing,
         records,
-        state: view(&state),
+        state: held.view(),
         crossed: watch.crossed.take(),
+        put_back: watch.put_back.take(),
         visits: watch.visits.get(),
         broken: watch.broken.take(),
     }
@@ -586,13 +678,16 @@ fn ended(ran: Result<Vec<u32>, Refused>, tries: u64) -> (Answer, Vec<Entry>) {
     }
 }
 
-/// Each field's `eval` on one state, then `items_iter`.
-fn run_fields(fields: &[Node], state: &mut State) -> Result<Vec<u32>, Refused> {
+/// Each field's `eval` on one state, then `items_iter`. Between two fields the state is looked at.
+fn run_fields(fields: &[Node], held: &mut Held, watch: &Watch) -> Result<Vec<u32>, Refused> {
     let mut words = Vec::new();
-    for field in fields {
-        field.eval(state).map_err(refused_with)?.words(&mut words);
+    for (k, field) in fields.iter().enumerate() {
+        watch.field_begins(&held.state);
+        let result = held.marked(marks::mark_of(k), |state| field.eval(state));
+        watch.field_ends(k, &held.state);
+        result.map_err(refused_with)?.words(&mut words);
     }
-    match state.items_iter().next() {
+    match held.state.items_iter().next() {
         Some((place, _)) => Err((Refusal::at(27, place), Vec::new())),
         None => Ok(words),
     }
@@ -643,13 +738,31 @@ pub fn run_inner(form: &Form, sheet: &Sheet) -> Whole {
     }
 }
 
-/// A state by itself, for single calls.
+/// A state, with the marks that say what used its places.
 #[derive(Clone)]
 pub struct Held {
     state: State,
+    numbers: Numbers,
 }
 
 impl Held {
+    fn after_split(state: State) -> Held {
+        let numbers = Numbers::split(&state);
+        Held { state, numbers }
+    }
+
+    /// What is done to the state, and the mark of what that uses.
+    fn marked<T>(&mut self, mark: u16, change: impl FnOnce(&mut State) -> T) -> T {
+        let told = change(&mut self.state);
+        self.numbers.look(&self.state, mark);
+        told
+    }
+
+    /// Other marks for the used places: bpaf does not know them, so whatever is done to the state goes on as before.
+    pub fn relabel(&mut self, mut mark: impl FnMut(u16) -> u16) {
+        self.numbers.0.iter_mut().filter(|number| **number != 0).for_each(|number| *number = mark(*number));
+    }
+
     /// The state and item records after splitting; 8 or 9 beside it.
     pub fn split(form: &Form, sheet: &Sheet) -> (Held, Vec<Record>, Option<Refusal>) {
         let builder = Builder::new(form, Wanted::default());
@@ -657,18 +770,18 @@ impl Held {
         let (state, refused) = construct(&sheet.arguments, &flags, &args);
         if refused.is_some_and(|r| r.number == 8) {
             let none = construct(&[], &flags, &args).0;
-            return (Held { state: none }, Vec::new(), refused);
+            return (Held::after_split(none), Vec::new(), refused);
         }
         let records = records(sheet, &state, &flags, &args);
-        (Held { state }, records, refused)
+        (Held::after_split(state), records, refused)
     }
 
     pub fn view(&self) -> View {
-        view(&self.state)
+        view(&self.state, &self.numbers)
     }
 
-    pub fn remove(&mut self, place: usize) {
-        self.state.remove(place);
+    pub fn remove(&mut self, place: usize, field: usize) {
+        self.marked(marks::mark_of(field), |state| state.remove(place));
     }
 
     /// Whether `get` gives the item at the place.
@@ -717,13 +830,14 @@ impl Held {
         Some(named(form, node).matches_arg(item, adjacent(form, node)))
     }
 
-    pub fn take_flag(&mut self, form: &Form, node: usize) -> bool {
-        self.state.take_flag(&named(form, node))
+    pub fn take_flag(&mut self, form: &Form, node: usize, field: usize) -> bool {
+        self.marked(marks::mark_of(field), |state| state.take_flag(&named(form, node)))
     }
 
     /// The place of the value, or nothing, or 22 at the key.
-    pub fn take_arg(&mut self, form: &Form, node: usize) -> Result<Option<usize>, Refusal> {
-        let taken = self.state.take_arg(&named(form, node), adjacent(form, node), Metavar("A"));
+    pub fn take_arg(&mut self, form: &Form, node: usize, field: usize) -> Result<Option<usize>, Refusal> {
+        let (names, adjacent) = (named(form, node), adjacent(form, node));
+        let taken = self.marked(marks::mark_of(field), |state| state.take_arg(&names, adjacent, Metavar("A")));
         match taken {
             Ok(value) => Ok(value.map(|v| {
                 let place = self.state.current.expect("a taken value has a place");
@@ -735,8 +849,8 @@ impl Held {
     }
 
     /// The place and whether it is a PosWord, or 20.
-    pub fn take_positional_word(&mut self) -> Result<(usize, bool), Refusal> {
-        match self.state.take_positional_word(Metavar("P")) {
+    pub fn take_positional_word(&mut self, field: usize) -> Result<(usize, bool), Refusal> {
+        match self.marked(marks::mark_of(field), |state| state.take_positional_word(Metavar("P"))) {
             Ok((place, strict, _)) => Ok((place, strict)),
             Err(Error(m)) => Err(refusal(&m)),
         }
@@ -744,13 +858,15 @@ impl Held {
 
     /// `word` is a name record of type 0 or 1.
     pub fn take_cmd(&mut self, form: &Form, record: usize) -> bool {
-        self.state.take_cmd(utf8(form, record))
+        self.marked(marks::COMMAND, |state| state.take_cmd(utf8(form, record)))
     }
 
-    /// One node's `eval` on this state: its words or its refusal, and the tries; and what is missing.
+    /// One node's `eval` on this state: its words or its refusal, and the tries; and what is missing. What it uses is used by
+    /// the field whose tree has the node.
     pub fn eval(&mut self, form: &Form, node: usize) -> (Answer, Vec<Entry>) {
         let builder = Builder::new(form, Wanted::default());
-        let result = builder.node(node).eval(&mut self.state).map_err(refused_with);
+        let mark = marks::mark_of(marks::field_of(form, node));
+        let result = self.marked(mark, |state| builder.node(node).eval(state)).map_err(refused_with);
         let words = |value: Value| {
             let mut words = Vec::new();
             value.words(&mut words);

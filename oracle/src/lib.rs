@@ -3,3 +3,4 @@ pub mod format;
 pub mod notation;
 pub mod cases;
 pub mod forged;
+pub mod marks;

@@ -1,7 +1,7 @@
 //! Lines with known answers, as tests of the oracle: those of the bench and its hex example first, then one for each
 //! doubtful word of the rules (docs/DECISIONS.md has the readings).
 
-use bpaf::doc::harness::{run_bytes, run_inner, Record, Run, Wanted, Whole};
+use bpaf::doc::harness::{run_bytes, run_inner, PutBack, Record, Run, Wanted, Whole};
 use line::{format::*, notation};
 
 /// Flags v, q; number argument w; letter b both.
@@ -78,6 +78,7 @@ pub fn all() -> Tests {
     doubtful_runs(&mut tests);
     doubtful_inputs(&mut tests);
     known_lists(&mut tests);
+    known_marks(&mut tests);
     run_inner_findings(&mut tests);
     tests
 }
@@ -91,7 +92,7 @@ fn split_lines(t: &mut Tests) {
     let dashes = run("many(operand)", &[b"--", b"-v"]);
     t.equal("`--` is used, one place remains", dashes.answer.words, vec![1, 1]);
     let unread = run("switch(-v)", &[b"--", b"-v"]);
-    t.equal("the state after `--` `-v`", (unread.state.marks, unread.state.remaining), (vec![1, 0], 1));
+    t.equal("the state after `--` `-v`", (unread.state.marks, unread.state.remaining), (vec![510, 0], 1));
     t.items(&[b"-x"], &["Short x \"-x\""]);
     t.items(&[b"-vx"], &["Word \"-vx\""]);
     t.items(&[b"-vq"], &["Short v \"-vq\"", "Short q \"\""]);
@@ -109,7 +110,7 @@ fn run_lines(t: &mut Tests) {
     t.answer("many(optional(flag(-v)))", &[], 0, None, 2, &[1, 0]);
     let choice = "choice(flag(-v), flag(-q))";
     t.answer(choice, &[b"-q", b"-v"], 27, Some(1), 2, &[]);
-    t.equal("the loser's mark", run(choice, &[b"-q", b"-v"]).state.marks, vec![1, 2]);
+    t.equal("the loser's mark", run(choice, &[b"-q", b"-v"]).state.marks, vec![512, 2]);
     t.answer("operand; guard(fallback(number(-w), 9), 1..5)", &[b"a"], 26, Some(0), 2, &[]);
     t.refused("number(-w)", &[b"-w", b"-7"], 22, Some(0));
     t.refused("number(-w)", &[b"-w=-7"], 25, Some(1));
@@ -169,7 +170,7 @@ fn doubtful_runs(t: &mut Tests) {
     t.equal("a fallback puts the word back", (ran.answer.number, ran.answer.place), (25, Some(0)));
     t.equal("its state", (ran.state.marks, ran.state.current), (vec![0], None));
     let ran = run("operand#", &[b"a"]);
-    t.equal("a refused word is used up", (ran.state.marks, ran.state.current), (vec![1], Some(0)));
+    t.equal("a refused word is used up", (ran.state.marks, ran.state.current), (vec![512], Some(0)));
     // one success that used nothing loses to 22, 23 and 24, and to nothing else
     t.refused("choice(switch(-v), choice(switch(-q), fallback(flag(-x), yes)))", &[], 0, None);
     t.refused("choice(fallback(operand, \"d\"), strict)", &[b"--", b"a"], 0, None);
@@ -302,6 +303,62 @@ fn known_lists(t: &mut Tests) {
         t.equal(&format!("{name}: a list comes with 20"), ran.answer.number == 20, !want.is_empty());
         t.equal(&format!("{name}: probed facts"), ran.broken, Vec::new());
     }
+}
+
+/// A form, a line, the marks that its run leaves, and the places that a field put back: field and place.
+pub type Marked = (Form, Sheet, Vec<u16>, Vec<[usize; 2]>);
+
+/// Lines whose marks are known: which field used what.
+pub fn marks() -> Vec<Marked> {
+    type Written<'a> = (&'a str, &'a [&'a [u8]], &'a [u16], &'a [[usize; 2]]);
+    let sixteen: Vec<String> = ('a'..='p').map(|c| format!("switch(-{c})")).collect();
+    let sixteen = sixteen.join("; ");
+    let lines: [Written; 20] = [
+        // each field has its number, wherever it stands on the line
+        ("switch(-v); switch(-q)", &[b"-q", b"-v"], &[513, 512], &[]),
+        ("switch(-v); optional(number(-w)); many(operand)", &[b"-vw7", b"lock"], &[512, 513, 513, 514], &[]),
+        (&sixteen, &[b"-po", b"-a"], &[527, 526, 512], &[]),
+        // the opening `--`, and another behind it
+        ("switch(-v); many(operand)", &[b"-v", b"a", b"--", b"b", b"--"], &[512, 513, 510, 513, 513], &[]),
+        ("switch(-v)", &[b"--", b"-v"], &[510, 0], &[]),
+        // the loser of a choice is in conflict, until a later field takes it
+        ("switch(-x); choice(flag(-v), flag(-q))", &[b"-q", b"-v", b"-x"], &[513, 2, 512], &[[1, 1]]),
+        ("choice(flag(-v), flag(-q)); switch(-v)", &[b"-q", b"-v"], &[512, 513], &[[0, 1]]),
+        ("choice(text(-w), operand); many(operand)", &[b"a", b"-w", b"b"], &[512, 2, 513], &[[0, 1], [0, 2]]),
+        ("operand; choice(flag(-v), flag(-q)); operand", &[b"-v", b"a", b"-q", b"b"], &[513, 512, 2, 514], &[[1, 2]]),
+        // what is put back is the next field's, or nobody's
+        ("optional!(operand#); operand", &[b"a"], &[513], &[[0, 0]]),
+        ("fallback(non-strict, \"d\"); operand", &[b"--", b"a"], &[510, 513], &[[0, 1]]),
+        ("many!(operand#); many(operand)", &[b"1", b"a", b"2"], &[512, 513, 513], &[[0, 1]]),
+        ("some!(guard(number(-w), 1..5)); many(text(-w))", &[b"-w1", b"-w9"], &[512, 512, 513, 513], &[[0, 2], [0, 3]]),
+        ("optional(non-strict)", &[b"--", b"a"], &[510, 0], &[[0, 1]]),
+        ("choice(strict, text(-l))", &[b"a"], &[0], &[[0, 0]]),
+        ("switch(-v); fallback(operand#, 9)", &[b"a", b"-v"], &[0, 512], &[[1, 0]]),
+        // a refused field keeps what it took
+        ("switch(-v); operand#", &[b"-v", b"a"], &[512, 513], &[]),
+        ("operand; guard(number(-w), 1..5)", &[b"a", b"-w", b"9"], &[512, 513, 513], &[]),
+        ("operand; optional(text(-w))", &[b"-w", b"7"], &[0, 512], &[]),
+        // refused by the split: nothing is used
+        ("switch(-v); switch(-b); optional(text(-b))", &[b"-vb", b"--"], &[0, 0], &[]),
+    ];
+    let form = |text: &str| notation::parse(text).expect("a form of the tests");
+    let sheet = |arguments: &[&[u8]]| Sheet { arguments: arguments.iter().map(|a| a.to_vec()).collect() };
+    lines.iter().map(|(text, line, marks, back)| (form(text), sheet(line), marks.to_vec(), back.to_vec())).collect()
+}
+
+fn known_marks(t: &mut Tests) {
+    for (form, sheet, marks, back) in marks() {
+        let ran = run_bytes(&form.write(), &sheet.write(), Wanted { probe: true, put_back: true, ..Wanted::default() });
+        let name = notation::show(&form);
+        t.equal(&format!("{name}: marks"), ran.state.marks, marks);
+        t.equal(&format!("{name}: what is put back"), places(&ran.put_back), back);
+        t.equal(&format!("{name}: probed facts"), ran.broken, Vec::new());
+    }
+}
+
+/// What was put back, as field and place.
+pub fn places(put_back: &[PutBack]) -> Vec<[usize; 2]> {
+    put_back.iter().map(|p| [p.field, p.place]).collect()
 }
 
 /// Why a run is compared with `construct`, `eval` and `items_iter`, and never with `run_inner`.

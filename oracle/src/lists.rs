@@ -4,9 +4,13 @@ use line::{cases, cases::Rng, format::*};
 
 use crate::list_form::{self, Case};
 #[cfg(live)]
+use crate::compare::{call_of, state_of};
+#[cfg(live)]
 use crate::script::Script;
 #[cfg(live)]
 use bpaf::doc::harness::{run_bytes, Held, View, Wanted};
+#[cfg(live)]
+use line::forged::{self, Lent, ITEM_WORDS};
 
 /// Forms and sheets of a list stay short, so that a list is a page and not a book.
 pub const LONGEST: usize = 220;
@@ -106,7 +110,8 @@ fn check_case(rng: &mut Rng) -> Case {
 #[cfg(live)]
 fn state(view: &View) -> Vec<u32> {
     let [remaining, start, end] = [view.remaining, view.scope.start, view.scope.end].map(|n| n as u32);
-    [&[view.marks.len() as u32, remaining, code(view.current), start, end], &view.marks[..]].concat()
+    let marks: Vec<u32> = view.marks.iter().map(|m| u32::from(*m)).collect();
+    [&[view.marks.len() as u32, remaining, code(view.current), start, end], &marks[..]].concat()
 }
 
 /// The answer and the item records after splitting.
@@ -189,20 +194,73 @@ fn calls_case(rng: &mut Rng) -> Case {
         if call.starts_with("keep") || call.starts_with("load") {
             continue;
         }
-        let given = state(&script.view());
         let second = script.second_state(&call).map(|v| state(&v));
-        let said = script.call(&call).expect("a random call is allowed");
         let words: Vec<&str> = call.split(' ').collect();
         let numbers: Vec<u32> = words[1..].iter().map(|w| w.parse().expect("a number")).collect();
-        let told = &numbers[usize::from(second.is_some())..];
-        let (answer, written) = match words[0] {
-            "get" => got(told[0] as usize, &said, &records),
-            "eval" => evaluated(&said),
-            name => (answer(name, &said), Vec::new()),
-        };
-        let made = Case::new(words[0], told, &case.form, &case.sheet);
-        let (answer, second) = ([answer, state(&script.view())].concat(), second.unwrap_or_default());
-        return Case { given, second, answer, written: list_form::bytes(&written), ..made };
+        let kept = usize::from(second.is_some());
+        let mut made = Case::new(words[0], &numbers[kept..], &case.form, &case.sheet);
+        (made.given, made.second) = (state(&script.view()), second.unwrap_or_default());
+        forge(rng, &mut made);
+        if let Some(r) = refused(&made, &records) {
+            made.answer = [&[r.number, code(r.place), 0, 0, 0, 0, 0], &made.given[..]].concat();
+            return made;
+        }
+        let told = [&numbers[..kept], &made.head[1..]].concat();
+        let told: String = told.iter().map(|n| format!(" {n}")).collect();
+        let said = script.call(&format!("{}{told}", words[0])).expect("a call that is not refused is allowed");
+        return answered(made, &said, &records, &script.view());
+    }
+}
+
+/// The case with what the script said to its call, and the state that this left.
+#[cfg(live)]
+fn answered(made: Case, said: &str, records: &[[u32; 7]], left: &View) -> Case {
+    let (numbers, written) = match made.call() {
+        "get" if said == "yes" => (vec![0; 7], records[made.told(1) as usize].to_vec()),
+        "get" => (vec![0; 7], Vec::new()),
+        "eval" => evaluated(said),
+        name => (answer(name, said), Vec::new()),
+    };
+    let answer = [numbers, state(left)].concat();
+    Case { answer, written: list_form::bytes(&written), ..made }
+}
+
+/// One case in six is told another field, or is given a state with a mark that refusal 29 does not let through.
+#[cfg(live)]
+fn forge(rng: &mut Rng, made: &mut Case) {
+    let name = made.call();
+    let fields = Form::check(&made.form).expect("a well-made form").fields.len();
+    let field = match name {
+        "remove" | "take_flag" | "take_arg" => Some(2),
+        "take_positional_word" => Some(1),
+        _ => None,
+    };
+    match (rng.below(12), field) {
+        (0 | 1, Some(at)) => {
+            let edges = [fields - 1, fields, fields + 1, 15, 16, 17, (1 << 16) - 512, u32::MAX as usize];
+            made.head[at] = *rng.pick(&edges) as u32;
+        }
+        // a refused `eval` leaves its slice as it was, which is more than a list can hold
+        (2, _) if name != "eval" && name != "only_once" => {
+            let count = made.given[0];
+            let mark = 5 + rng.below(count as usize + 1).min(255);
+            made.given.resize(made.given.len().max(mark + 1), 0);
+            made.given[mark] = *rng.pick(&[1, 2 + count, 258, 509, 528, u32::from(u16::MAX)]);
+        }
+        _ => {}
+    }
+}
+
+/// The refusal of a case's call for what it is given, by the second reading.
+#[cfg(live)]
+fn refused(made: &Case, records: &[[u32; 7]]) -> Option<Refusal> {
+    let mut items = records.concat();
+    items.resize(ITEM_WORDS, 0);
+    let state = state_of(&made.given);
+    let lent = Lent { form: &made.form, sheet: &made.sheet, items: &items, state: &state };
+    match made.call() {
+        "eval" => None,
+        name => forged::refusal(&lent, &call_of(name, made)),
     }
 }
 
@@ -225,14 +283,6 @@ fn answer(call: &str, said: &str) -> Vec<u32> {
         (_, [v, w]) => vec![0, 0, 0, 0, 1, number(v), number(w)],
         _ => panic!("no such answer: {said}"),
     }
-}
-
-/// `get`: 28 for a place that is none of the items, and the record if it gives the item.
-#[cfg(live)]
-fn got(place: usize, said: &str, records: &[[u32; 7]]) -> (Vec<u32>, Vec<u32>) {
-    let number = if place < records.len() { 0 } else { 28 };
-    let record = if said == "yes" { records[place].to_vec() } else { Vec::new() };
-    (vec![number, 0, 0, 0, 0, 0, 0], record)
 }
 
 /// `eval`: number, place, tries and words, as the script writes them; what is missing is in no fixed list.

@@ -156,7 +156,7 @@ extern "C" {
         m: usize,
         word: u32,
     ) -> TextPart;
-    fn silverpoise_remove(state: State, place: usize) -> StateAnswer;
+    fn silverpoise_remove(state: State, place: usize, field: usize) -> StateAnswer;
     fn silverpoise_pick_winner(state: State, other: State) -> Answer;
     fn silverpoise_save_conflicts(state: State, loser: State, winner: usize) -> StateAnswer;
     fn silverpoise_set_scope(state: State, from: usize, to: usize) -> StateAnswer;
@@ -170,6 +170,7 @@ extern "C" {
         items: *const u32,
         m: usize,
         state: State,
+        field: usize,
     ) -> StateAnswer;
     fn silverpoise_only_once(sheet: *const u8, n: usize, items: *const u32, m: usize, place: usize) -> Answer;
     fn silverpoise_matches_arg(
@@ -192,6 +193,7 @@ extern "C" {
         m: usize,
         state: State,
         node: usize,
+        field: usize,
     ) -> StateAnswer;
     fn silverpoise_take_arg(
         form: *const u8,
@@ -202,6 +204,7 @@ extern "C" {
         m: usize,
         state: State,
         node: usize,
+        field: usize,
     ) -> StateAnswer;
     fn silverpoise_take_cmd(
         form: *const u8,
@@ -213,7 +216,7 @@ extern "C" {
         state: State,
         record: usize,
     ) -> StateAnswer;
-    fn silverpoise_remove_in_place(state: *mut State, place: usize) -> Answer;
+    fn silverpoise_remove_in_place(state: *mut State, place: usize, field: usize) -> Answer;
     fn silverpoise_take_flag_in_place(
         state: *mut State,
         form: *const u8,
@@ -223,6 +226,7 @@ extern "C" {
         items: *const u32,
         m: usize,
         node: usize,
+        field: usize,
     ) -> Answer;
     fn silverpoise_find(
         form: *const u8,
@@ -291,8 +295,8 @@ pub fn text(lent: &Lent, word: u32) -> TextPart {
     unsafe { silverpoise_text(f.as_ptr(), f.len(), s.as_ptr(), s.len(), i.as_ptr(), i.len(), word) }
 }
 
-pub fn remove(state: State, place: usize) -> StateAnswer {
-    unsafe { silverpoise_remove(state, place) }
+pub fn remove(state: State, place: usize, field: usize) -> StateAnswer {
+    unsafe { silverpoise_remove(state, place, field) }
 }
 
 pub fn pick_winner(state: State, other: State) -> Answer {
@@ -325,9 +329,9 @@ pub fn conflict(lent: &Lent) -> Answer {
     unsafe { silverpoise_conflict(s.as_ptr(), s.len(), i.as_ptr(), i.len(), *lent.state) }
 }
 
-pub fn take_positional_word(lent: &Lent) -> StateAnswer {
+pub fn take_positional_word(lent: &Lent, field: usize) -> StateAnswer {
     let (s, i) = (lent.sheet, lent.items);
-    unsafe { silverpoise_take_positional_word(s.as_ptr(), s.len(), i.as_ptr(), i.len(), *lent.state) }
+    unsafe { silverpoise_take_positional_word(s.as_ptr(), s.len(), i.as_ptr(), i.len(), *lent.state, field) }
 }
 
 pub fn only_once(lent: &Lent, place: usize) -> Answer {
@@ -341,14 +345,16 @@ pub fn matches_arg(lent: &Lent, node: usize, place: usize) -> Answer {
     unsafe { silverpoise_matches_arg(f.as_ptr(), f.len(), s.as_ptr(), s.len(), i.as_ptr(), i.len(), state, node, place) }
 }
 
-pub fn take_flag(lent: &Lent, node: usize) -> StateAnswer {
+pub fn take_flag(lent: &Lent, node: usize, field: usize) -> StateAnswer {
     let (f, s, i) = (lent.form, lent.sheet, lent.items);
-    unsafe { silverpoise_take_flag(f.as_ptr(), f.len(), s.as_ptr(), s.len(), i.as_ptr(), i.len(), *lent.state, node) }
+    let state = *lent.state;
+    unsafe { silverpoise_take_flag(f.as_ptr(), f.len(), s.as_ptr(), s.len(), i.as_ptr(), i.len(), state, node, field) }
 }
 
-pub fn take_arg(lent: &Lent, node: usize) -> StateAnswer {
+pub fn take_arg(lent: &Lent, node: usize, field: usize) -> StateAnswer {
     let (f, s, i) = (lent.form, lent.sheet, lent.items);
-    unsafe { silverpoise_take_arg(f.as_ptr(), f.len(), s.as_ptr(), s.len(), i.as_ptr(), i.len(), *lent.state, node) }
+    let state = *lent.state;
+    unsafe { silverpoise_take_arg(f.as_ptr(), f.len(), s.as_ptr(), s.len(), i.as_ptr(), i.len(), state, node, field) }
 }
 
 pub fn take_cmd(lent: &Lent, record: usize) -> StateAnswer {
@@ -356,14 +362,16 @@ pub fn take_cmd(lent: &Lent, record: usize) -> StateAnswer {
     unsafe { silverpoise_take_cmd(f.as_ptr(), f.len(), s.as_ptr(), s.len(), i.as_ptr(), i.len(), *lent.state, record) }
 }
 
-pub fn remove_in_place(state: &mut State, place: usize) -> Answer {
-    unsafe { silverpoise_remove_in_place(state, place) }
+pub fn remove_in_place(state: &mut State, place: usize, field: usize) -> Answer {
+    unsafe { silverpoise_remove_in_place(state, place, field) }
 }
 
 /// On `state`, not on the one that is lent beside the rest.
-pub fn take_flag_in_place(state: &mut State, lent: &Lent, node: usize) -> Answer {
+pub fn take_flag_in_place(state: &mut State, lent: &Lent, node: usize, field: usize) -> Answer {
     let (f, s, i) = (lent.form, lent.sheet, lent.items);
-    unsafe { silverpoise_take_flag_in_place(state, f.as_ptr(), f.len(), s.as_ptr(), s.len(), i.as_ptr(), i.len(), node) }
+    unsafe {
+        silverpoise_take_flag_in_place(state, f.as_ptr(), f.len(), s.as_ptr(), s.len(), i.as_ptr(), i.len(), node, field)
+    }
 }
 
 /// Over `items`, not over those that are lent as words.

@@ -1,7 +1,7 @@
 //! Scripts of single calls on a state: every method of the real `State` that the port has, by name.
 
 use bpaf::doc::harness::{self, Held, View};
-use line::{cases::Rng, format::*};
+use line::{cases::Rng, format::*, marks::fields_of};
 
 /// A place for "none" in an answer.
 pub fn or_dash<T: ToString>(value: Option<T>) -> String {
@@ -9,7 +9,7 @@ pub fn or_dash<T: ToString>(value: Option<T>) -> String {
 }
 
 pub fn show_state(view: &View) -> String {
-    let marks: Vec<String> = view.marks.iter().map(u32::to_string).collect();
+    let marks: Vec<String> = view.marks.iter().map(u16::to_string).collect();
     format!(
         "count {} remaining {} current {} scope {} {} marks{}{}",
         view.marks.len(),
@@ -60,6 +60,11 @@ impl Script {
         good.then_some(k).ok_or(format!("no such node of that kind: {k}"))
     }
 
+    /// A field of the form, or of any form for the calls that have none.
+    fn field(&self, k: usize, form: Option<&Form>) -> Result<usize, String> {
+        (k < fields_of(form)).then_some(k).ok_or(format!("no such field: {k}"))
+    }
+
     /// One call, as `NAME NUMBER..`, and what it answers.
     pub fn call(&mut self, words: &str) -> Result<String, String> {
         let mut parts = words.split_whitespace();
@@ -83,8 +88,8 @@ impl Script {
 
     fn on_state(&mut self, name: &str, numbers: &[usize]) -> Result<String, String> {
         Ok(match (name, numbers) {
-            ("remove", [place]) => {
-                self.state.remove(*place);
+            ("remove", [place, field]) => {
+                self.state.remove(*place, self.field(*field, None)?);
                 "done".to_string()
             }
             ("get", [place]) => yes_no(self.state.get(*place)),
@@ -120,17 +125,18 @@ impl Script {
 
     fn take(&mut self, name: &str, numbers: &[usize]) -> Result<String, String> {
         Ok(match (name, numbers) {
-            ("take_flag", [node]) => {
-                let node = self.node(*node, &[FLAG])?;
-                yes_no(self.state.take_flag(&self.form, node))
+            ("take_flag", [node, field]) => {
+                let (node, field) = (self.node(*node, &[FLAG])?, self.field(*field, Some(&self.form))?);
+                yes_no(self.state.take_flag(&self.form, node, field))
             }
-            ("take_arg", [node]) => {
-                let node = self.node(*node, &[ARGUMENT])?;
-                self.state.take_arg(&self.form, node).map_or_else(show_refusal, or_dash)
+            ("take_arg", [node, field]) => {
+                let (node, field) = (self.node(*node, &[ARGUMENT])?, self.field(*field, Some(&self.form))?);
+                self.state.take_arg(&self.form, node, field).map_or_else(show_refusal, or_dash)
             }
-            ("take_positional_word", []) => {
+            ("take_positional_word", [field]) => {
+                let field = self.field(*field, None)?;
                 let shown = |(place, strict): (usize, bool)| format!("{place} {}", yes_no(strict));
-                self.state.take_positional_word().map_or_else(show_refusal, shown)
+                self.state.take_positional_word(field).map_or_else(show_refusal, shown)
             }
             ("take_cmd", [record]) => {
                 let good = self.form.names.get(*record).is_some_and(|n| n.ty <= LONG);
@@ -146,7 +152,8 @@ impl Script {
         })
     }
 
-    /// A random call that the form and state allow.
+    /// A random call that the form and state allow. It is told a field of the form, so that the calls with a form allow the state
+    /// that it leaves.
     pub fn random_call(&self, rng: &mut Rng) -> String {
         let view = self.view();
         let count = view.marks.len();
@@ -154,8 +161,9 @@ impl Script {
         let node = rng.below(self.form.nodes.len());
         let kept = rng.below(self.kept.len());
         let kind = self.form.nodes[node].kind;
+        let field = rng.below(self.form.fields.len());
         match rng.below(20) {
-            0 | 1 if place < count => format!("remove {place}"),
+            0 | 1 if place < count => format!("remove {place} {field}"),
             2 => format!("get {place}"),
             3 => "conflict".to_string(),
             4 => format!("pick_winner {kept}"),
@@ -168,10 +176,10 @@ impl Script {
             12 if !self.form.names.is_empty() => self.random_command(rng),
             13 => "keep".to_string(),
             14 => format!("load {kept}"),
-            15 => "take_positional_word".to_string(),
+            15 => format!("take_positional_word {field}"),
             _ => match kind {
-                FLAG => format!("take_flag {node}"),
-                ARGUMENT => format!("take_arg {node}"),
+                FLAG => format!("take_flag {node} {field}"),
+                ARGUMENT => format!("take_arg {node} {field}"),
                 _ => format!("eval {node}"),
             },
         }

@@ -12,7 +12,7 @@ use std::process::ExitCode;
 use bpaf::doc::harness::{self, Wanted};
 use line::cases::{self, Case, Rng};
 use line::format::{self, Base, Kind};
-use silverpoise::{Item, ItemKind, Mark, Missing, Names, Node, ReadError, Reader, Takes, Value};
+use silverpoise::{Item, ItemKind, Mark, Missing, Names, Node, ReadError, Reader, Takes, UsedBy, Value};
 
 /// What is compared of one read.
 #[derive(Debug, PartialEq)]
@@ -109,7 +109,7 @@ impl Compared {
         self.must(same_count, case, || format!("{} items", items.len()));
         let area: Vec<u8> = args.iter().flat_map(|arg| arg.as_bytes()).copied().collect();
         for (place, (item, record)) in items.iter().zip(&theirs.records).enumerate() {
-            let same = same_item(item, record, &area) && mark(item.mark) == theirs.state.marks[place];
+            let same = same_item(item, record, &area) && mark(item.mark) == usize::from(theirs.state.marks[place]);
             self.must(same, case, || format!("item {place}: {item:?}, expected {record:?}"));
             let part = &args[item.argument].as_bytes()[item.part.clone()];
             self.must(stands_for(item, part), case, || format!("part of item {place}: {item:?}"));
@@ -130,11 +130,14 @@ impl Compared {
     }
 }
 
-fn mark(mark: Mark) -> u32 {
+/// A mark by its number: who used an item counts too.
+fn mark(mark: Mark) -> usize {
     match mark {
         Mark::Unused => 0,
-        Mark::Used => 1,
-        Mark::Conflict(winner) => 2 + winner as u32,
+        Mark::Conflict(winner) => 2 + winner,
+        Mark::Used(UsedBy::Marker) => 510,
+        Mark::Used(UsedBy::Command) => 511,
+        Mark::Used(UsedBy::Field(field)) => 512 + field,
     }
 }
 
@@ -332,7 +335,11 @@ fn main() -> ExitCode {
     let (mut compared, mut reader, mut rng) = (Compared::default(), Reader::new(), Rng::new(seed));
     cases::limits().iter().for_each(|case| compared.case(&mut reader, case));
     while compared.lines < count {
-        let case = if rng.below(8) == 0 { cases::damaged(&mut rng) } else { cases::well_made(&mut rng) };
+        let case = match rng.below(8) {
+            0 => cases::damaged(&mut rng),
+            1 => cases::contested(&mut rng),
+            _ => cases::well_made(&mut rng),
+        };
         compared.case(&mut reader, &case);
     }
     let c = &compared;

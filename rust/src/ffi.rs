@@ -137,7 +137,7 @@ mod tests {
         assert_eq!((ran.number, ran.place, ran.tries, ran.words, answers[0]), (0, 0, 3, 1, 2));
         let s = ran.state;
         assert_eq!((s.count, s.remaining, s.current, s.start, s.end), (2, 0, 2, 0, 2));
-        assert_eq!((s.marks[..3].to_vec(), items[..7].to_vec()), (vec![1, 1, 0], vec![1, 0, 118, 0, 0, 0, 3]));
+        assert_eq!((s.marks[..3].to_vec(), items[..7].to_vec()), (vec![512, 512, 0], vec![1, 0, 118, 0, 0, 0, 3]));
         assert!(items[14..].iter().chain(&answers[1..]).chain(&list).all(|word| *word == 0));
     }
 

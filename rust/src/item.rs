@@ -18,7 +18,7 @@ pub struct Item<'a> {
     pub argument: usize,
     /// the bytes of that argument that the item stands for: a letter of a cluster, a name, a word
     pub part: Range<usize>,
-    /// whether the item was used
+    /// whether the item was used, and by which field
     pub mark: Mark,
 }
 
@@ -37,23 +37,66 @@ pub enum ItemKind<'a> {
     PosWord,
 }
 
-/// Whether an item was used.
+/// Whether an item was used, and by whom.
+///
+/// ```
+/// use silverpoise::{positional, short, Mark, Text, TypedForm, UsedBy};
+///
+/// let form = TypedForm::of((short('l').argument::<u32>().optional(), positional::<Text>().many()))?;
+/// let line = form.read_line(&["-l7", "lock", "--", "-x"])?;
+/// let marks: Vec<Mark> = line.items().iter().map(|item| item.mark).collect();
+/// assert_eq!(marks[3], Mark::Used(UsedBy::Marker));
+///
+/// // who took what, by names of your own
+/// let fields = ["limit", "parts"];
+/// let names: Vec<&str> = marks.iter().map(|mark| mark.field().map_or("-", |field| fields[field])).collect();
+/// assert_eq!(names, ["limit", "limit", "parts", "-", "parts"]);
+/// # Ok::<(), Box<dyn std::error::Error>>(())
+/// ```
 #[derive(Clone, Copy, Debug, PartialEq, Eq)]
 pub enum Mark {
     /// it was not used
     Unused,
-    /// a field used it; the first `--` is used from the start
-    Used,
+    /// it was used
+    Used(UsedBy),
     /// a choice was decided against this item by the item at that place; it is not used
     Conflict(usize),
 }
 
+/// Who used an item.
+#[derive(Clone, Copy, Debug, PartialEq, Eq)]
+pub enum UsedBy {
+    /// the field of this number, counted from 0 in the order of the form
+    Field(usize),
+    /// nobody: it is the first `--`, which is used from the start
+    Marker,
+    /// it is a command word, taken by the call `take_cmd` (docs/FORMAT.md, section 10); no read of a form takes one
+    Command,
+}
+
 impl Mark {
+    /// A mark by its number (docs/FORMAT.md, section 5). Numbers that no call writes are read as the rules define them.
     pub(crate) fn of(mark: u16) -> Mark {
+        let mark = usize::from(mark);
         match mark {
-            0 => Mark::Unused,
-            1 => Mark::Used,
-            winner => Mark::Conflict(winner as usize - 2),
+            0 | 1 => Mark::Unused,
+            2..=509 => Mark::Conflict(mark - 2),
+            510 => Mark::Used(UsedBy::Marker),
+            511 => Mark::Used(UsedBy::Command),
+            _ => Mark::Used(UsedBy::Field(mark - 512)),
+        }
+    }
+
+    /// Whether the item was used, by whomever.
+    pub fn is_used(self) -> bool {
+        matches!(self, Mark::Used(_))
+    }
+
+    /// The number of the field that used the item, counted from 0; none where no field did.
+    pub fn field(self) -> Option<usize> {
+        match self {
+            Mark::Used(UsedBy::Field(field)) => Some(field),
+            _ => None,
         }
     }
 }
@@ -132,6 +175,24 @@ impl<'a> Area<'_, 'a> {
                     from..end
                 }
             }
+        }
+    }
+}
+
+#[cfg(test)]
+mod tests {
+    use super::*;
+
+    /// Every number is a mark, also those that no call writes; used is what is 510 or more.
+    #[test]
+    fn marks_by_their_numbers() {
+        assert_eq!((Mark::of(0), Mark::of(1)), (Mark::Unused, Mark::Unused));
+        assert_eq!((Mark::of(2), Mark::of(257), Mark::of(509)), (Mark::Conflict(0), Mark::Conflict(255), Mark::Conflict(507)));
+        assert_eq!((Mark::of(510), Mark::of(511)), (Mark::Used(UsedBy::Marker), Mark::Used(UsedBy::Command)));
+        assert_eq!((Mark::of(512), Mark::of(527)), (Mark::Used(UsedBy::Field(0)), Mark::Used(UsedBy::Field(15))));
+        assert_eq!(Mark::of(u16::MAX).field(), Some(usize::from(u16::MAX) - 512));
+        for mark in 0..=u16::MAX {
+            assert_eq!((Mark::of(mark).is_used(), Mark::of(mark).field().is_some()), (mark >= 510, mark >= 512), "{mark}");
         }
     }
 }

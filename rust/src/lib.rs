@@ -33,8 +33,8 @@
 //! - **Types**: [`TypedForm`] over [`Parser`]s; wrong combinations do not compile, and what types cannot say is a
 //!   [`FormError`]. [`TypedForm::with_help`] adds `-h` and `-V`.
 //! - **Without types**: [`Form`] over [`Node`]s, for options that are known only at run time; its values are [`Value`]s.
-//! - **What was read**: [`TypedForm::read_line`] and [`ReadError`] have the items, which of them were used, and the tries;
-//!   [`ReadError::missing`] what looked in vain.
+//! - **What was read**: [`TypedForm::read_line`] and [`ReadError`] have the items, which field used each of them ([`Mark`]), and
+//!   the tries; [`ReadError::missing`] what looked in vain.
 //! - **Many lines**: a [`Reader`] keeps the buffers.
 //!
 //! What each parser does, and the numbers of the refusals, are in the project's docs/FORMAT.md.
@@ -92,7 +92,7 @@ mod help;
 pub use form::Form;
 pub use form_error::FormError;
 pub use help::{Answer, HelpForm};
-pub use item::{Item, ItemKind, Mark};
+pub use item::{Item, ItemKind, Mark, UsedBy};
 pub use line::Line;
 pub use missing::Missing;
 pub use names::{long, short, Names};

@@ -26,7 +26,7 @@ impl<'a, V> Line<'a, V> {
         self.values
     }
 
-    /// The items of the line, each with whether it was used.
+    /// The items of the line, each with whether it was used, and by which field.
     pub fn items(&self) -> &[Item<'a>] {
         &self.items
     }

@@ -89,8 +89,8 @@ impl ReadError {
         &self.0.missing
     }
 
-    /// The items of the line, each with whether it was used. None where the line could not be split (5 to 8); for 9 those up
-    /// to the place.
+    /// The items of the line, each with whether it was used, and by which field, up to the refusal. None where the line could
+    /// not be split (5 to 8); for 9 those up to the place.
     pub fn items(&self) -> Vec<Item<'_>> {
         let args: Vec<&OsStr> = self.0.args.iter().map(OsString::as_os_str).collect();
         let starts: Vec<usize> = starts(&args).collect();

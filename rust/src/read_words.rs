@@ -119,8 +119,12 @@ fn with_equals(key: &Item, value: &Item) -> Option<String> {
 
 fn left_over(run: &Run, items: &[Item], item: &Item) -> String {
     let shown = name(item);
-    if let Mark::Conflict(winner) = item.mark {
-        return format!("{shown} cannot be given together with {}", name(&items[winner]));
+    let winner = match item.mark {
+        Mark::Conflict(place) => items.get(place),
+        _ => None,
+    };
+    if let Some(winner) = winner {
+        return format!("{shown} cannot be given together with {}", name(winner));
     }
     match item.kind {
         _ if unknown(run, item) => not_known(item),

@@ -111,7 +111,8 @@ impl<K: Kinds> TypedForm<K> {
         Reader::new().read(self, args)
     }
 
-    /// Reads a line, and keeps its items, which of them were used, and the count of tries.
+    /// Reads a line, and keeps its items, which field used each of them, and the count of tries. The number of a field is its
+    /// place in the tuple.
     pub fn read_line<'a, A: AsRef<OsStr>>(&'a self, args: &'a [A]) -> Result<Line<'a, K::Values<'a>>, ReadError> {
         let mut reader = Reader::new();
         let run = reader.run(&self.form, args)?;

@@ -39,13 +39,13 @@ fn shows(form: &str, line: &[&str], status: i32, expected: &str) {
 fn a_line_of_the_workshop() {
     let expected = r#"
 line  -l7 -13 lock chain bolt
-   0   ^                       Short, adjacent  used
-   1    ^                      Word             used
-   2       ^                   Short            used
-   3        ^                  Short            used
-   4          ^^^^             Word             used
-   5               ^^^^^       Word             used
-   6                     ^^^^  Word             used
+   0   ^                       Short, adjacent  used by limit
+   1    ^                      Word             used by limit
+   2       ^                   Short            used by cradle-1
+   3        ^                  Short            used by cradle-3
+   4          ^^^^             Word             used by label
+   5               ^^^^^       Word             used by parts
+   6                     ^^^^  Word             used by parts
 
 values in 11 tries
   limit     7
@@ -65,8 +65,8 @@ values in 11 tries
 fn an_unknown_letter_in_a_cluster() {
     let expected = r#"
 line  -vx lock
-   0  ^^^       Word  used
-   1      ^^^^  Word  used
+   0  ^^^       Word  used by parts
+   1      ^^^^  Word  used by parts
 
 values in 6 tries
   verbose  no
@@ -90,7 +90,7 @@ note: `verbose` is 1 although `-v` is not given: a switch always has a value; `f
     shows("count.form", &[], 0, expected);
     let given = "
 line  -v
-   0  ^^  Short  used
+   0  ^^  Short  used by verbose
 
 values in 2 tries
   verbose  1
@@ -102,8 +102,8 @@ values in 2 tries
 fn a_word_used_up_by_a_refusal() {
     let expected = "
 line  -v lock
-   0  ^^       Short  used
-   1     ^^^^  Word   used
+   0  ^^       Short  used by verbose
+   1     ^^^^  Word   used by part
 
 refused with 23 at place 1 in 2 tries
   `lock` must stand behind `--`
@@ -118,9 +118,9 @@ note: place 1 stays used: a word is not given back when it is refused
 fn a_positional_that_takes_the_rest_of_a_cluster() {
     let expected = "
 line  -vw7
-   0   ^    Short            used
+   0   ^    Short            used by verbose
    1    ^   Short, adjacent  not used
-   2     ^  Word             used
+   2     ^  Word             used by label
 
 refused with 22 at place 1 in 3 tries
   `-w` needs a value, and `7` behind it is taken already
@@ -135,7 +135,7 @@ note: a positional took `7`, the rest of `-vw7`, before `-w` looked for its valu
 fn a_value_for_a_flag() {
     let expected = "
 line  -v=7
-   0  ^^    Short, adjacent  used
+   0  ^^    Short, adjacent  used by verbose
    1     ^  ArgWord          not used
 
 refused with 27 at place 1 in 4 tries
@@ -151,7 +151,7 @@ refused with 27 at place 1 in 4 tries
 fn something_missing() {
     let expected = "
 line  -1
-   0  ^^  Short  used
+   0  ^^  Short  used by cradle-1
 
 refused with 20 in 8 tries
   an operand is required, and was not found
@@ -160,7 +160,7 @@ refused with 20 in 8 tries
     let form = b"verbose: switch -v\nstand: (text -s --stand or text), last\n";
     let printed = command(&["-", "-v"], form);
     let expected = "line  -v
-   0  ^^  Short  used
+   0  ^^  Short  used by verbose
 
 refused with 20 in 5 tries
   `-s` or `--stand`, or an operand is required, and was not found
@@ -185,16 +185,59 @@ refused with 20 in 8 tries
     shows("wear.form", &["--limt=7"], 1, expected);
 }
 
+/// A word that one field took and gave back is used by the next; the first `--` is used by none, the second by a field.
+#[test]
+fn each_row_names_its_field() {
+    let form = b"limits: number, many, catch\nswitch: switch -s\nparts: text, many\n";
+    let Output { status, stdout, stderr } = command(&["-", "1", "2", "lock", "-s", "--", "--"], form);
+    let expected = r#"line  1 2 lock -s -- --
+   0  ^                  Word     used by limits
+   1    ^                Word     used by limits
+   2      ^^^^           Word     used by parts
+   3           ^^        Short    used by switch
+   4              ^^     PosWord  ends the options
+   5                 ^^  PosWord  used by parts
+
+values in 7 tries
+  limits  [1, 2]
+  switch  yes
+  parts   ["lock", "--"]
+"#;
+    assert_eq!(String::from_utf8_lossy(&stdout), expected);
+    assert_eq!((status.code(), stderr), (Some(0), Vec::new()));
+}
+
+/// The field that won a choice, the option that lost it, and an option that is left over, under one refusal.
+#[test]
+fn a_conflict_and_its_winner() {
+    let form = b"verbose: switch -v\nstand: text --cradle or text --stand\n";
+    let printed = command(&["-", "--stand=b", "--cradle=a", "-v", "-v"], form);
+    let expected = "line  --stand=b --cradle=a -v -v
+   0  ^^^^^^^                     Long, adjacent  used by stand
+   1          ^                   ArgWord         used by stand
+   2            ^^^^^^^^          Long, adjacent  conflict with 0
+   3                     ^        ArgWord         conflict with 0
+   4                       ^^     Short           used by verbose
+   5                          ^^  Short           not used
+
+refused with 27 at place 2 in 3 tries
+  `--cradle` cannot be given together with `--stand`
+    --stand=b --cradle=a -v -v
+              ^^^^^^^^
+";
+    assert_eq!((printed.status.code(), String::from_utf8_lossy(&printed.stdout).as_ref()), (Some(1), expected));
+}
+
 /// Quotes about what is empty or has a space, escapes, the nothing behind a `=`, and the word `--`, used from the start.
 #[test]
 fn every_kind_of_item_and_escapes() {
     let expected = "
 line  --weight= \"\" \"a b\" -- x \\u{1b}[1m\\\\
-   0  ^^^^^^^^                             Long, adjacent  used
-   1           ^                           ArgWord         used
+   0  ^^^^^^^^                             Long, adjacent  used by weight
+   1           ^                           ArgWord         used by weight
    2            ^^                         Word            not used
    3                ^^^                    Word            not used
-   4                     ^^                PosWord         used
+   4                     ^^                PosWord         ends the options
    5                        ^              PosWord         not used
    6                          ^^^^^^^^^^^  PosWord         not used
 
@@ -212,8 +255,8 @@ fn bytes_that_are_no_text() {
     let file = form_file("bench.form");
     let line = [file.as_os_str(), OsStr::from_bytes(b"\xff7"), OsStr::from_bytes(b"-v\xff")];
     let expected = r#"line  \xff7 -v\xff
-   0  ^^^^^         Word  used
-   1        ^^^^^^  Word  used
+   0  ^^^^^         Word  used by parts
+   1        ^^^^^^  Word  used by parts
 
 values in 6 tries
   verbose  no
@@ -236,11 +279,11 @@ fn long_lines() {
     let rows: Vec<&str> = printed.lines().collect();
     assert_eq!(rows.iter().filter(|row| row.starts_with("line")).count(), 6 + 1);
     assert_eq!(rows[0], "line  part-10 part-11 part-12 part-13 part-14 part-15 part-16");
-    assert_eq!(rows[7], "   6                                                  ^^^^^^^   Word  used");
+    assert_eq!(rows[7], "   6                                                  ^^^^^^^   Word  used by parts");
     assert_eq!(rows[8], "line  part-17 part-18 part-19 part-20 part-21 part-22 part-23");
-    assert_eq!(rows[9], "   7  ^^^^^^^                                                   Word  used");
+    assert_eq!(rows[9], "   7  ^^^^^^^                                                   Word  used by parts");
     assert_eq!(rows[46], format!("line  {}...", "x".repeat(53)));
-    assert_eq!(rows[47], format!("  40  {}  Word  used", "^".repeat(56)));
+    assert_eq!(rows[47], format!("  40  {}  Word  used by parts", "^".repeat(56)));
     assert!(rows.iter().all(|row| row.len() <= 100));
     let list: String = rows[rows.iter().position(|row| row.starts_with("  parts")).expect("the list")..].concat();
     let shown: Vec<&str> = list.split('"').skip(1).step_by(2).collect();
@@ -320,12 +363,12 @@ no:     switch -y, optional
 "#;
     let printed = command(&["-", "-b", "-a", "-n1", "-n=2"], form);
     let expected = r#"line  -b -a -n1 -n=2
-   0  ^^              Short            used
+   0  ^^              Short            used by choice
    1     ^^           Short            conflict with 0
-   2         ^        Short, adjacent  used
-   3          ^       Word             used
-   4            ^^    Short, adjacent  used
-   5               ^  ArgWord          used
+   2         ^        Short, adjacent  used by list
+   3          ^       Word             used by list
+   4            ^^    Short, adjacent  used by list
+   5               ^  ArgWord          used by list
 
 refused with 27 at place 1 in 13 tries
 "#;

@@ -13,6 +13,7 @@ use Rattle.wire.specs.Wire.{areaStart}
 use Rattle.rules.specs.Base.{isSome}
 use Rattle.rules.specs.Outcome.{ok, refused, refuse, _>>=_}
 use Rattle.rules.specs.Codes.{placeCode, checkCode}
+use Rattle.rules.specs.Form.{fieldCount}
 use Rattle.rules.specs.Sheet.{sheetArea, sheetFault, argumentCount}
 use Rattle.rules.specs.Split.{Item}
 use Rattle.rules.specs.Tree.{zeros}
@@ -34,6 +35,7 @@ use Rattle.rules.proofs.GivenLaws.{check-accepted, form-passed}
 use Rattle.call_table.proofs.Laws.{area-length}
 use Rattle.call_form.specs.Keys.{noKey, Keyed}
 use Rattle.call_form.specs.declared.Key.{Key}
+use Rattle.call_form.proofs.Keys.{form-eight, form-fields}
 use Rattle.form_layout.proofs.Sizes.{accepted-names}
 use Rattle.call_answers.specs.Answers.{coded, answerWith, placeOrNone, plainAnswer}
 use Rattle.call_answers.specs.declared.Answer.{Answer}
@@ -82,7 +84,7 @@ module _ (s : Raw) (i a : ℕ) (ea : a ≡ s .start) where
 -- ---- `started`
 
 pub stopped-with : (n k : ℕ) (key : Key) → key ≡ noKey → (l : List ℕ) → l ≡ replicate 128 0
-    → record { number = n; place = k; area = 0; key = key; codes = l } ≡ stoppedAt n k
+    → record { number = n; place = k; area = 0; fields = 0; key = key; codes = l } ≡ stoppedAt n k
 stopped-with n k key z l e = rw (z, e)
 
 module _ (form sheet : List ℕ) (k : ℕ) (r : Refused) (e : r ≡ checkCode (checkForm form)) where
@@ -108,6 +110,9 @@ module _ (form sheet : List ℕ) (k : ℕ) (r : Refused) (e : r ≡ checkCode (c
     pub start-accepted : (a : Accepted) × (checkForm form ≡ accepted a)
     start-accepted = check-accepted form r e z
 
+    pub start-eight : 8 ≤ length form
+    start-eight = form-eight form start-accepted
+
     pub start-checked : GoodNames form
     start-checked = accepted-names form (start-accepted .0) (start-accepted .1)
 
@@ -128,14 +133,16 @@ module _ (form sheet : List ℕ) (k : ℕ) (r : Refused) (e : r ≡ checkCode (c
         pub start-made : sheetFault sheet ≡ 0
         start-made = sym ef ∙ n
 
-        module _ (key : Key) (ek : Keyed form k key) (codes : List ℕ) (ec : CodedNames form codes) (count : ℕ) (en : count ≡ argumentCount sheet) (a : ℕ) (ea : a ≡ areaStart 2 count) where
-          pub start-ready : Started form sheet k (record { number = 0; place = 0; area = length sheet - a; key = key; codes = codes })
+        module _ (fields : ℕ) (em : fields ≡ fieldCount form) (key : Key) (ek : Keyed form k key) (codes : List ℕ) (ec : CodedNames form codes) (count : ℕ) (en : count ≡ argumentCount sheet)
+            (a : ℕ) (ea : a ≡ areaStart 2 count) where
+          pub start-ready : Started form sheet k (record { number = 0; place = 0; area = length sheet - a; fields = fields; key = key; codes = codes })
           start-ready =
               let at = ek .at (start-accepted .0) (start-accepted .1) in
               record {
                 good = λ _. record {
                   result = start-accepted .0;
                   accepts = start-accepted .1;
+                  fields = em ∙ form-fields form (start-accepted .0) (start-accepted .1);
                   key = at;
                   names = record { checked = start-checked; coded = ec; inside = at .inside };
                   made = start-made;
@@ -250,7 +257,7 @@ module _ (s : Raw) (g : Search) (d : Seen) (r : Answer) where
     unfolding ended plainAnswer if_then_else_
     finish-bad h e = by (rw (eq-eqb c 1 h) (ap some (sym e)))
 
-    module _ (h : c ≡ 1 → ⊥) (b : Bool) (said : stateIn n s ≡ (if b then ok (fromRaw s) else refused (refuse 29 none))) where
+    module _ (h : c ≡ 1 → ⊥) (b : Bool) (said : stateIn (g .fields) n s ≡ (if b then ok (fromRaw s) else refused (refuse 29 none))) where
       pub finish-state : not b ≡ true → r ≡ answerWith 29 0 (coded 0 0 0) → Finishes s g d r
       unfolding ended plainAnswer if_then_else_ _>>=_
       finish-state t e = by (rw (ne-eqb c 1 h, said, not-true b t) (ap some (sym e)))
@@ -258,7 +265,7 @@ module _ (s : Raw) (g : Search) (d : Seen) (r : Answer) where
       module _ (t : not b ≡ false) where
         pub finish-near : n ≤ 256
         unfolding if_then_else_
-        finish-near = in-kept n s (said ∙ rw (not-false b t)) .small
+        finish-near = in-kept (g .fields) n s (said ∙ rw (not-false b t)) .small
 
         pub finish-node : g .key .kind ≡ 0 → r ≡ answerWith 28 0 (coded 0 0 0) → Finishes s g d r
         unfolding ended plainAnswer if_then_else_ _>>=_

@@ -18,7 +18,7 @@ use Rattle.rules.specs.Outcome.{Outcome, ok, refused, fault, refuse, Refusal, _
 use Rattle.rules.specs.Codes.{placeCode}
 use Rattle.rules.specs.Sheet.{sheetArea, sheetFault}
 use Rattle.rules.specs.Split.{Item}
-use Rattle.rules.specs.State.{Found, State, parsed, stateGood, unused, presentFrom, findIn, find}
+use Rattle.rules.specs.State.{Found, State, stateGood, unused, presentFrom, findIn, find}
 use Rattle.rules.specs.Tree.{zeros}
 use Rattle.rules.specs.Accept.{Accepted, accepted, checkForm}
 use Rattle.rules.specs.Take.{matchesArg}
@@ -67,24 +67,24 @@ searched is m u = asked m >>= λ y. find is (matchesArg (y .named) (y .adjacent)
 
 module _ (form sheet : List ℕ) (xs : List ItemRecord) (x : Raw) (k : ℕ) (a : Accepted) (accepts : checkForm form ≡ accepted a) (made : sheetFault sheet ≡ 0) where
   opened : (o : Option (List Item)) → itemsFrom (sheetArea sheet) (trimmed (map wordsOf xs)) ≡ o
-      → callFind form sheet xs x k ≡ (itemsOr30 o >>= λ is. stateIn (length is) x >>= searched is (getElem? (a .trees) k >>? keyOf))
+      → callFind form sheet xs x k ≡ (itemsOr30 o >>= λ is. stateIn (length (a .fields)) (length is) x >>= searched is (getElem? (a .trees) k >>? keyOf))
   unfolding callFind recordItems sheetIn _>>=_ if_then_else_
   opened o e = form-passed form a _ accepts ∙ rw (eq-eqb (sheetFault sheet) 0 made, e)
 
-state-case : (n : ℕ) (x : Raw) → (stateIn n x ≡ ok (fromRaw x)) ⊎ (stateIn n x ≡ refused (refuse 29 none))
+state-case : (fields n : ℕ) (x : Raw) → (stateIn fields n x ≡ ok (fromRaw x)) ⊎ (stateIn fields n x ≡ refused (refuse 29 none))
 unfolding stateIn if_then_else_
-state-case n x = go (eqb (x .count) n && zeros (drop (x .count) (x .marks)) && stateGood parsed n (fromRaw x))
+state-case fields n x = go (eqb (x .count) n && zeros (drop (x .count) (x .marks)) && stateGood fields n (fromRaw x))
   where
     go : (b : Bool) → ((if b then ok (fromRaw x) else refused (refuse 29 none)) ≡ ok (fromRaw x)) ⊎ ((if b then ok (fromRaw x) else refused (refuse 29 none)) ≡ refused (refuse 29 none))
     go true = inl refl
     go false = inr refl
 
-module _ (n : ℕ) (x : Raw) (good : stateIn n x ≡ ok (fromRaw x)) where
+module _ (fields n : ℕ) (x : Raw) (good : stateIn fields n x ≡ ok (fromRaw x)) where
   -- the present places of all 256 marks
   all-marks : unused (fromRaw x) ≡ presentFrom (x .marks) (x .end - x .start) (x .start)
   unfolding unused fromRaw
   all-marks =
-      let g = in-kept n x good in
+      let g = in-kept fields n x good in
       from-take (x .marks) (x .count) (x .end - x .start) (x .start) (omega (arith, g .order, g .inside, g .count))
 
   find-all : (is : List Item) (test : Item → Bool) → find is test (fromRaw x) ≡ seek is test (x .marks) (x .start) (x .end)
@@ -93,7 +93,7 @@ module _ (n : ℕ) (x : Raw) (good : stateIn n x ≡ ok (fromRaw x)) where
 
   find-scan : (is : List Item) (test : Item → Bool) → length is ≡ n → (find is test (fromRaw x) >>= λ f. ok (placeOf f)) ≡ ok (placeFrom (over x test is 0 0))
   find-scan is test l =
-      let g = in-kept n x good in
+      let g = in-kept fields n x good in
       ap (λ (o : Outcome (Option Found)). o >>= λ f. ok (placeOf f)) (find-all is test)
       ∙ from-first x test is (omega (arith, g .inside, l)) (g .order) is 0 refl zero-le
 
@@ -116,15 +116,15 @@ module _ (form sheet : List ℕ) (xs : List ItemRecord) (x : Raw) (k : ℕ) (g :
   unfolding ended if_then_else_
   ended-bad w = rw (eq-eqb (c .found) 1 w)
 
-  ended-state : (c .found ≡ 1 → ⊥) → stateIn (c .count) x ≡ refused (refuse 29 none) → ended x (c .count) g (c .found) ≡ refused (refuse 29 none)
+  ended-state : (c .found ≡ 1 → ⊥) → stateIn (g .fields) (c .count) x ≡ refused (refuse 29 none) → ended x (c .count) g (c .found) ≡ refused (refuse 29 none)
   unfolding ended if_then_else_ _>>=_
   ended-state w e = rw (ne-eqb (c .found) 1 w, e)
 
-  ended-node : (c .found ≡ 1 → ⊥) → stateIn (c .count) x ≡ ok (fromRaw x) → g .key .kind ≡ 0 → ended x (c .count) g (c .found) ≡ refused (refuse 28 none)
+  ended-node : (c .found ≡ 1 → ⊥) → stateIn (g .fields) (c .count) x ≡ ok (fromRaw x) → g .key .kind ≡ 0 → ended x (c .count) g (c .found) ≡ refused (refuse 28 none)
   unfolding ended if_then_else_ _>>=_
   ended-node w e v = rw (ne-eqb (c .found) 1 w, e, eq-eqb (g .key .kind) 0 v)
 
-  ended-some : (c .found ≡ 1 → ⊥) → stateIn (c .count) x ≡ ok (fromRaw x) → (g .key .kind ≡ 0 → ⊥) → ended x (c .count) g (c .found) ≡ ok (placeFrom (c .found))
+  ended-some : (c .found ≡ 1 → ⊥) → stateIn (g .fields) (c .count) x ≡ ok (fromRaw x) → (g .key .kind ≡ 0 → ⊥) → ended x (c .count) g (c .found) ≡ ok (placeFrom (c .found))
   unfolding ended if_then_else_ _>>=_
   ended-some w e v = rw (ne-eqb (c .found) 1 w, e, ne-eqb (g .key .kind) 0 v)
 
@@ -141,25 +141,27 @@ module _ (form sheet : List ℕ) (xs : List ItemRecord) (x : Raw) (k : ℕ) (g :
     long : length is ≡ c .count
     long = sym (ap (λ (d : Seen). d .count) scanned)
 
-    call-is : callFind form sheet xs x k ≡ (stateIn (c .count) x >>= searched is node)
+    call-is : callFind form sheet xs x k ≡ (stateIn (g .fields) (c .count) x >>= searched is node)
     unfolding itemsOr30 _>>=_
-    call-is = opened form sheet xs x k (y .result) (y .accepts) (y .made) (some is) e ∙ ap (λ (m : ℕ). stateIn m x >>= searched is node) long
+    call-is =
+        opened form sheet xs x k (y .result) (y .accepts) (y .made) (some is) e
+        ∙ ap (λ (m : ℕ). stateIn m (length is) x >>= searched is node) (sym (y .fields)) ∙ ap (λ (m : ℕ). stateIn (g .fields) m x >>= searched is node) long
 
-    by-state : (stateIn (c .count) x ≡ ok (fromRaw x)) → (b : Bool) → eqb (g .key .kind) 0 ≡ b → callFind form sheet xs x k ≡ ended x (c .count) g (c .found)
+    by-state : (stateIn (g .fields) (c .count) x ≡ ok (fromRaw x)) → (b : Bool) → eqb (g .key .kind) 0 ≡ b → callFind form sheet xs x k ≡ ended x (c .count) g (c .found)
     unfolding asked _>>=_
     by-state h true w =
         let v = eqb-true (g .key .kind) 0 w in
         call-is ∙ rw (h, node-none v) (sym (ended-node not-one h v))
     by-state h false w =
         let v = eqb-false (g .key .kind) 0 w in
-        call-is ∙ rw (h, node-some v) (find-scan (c .count) x h is (sought form g) long ∙ ap (λ (m : ℕ). ok (placeFrom m)) (sym as-over) ∙ sym (ended-some not-one h v))
+        call-is ∙ rw (h, node-some v) (find-scan (g .fields) (c .count) x h is (sought form g) long ∙ ap (λ (m : ℕ). ok (placeFrom m)) (sym as-over) ∙ sym (ended-some not-one h v))
 
     over-items : callFind form sheet xs x k ≡ ended x (c .count) g (c .found)
     unfolding _>>=_
     over-items = ⊎-elim
-        (λ (h : stateIn (c .count) x ≡ ok (fromRaw x)). by-state h (eqb (g .key .kind) 0) refl)
-        (λ (h : stateIn (c .count) x ≡ refused (refuse 29 none)). call-is ∙ rw h (sym (ended-state not-one h)))
-        (state-case (c .count) x)
+        (λ (h : stateIn (g .fields) (c .count) x ≡ ok (fromRaw x)). by-state h (eqb (g .key .kind) 0) refl)
+        (λ (h : stateIn (g .fields) (c .count) x ≡ refused (refuse 29 none)). call-is ∙ rw h (sym (ended-state not-one h)))
+        (state-case (g .fields) (c .count) x)
 
   call-ended : callFind form sheet xs x k ≡ ended x (c .count) g (c .found)
   unfolding itemsOr30 _>>=_
@@ -217,20 +219,20 @@ module _ (form sheet words : List ℕ) (is : List Item) (t : Table (sheetArea sh
   table-items = ap (itemsFrom (sheetArea sheet)) same ∙ records-items (sheetArea sheet) is words (t .at)
 
   module _ (a : Accepted) (accepts : checkForm form ≡ accepted a) (made : sheetFault sheet ≡ 0) (x : Raw)
-      (good : stateIn (length is) x ≡ ok (fromRaw x)) (k : ℕ) (m : Key) (node : (getElem? (a .trees) k >>? keyOf) ≡ some m) where
+      (good : stateIn (length (a .fields)) (length is) x ≡ ok (fromRaw x)) (k : ℕ) (m : Key) (node : (getElem? (a .trees) k >>? keyOf) ≡ some m) where
     -- what `find_named` answers over the words is what the search over the records finds
     pub by-number : (r : ℕ) → Sought (sheetArea sheet) words (matchesArg (m .named) (m .adjacent)) (x .marks) (x .start) (x .end) r
         → callFind form sheet xs x k ≡ ok (placeBelow r (x .end))
     unfolding itemsOr30 asked placeOf placeBelow if_then_else_ _>>=_
     by-number r s =
         opened form sheet xs x k a accepts made (some is) table-items
-        ∙ rw (good, node, find-all (length is) x good is test) (go (ltb r (x .end)) refl)
+        ∙ rw (good, node, find-all (length (a .fields)) (length is) x good is test) (go (ltb r (x .end)) refl)
       where
         test : Item → Bool
         test = matchesArg (m .named) (m .adjacent)
 
         kept : (x .start ≤ x .end) × (x .end ≤ length is)
-        kept = let g = in-kept (length is) x good in (g .order, g .inside)
+        kept = let g = in-kept (length (a .fields)) (length is) x good in (g .order, g .inside)
 
         go : (b : Bool) → ltb r (x .end) ≡ b → (seek is test (x .marks) (x .start) (x .end) >>= λ f. ok (placeOf f)) ≡ ok (if b then some r else none)
         go true e = rw (something-found is test (x .marks) (x .start) (x .end) r (kept .1) (kept .0) (s is t (kept .1)) (ltb-true r (x .end) e) .found)

@@ -31,5 +31,5 @@ placeOf (some f) = some (f .place)
 
 unfoldable pub callFind : List ℕ → List ℕ → List ItemRecord → Raw → ℕ → Outcome (Option ℕ)
 callFind form sheet xs x k = formIn form >>= λ a. sheetIn sheet >>= λ area. recordItems area xs >>= λ is.
-    stateIn (length is) x >>= λ u. asked (getElem? (a .trees) k >>? keyOf) >>= λ m.
+    stateIn (length (a .fields)) (length is) x >>= λ u. asked (getElem? (a .trees) k >>? keyOf) >>= λ m.
     find is (matchesArg (m .named) (m .adjacent)) u >>= λ f. ok (placeOf f)

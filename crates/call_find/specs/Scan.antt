@@ -28,7 +28,7 @@ use Rattle.call_find.specs.declared.Seen.{Seen}
 
 -- ---- the start: 1 to 4, then 6 and 5
 abbrev pub stoppedAt : ℕ → ℕ → Search
-stoppedAt n k = record { number = n; place = k; area = 0; key = noKey; codes = replicate 128 0 }
+stoppedAt n k = record { number = n; place = k; area = 0; fields = 0; key = noKey; codes = replicate 128 0 }
 
 pub record StartRefused (form sheet : List ℕ) (g : Search) : Type 0 where
   pub refusal : Refusal
@@ -36,10 +36,11 @@ pub record StartRefused (form sheet : List ℕ) (g : Search) : Type 0 where
   pub number : g .number ≡ refusal .number
   pub place : g .place ≡ placeCode (refusal .place)
 
--- the names of the node, and what the matching asks
+-- the number of fields, the names of the node, and what the matching asks
 pub record StartReady (form sheet : List ℕ) (k : ℕ) (g : Search) : Type 0 where
   pub result : Accepted
   pub accepts : checkForm form ≡ accepted result
+  pub fields : g .fields ≡ length (result .fields)
   pub key : KeyAt form result k (g .key)
   pub names : HasNames form (g .codes) (g .key .names .first) (g .key .names .count)
   pub made : sheetFault sheet ≡ 0
@@ -107,7 +108,7 @@ unfoldable pub ended : Raw → ℕ → Search → ℕ → Outcome (Option ℕ)
 ended s n g c =
     if eqb c 1
     then refused (refuse 30 none)
-    else (stateIn n s >>= λ _. if eqb (g .key .kind) 0 then refused (refuse 28 none) else ok (placeFrom c))
+    else (stateIn (g .fields) n s >>= λ _. if eqb (g .key .kind) 0 then refused (refuse 28 none) else ok (placeFrom c))
 
 pub record Finishes (s : Raw) (g : Search) (c : Seen) (r : Answer) : Type 0 where
   pub good : g .number ≡ 0 → plainAnswer placeOrNone (ended s (c .count) g (c .found)) ≡ some r

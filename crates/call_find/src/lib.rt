@@ -1,6 +1,6 @@
 // A search over a lent slice of item records: the first present item in scope that has one of the names of a flag or an
-// argument. It asks nothing of its input: what is not well made is refused under its number, and then 28 where the form has
-// no such node.
+// argument. It asks nothing of its input: what is not well made is refused under its number, a state that is not good for the
+// form's number of fields with 29, and then 28 where the form has no such node.
 ghost use mathlib.Core.Path.{_≡_};
 ghost use mathlib.Core.Option.{some};
 ghost use Prim.Native.Nat.{_+_, _≤_, _<_};
@@ -36,6 +36,7 @@ struct Search {
     number: u32,
     place: u32,
     area: usize,
+    fields: usize,
     key: Key,
     codes: [u32; 128],
 }
@@ -71,12 +72,13 @@ fn stopped(number: u32, place: u32) -> Search
         number,
         place,
         area: 0,
+        fields: 0,
         key,
         codes,
     }
 }
 
-// Refusals 1 to 4, then 6 and 5; and then the names of the node.
+// Refusals 1 to 4, then 6 and 5; and then the number of fields and the names of the node.
 fn started(form: &[u8], sheet: &[u8], node: usize) -> Search
     ensures { λ r. ⌜ Started (now (form .entry)) (now (sheet .entry)) node r ⌝ }
 {
@@ -88,6 +90,7 @@ fn started(form: &[u8], sheet: &[u8], node: usize) -> Search
     if fault != 0 {
         return stopped(fault, 0);
     }
+    let fields = form_layout::field_count(form);
     let key = call_form::key_at(form, node);
     let codes = form_codes::codes_of(form);
     let area = sheet.len() - wire::area_start(2, split_sheet::count(sheet));
@@ -95,6 +98,7 @@ fn started(form: &[u8], sheet: &[u8], node: usize) -> Search
         number: 0,
         place: 0,
         area,
+        fields,
         key,
         codes,
     }
@@ -196,7 +200,7 @@ fn finish(s: State, search: Search, seen: Seen) -> Answer
     if seen.found == 1 {
         return refused(BAD_ITEM, 0);
     }
-    if !state_marks::good(s, seen.count) {
+    if !state_marks::good(s, seen.count, search.fields) {
         return refused(BAD_STATE, 0);
     }
     if search.key.kind == 0 {

@@ -10,14 +10,13 @@ use borrow.Author.Tests.{eq-eqb, ne-eqb, not-true, not-false}
 use Rattle.utf8.specs.Utf8.{if_then_else_}
 use Rattle.rules.specs.Base.{isSome, _>>?_}
 use Rattle.rules.specs.Outcome.{Outcome, refused, _>>=_, refuse}
-use Rattle.rules.specs.Form.{nameCount, readForm}
+use Rattle.rules.specs.Form.{fieldCount, nameCount, readForm}
 use Rattle.rules.specs.Sheet.{sheetArea}
 use Rattle.rules.specs.Split.{Item}
-use Rattle.rules.specs.State.{State}
+use Rattle.rules.specs.State.{State, commandMark, fieldMark}
 use Rattle.rules.specs.Accept.{accepted, Accepted, checkForm}
-use Rattle.rules.specs.Run.{parsedMark}
 use Rattle.rules.specs.Take.{Took, took, matchesArg, takeFlag, takeArg, takeCmd}
-use Rattle.rules.specs.Calls.{fromRaw, itemFrom, asked, handed, onForm, keyOf, callMatches, callTakeFlag, callTakeArg, callTakeCmd}
+use Rattle.rules.specs.Calls.{fromRaw, itemFrom, asked, markIn, handed, onForm, flagNames, argumentKey, keyOf, callMatches, callTakeFlag, callTakeArg, callTakeCmd}
 use Rattle.rules.specs.declared.Refused.{Refused}
 use Rattle.rules.specs.declared.State.{State as Raw}
 use Rattle.rules.proofs.Acceptance.{lookup-some}
@@ -31,13 +30,14 @@ use Rattle.call_answers.specs.Answers.{Coded, coded, codedOr0, yesCode, takenCo
 use Rattle.call_answers.specs.declared.Answer.{Answer}
 use Rattle.call_answers.specs.declared.StateAnswer.{StateAnswer}
 use Rattle.call_table.specs.Given.{HasState}
+use Rattle.rules.proofs.GivenLaws.{no-field, field-there}
 use Rattle.call_form.specs.Given.{HasForm, Tests}
 use Rattle.call_form.specs.Keys.{keyNames, rulesKey, KeyAt, Keyed, commandAt}
 use Rattle.call_form.specs.Answered.{TakeAnswer, TestAnswer}
 use Rattle.call_form.specs.declared.Key.{Key}
-use Rattle.form_layout.proofs.Sizes.{accepted-names}
+use Rattle.form_layout.proofs.Sizes.{sized, accepted-names}
 use Rattle.call_form.proofs.Tests.{refused-state, refused-answer, passed}
-use Rattle.call_form.proofs.Keys.{past, command-name, command-word, has-name}
+use Rattle.call_form.proofs.Keys.{past, form-long, form-eight, form-fields, command-name, command-word, has-name}
 
 -- what a call asks of the form or of the items is there, or it is refused
 asked-none : {A B : Type 0} (o : Option A) (g : A → Outcome B) → o ≡ none → (asked o >>= g) ≡ refused (refuse 28 none)
@@ -48,6 +48,14 @@ asked-some : {A B : Type 0} (o : Option A) (g : A → Outcome B) (a : A) → o �
 unfolding asked _>>=_
 asked-some o g a e = rw e
 
+marked-none : {B : Type 0} (n k : ℕ) (g : ℕ → Outcome B) → n ≤ k → (markIn n k >>= g) ≡ refused (refuse 28 none)
+unfolding _>>=_
+marked-none n k g h = rw (no-field n k h)
+
+marked-some : {B : Type 0} (n k : ℕ) (g : ℕ → Outcome B) → k < n → (mark : ℕ) → mark ≡ fieldMark k → (markIn n k >>= g) ≡ g mark
+unfolding _>>=_
+marked-some n k g h mark e = rw (field-there n k h, e)
+
 is-none : {A : Type 0} (o : Option A) → isSome o ≡ false → o ≡ none
 unfolding isSome
 is-none none e = refl
@@ -57,13 +65,13 @@ module _ (form sheet words : List ℕ) (x : Raw) (r : Refused) (t : Tests form s
   -- ---- refused by a test
   module _ (z : r .number ≡ 0 → ⊥) (k : ℕ) where
     module _ (y : StateAnswer) (h : y ≡ stateWith (r .number) (r .place) (coded 0 0 0) x) where
-      pub flag-refused : stateAnswerOf yesCode (callTakeFlag form sheet words x k) ≡ some y
+      pub flag-refused : (j : ℕ) → stateAnswerOf yesCode (callTakeFlag form sheet words x k j) ≡ some y
       unfolding callTakeFlag
-      flag-refused = refused-state form sheet words x _ yesCode r t z ∙ ap some (sym h)
+      flag-refused j = refused-state form sheet words x _ yesCode r t z ∙ ap some (sym h)
 
-      pub arg-refused : stateAnswerOf takenCode (callTakeArg form sheet words x k) ≡ some y
+      pub arg-refused : (j : ℕ) → stateAnswerOf takenCode (callTakeArg form sheet words x k j) ≡ some y
       unfolding callTakeArg
-      arg-refused = refused-state form sheet words x _ takenCode r t z ∙ ap some (sym h)
+      arg-refused j = refused-state form sheet words x _ takenCode r t z ∙ ap some (sym h)
 
       pub cmd-refused : stateAnswerOf yesCode (callTakeCmd form sheet words x k) ≡ some y
       unfolding callTakeCmd
@@ -78,11 +86,18 @@ module _ (form sheet words : List ℕ) (x : Raw) (r : Refused) (t : Tests form s
     pub tests-given : HasForm form sheet words x
     tests-given = t .good z
 
-    pub tests-state : HasState sheet words x
+    pub tests-state : HasState (length (tests-given .result .fields)) sheet words x
     tests-state = tests-given .state
 
     pub tests-accepted : (a : Accepted) × (checkForm form ≡ accepted a)
     tests-accepted = (tests-given .result, tests-given .accepts)
+
+    pub tests-eight : 8 ≤ length form
+    tests-eight = form-eight form tests-accepted
+
+    -- the mark of a field, as the code has it
+    pub mark-small : (j fields : ℕ) → fields ≡ fieldCount form → j < fields → 512 + j < 65536
+    mark-small j fields e h = omega (arith, sized form (form-long form tests-accepted) .counts .fields .1)
 
     pub tests-names : GoodNames form
     tests-names = accepted-names form (tests-given .result) (tests-given .accepts)
@@ -121,23 +136,56 @@ module _ (form sheet words : List ℕ) (x : Raw) (r : Refused) (t : Tests form s
       pub key-inside : key .names .first + key .names .count ≤ nameCount form
       key-inside = here .inside
 
-      pub flag-none : (key .kind ≡ 1 → ⊥) → (y : StateAnswer) → y ≡ stateWith 28 0 (coded 0 0 0) x → stateAnswerOf yesCode (callTakeFlag form sheet words x k) ≡ some y
-      unfolding callTakeFlag if_then_else_
-      flag-none w = none-state _ yesCode (asked-none _ _ (here .flag ∙ rw (ne-eqb (key .kind) 1 w)))
+      module _ (j : ℕ) (y : StateAnswer) where
+        pub flag-none : (key .kind ≡ 1 → ⊥) → y ≡ stateWith 28 0 (coded 0 0 0) x → stateAnswerOf yesCode (callTakeFlag form sheet words x k j) ≡ some y
+        unfolding callTakeFlag if_then_else_
+        flag-none w = none-state _ yesCode (asked-none _ _ (here .flag ∙ rw (ne-eqb (key .kind) 1 w))) y
 
-      pub flag-some : key .kind ≡ 1 → (y : StateAnswer) → TakeAnswer yesCode sheet words x (λ is. takeFlag parsedMark is (keyNames form key) (fromRaw x)) y
-          → stateAnswerOf yesCode (callTakeFlag form sheet words x k) ≡ some y
-      unfolding callTakeFlag if_then_else_
-      flag-some w y h = done _ (stateAnswerOf yesCode) _ (asked-some _ _ (keyNames form key) (here .flag ∙ rw (eq-eqb (key .kind) 1 w))) ∙ h .same these items-here
+        pub arg-none : (key .kind ≡ 2 → ⊥) → y ≡ stateWith 28 0 (coded 0 0 0) x → stateAnswerOf takenCode (callTakeArg form sheet words x k j) ≡ some y
+        unfolding callTakeArg if_then_else_
+        arg-none w = none-state _ takenCode (asked-none _ _ (here .argument ∙ rw (ne-eqb (key .kind) 2 w))) y
 
-      pub arg-none : (key .kind ≡ 2 → ⊥) → (y : StateAnswer) → y ≡ stateWith 28 0 (coded 0 0 0) x → stateAnswerOf takenCode (callTakeArg form sheet words x k) ≡ some y
-      unfolding callTakeArg if_then_else_
-      arg-none w = none-state _ takenCode (asked-none _ _ (here .argument ∙ rw (ne-eqb (key .kind) 2 w)))
+        module _ (fields : ℕ) (count : fields ≡ fieldCount form) where
+          of-form : fields ≡ length (t .good z .result .fields)
+          of-form = count ∙ form-fields form (t .good z .result) (t .good z .accepts)
 
-      pub arg-some : key .kind ≡ 2 → (y : StateAnswer) → TakeAnswer takenCode sheet words x (λ is. takeArg parsedMark is (keyNames form key) (key .names .adjacent) (fromRaw x)) y
-          → stateAnswerOf takenCode (callTakeArg form sheet words x k) ≡ some y
-      unfolding callTakeArg if_then_else_
-      arg-some w y h = done _ (stateAnswerOf takenCode) _ (asked-some _ _ (rulesKey form key) (here .argument ∙ rw (eq-eqb (key .kind) 2 w))) ∙ h .same these items-here
+          module _ (w : key .kind ≡ 1) where
+            flag-names : (getElem? (t .good z .result .trees) k >>? flagNames) ≡ some (keyNames form key)
+            unfolding if_then_else_
+            flag-names = here .flag ∙ rw (eq-eqb (key .kind) 1 w)
+
+            pub flag-beyond : fields ≤ j → y ≡ stateWith 28 0 (coded 0 0 0) x → stateAnswerOf yesCode (callTakeFlag form sheet words x k j) ≡ some y
+            unfolding callTakeFlag
+            flag-beyond h = none-state _ yesCode
+                (asked-some _ _ (keyNames form key) flag-names ∙ marked-none _ j _ (omega (arith, h, of-form))) y
+
+            pub flag-some : j < fields → (mark : ℕ) → mark ≡ fieldMark j
+                → TakeAnswer yesCode sheet words x (λ is. takeFlag mark is (keyNames form key) (fromRaw x)) y
+                → stateAnswerOf yesCode (callTakeFlag form sheet words x k j) ≡ some y
+            unfolding callTakeFlag
+            flag-some h mark e says =
+                done _ (stateAnswerOf yesCode) _
+                (asked-some _ _ (keyNames form key) flag-names ∙ marked-some _ j _ (omega (arith, h, of-form)) mark e)
+                ∙ says .same these items-here
+
+          module _ (w : key .kind ≡ 2) where
+            argument-key : (getElem? (t .good z .result .trees) k >>? argumentKey) ≡ some (rulesKey form key)
+            unfolding if_then_else_
+            argument-key = here .argument ∙ rw (eq-eqb (key .kind) 2 w)
+
+            pub arg-beyond : fields ≤ j → y ≡ stateWith 28 0 (coded 0 0 0) x → stateAnswerOf takenCode (callTakeArg form sheet words x k j) ≡ some y
+            unfolding callTakeArg
+            arg-beyond h = none-state _ takenCode
+                (asked-some _ _ (rulesKey form key) argument-key ∙ marked-none _ j _ (omega (arith, h, of-form))) y
+
+            pub arg-some : j < fields → (mark : ℕ) → mark ≡ fieldMark j
+                → TakeAnswer takenCode sheet words x (λ is. takeArg mark is (keyNames form key) (key .names .adjacent) (fromRaw x)) y
+                → stateAnswerOf takenCode (callTakeArg form sheet words x k j) ≡ some y
+            unfolding callTakeArg
+            arg-some h mark e says =
+                done _ (stateAnswerOf takenCode) _
+                (asked-some _ _ (rulesKey form key) argument-key ∙ marked-some _ j _ (omega (arith, h, of-form)) mark e)
+                ∙ says .same these items-here
 
       module _ (i : ℕ) (y : Answer) where
         pub matches-none : key .kind ≡ 0 → y ≡ answerWith 28 0 (coded 0 0 0) → answerOf yesCode (callMatches form sheet words x k i) ≡ some y
@@ -189,7 +237,7 @@ module _ (form sheet words : List ℕ) (x : Raw) (r : Refused) (t : Tests form s
         pub cmd-name : HasName form k
         cmd-name = has-name form k cmd-there (t .good z .result) (t .good z .accepts)
 
-        pub cmd-some : (word : List ℕ) → nameBytesAt (readForm form) k ≡ some word → (y : StateAnswer) → TakeAnswer yesCode sheet words x (λ is. takeCmd parsedMark is word (fromRaw x)) y
+        pub cmd-some : (word : List ℕ) → nameBytesAt (readForm form) k ≡ some word → (y : StateAnswer) → TakeAnswer yesCode sheet words x (λ is. takeCmd commandMark is word (fromRaw x)) y
             → stateAnswerOf yesCode (callTakeCmd form sheet words x k) ≡ some y
         unfolding callTakeCmd
         cmd-some word v y h =

@@ -2,7 +2,7 @@
 use mathlib.Core.Bool.{Bool, true, false}
 use mathlib.Core.List.{List, [], _∷_}
 use mathlib.Core.Option.{Option, some, none}
-use mathlib.Core.Path.{_≡_, refl, ap, _∙_}
+use mathlib.Core.Path.{_≡_, refl, sym, ap, _∙_}
 use Prim.Native.Nat.{ℕ, zero, suc, _+_, _%_, _≤_, _<_}
 use native.Mathlib.Omega.{arith}
 use lib.Dec.{eqb, leb}
@@ -10,18 +10,18 @@ use lib.ListN.{length, take, getElem?, drop, replicate, length-replicate}
 use borrow.Author.Tests.{eq-eqb, ne-eqb}
 use Rattle.utf8.specs.Utf8.{if_then_else_}
 use Rattle.rules.specs.Base.{isSome, _>>?_}
-use Rattle.rules.specs.Form.{Node, Name, Form, nodeCount, nameCount, readForm, nameBytes}
+use Rattle.rules.specs.Form.{Node, Name, Form, nodeCount, fieldCount, nameCount, readForm, nameBytes}
 use Rattle.rules.specs.Tree.{Named, Tree, namedBy}
 use Rattle.rules.specs.Accept.{accepted, Accepted, checkForm, lengthGood}
 use Rattle.rules.specs.Calls.{flagNames, argumentKey, keyOf, commandName, Key as RulesKey}
 use Rattle.rules.proofs.Acceptance.{if-some, bind-is, bind-some, is-some, lookup-inside, Made, flagMade, argumentMade, positionalMade, optionalMade, manyMade, someMade, countMade, lastMade}
-use Rattle.rules.proofs.Acceptance.{choiceMade, fallbackMade, guardMade, tree-made, inside-same, names-some, accepted-form, accepted-length, accepted-trees}
+use Rattle.rules.proofs.Acceptance.{choiceMade, fallbackMade, guardMade, tree-made, inside-same, names-some, accepted-form, accepted-length, accepted-trees, accepted-fields}
 use Rattle.rules.proofs.WellMadeLaws.{well-made}
 use Rattle.form_names.specs.Names.{nameOf}
 use Rattle.form_names.specs.declared.Name as names
 use Rattle.form_layout.specs.declared.Node as layout
 use Rattle.form_layout.specs.Layout.{nodeOf, HasName, nameBytesAt, GoodNames}
-use Rattle.form_layout.proofs.Sizes.{sized, nodes-length, names-length}
+use Rattle.form_layout.proofs.Sizes.{sized, fields-length, nodes-length, names-length}
 use Rattle.form_codes.specs.Codes.{namesFrom, namedAt}
 use Rattle.eval_told.proofs.NodeLaw.{node-tree}
 use Rattle.call_form.specs.Keys.{keyWith, noKey, KeyAt, Keyed, commandAt}
@@ -39,6 +39,9 @@ form-long b e = accepted-length b (e .0) (e .1)
 
 pub form-eight : (b : List ℕ) → ((a : Accepted) × (checkForm b ≡ accepted a)) → 8 ≤ length b
 form-eight b e = omega (arith, well-made b (e .0) (e .1) .counts .exact)
+
+pub form-fields : (b : List ℕ) (a : Accepted) → checkForm b ≡ accepted a → fieldCount b ≡ length (a .fields)
+form-fields b a g = sym (accepted-fields b a g ∙ ap (λ (f : Form). length (f .fields)) (accepted-form b a g) ∙ fields-length b)
 
 pub name-below : (b : List ℕ) (k n : ℕ) → n ≡ nameCount b → k < n → k < nameCount b
 name-below b k n m h = omega (arith, m, h)

@@ -2,18 +2,18 @@
 use mathlib.Core.Bool.{Bool, true}
 use mathlib.Core.List.{List}
 use mathlib.Core.Option.{Option, some, none, Option·some-injective, Option·none-ne-some}
-use mathlib.Core.Path.{_≡_, refl, _∙_, subst}
+use mathlib.Core.Path.{_≡_, refl, sym, _∙_, subst}
 use Prim.Native.Nat.{ℕ, suc, _+_, _≤_, _<_}
 use native.Mathlib.Numerals.{add-one}
 use native.Mathlib.Omega.{arith}
+use borrow.Author.Tests.{le-leb}
 use lib.ListN.{length}
 use Rattle.rules.specs.Outcome.{Outcome, ok, refused, fault, _>>=_, refuse}
 use Rattle.rules.specs.Form.{nameCount}
 use Rattle.rules.specs.Sheet.{sheetFault, sheetArea}
 use Rattle.rules.specs.Split.{Item}
 use Rattle.rules.specs.Tree.{Named}
-use Rattle.rules.specs.State.{State, Found, parsed, find, get, withCurrent}
-use Rattle.rules.specs.Run.{parsedMark}
+use Rattle.rules.specs.State.{State, Found, commandMark, parsed, find, get, withCurrent}
 use Rattle.rules.specs.Take.{Took, took, Taken, matchesArg, takeFlag, valueText, takeValue, takeArg, takeCmd}
 use Rattle.rules.specs.Calls.{fromRaw, itemFrom, handed}
 use Rattle.rules.specs.Sound.{Good}
@@ -21,8 +21,7 @@ use Rattle.rules.specs.declared.State.{State as Raw}
 use Rattle.rules.proofs.StepLaws.{Free, Finds, free-below, find-good, remove-step, get-free, current-good}
 use Rattle.state_marks.specs.declared.Numbers.{Numbers}
 use Rattle.state_marks.specs.Lent.{rawOf, numbersOf, stateOf, Fine}
-use Rattle.state_marks.specs.Written.{fieldMark, commandMark}
-use Rattle.state_marks.proofs.Mark.{field-parsed, field-told, command-parsed, command-told}
+use Rattle.state_marks.proofs.Mark.{parsed-is}
 use Rattle.state_marks.proofs.Laws.{raw-back}
 use Rattle.state_value.proofs.Given.{given-fine}
 use Rattle.form_layout.specs.Layout.{GoodNames}
@@ -53,26 +52,24 @@ module _ (form sheet words : List ℕ) (x : Raw) (g : HasForm form sheet words x
   pub has-names : (codes : List ℕ) (first count : ℕ) → CodedNames form codes → first + count ≤ nameCount form → HasNames form codes first count
   has-names codes first count c h = record { checked = given-names; coded = c; inside = h }
 
-module _ (sheet words : List ℕ) (x : Raw) (g : HasState sheet words x) where
+module _ (fields : ℕ) (sheet words : List ℕ) (x : Raw) (g : HasState fields sheet words x) where
   pub sheet-made : sheetFault sheet ≡ 0
   sheet-made = g .table .made
 
-  ready : (mark : ℕ) → parsed mark ≡ true → (p : Numbers) → p ≡ numbersOf x → CanTake (sheetArea sheet) words (x .marks) p mark
+  pub ready : (mark : ℕ) → parsed mark ≡ true → (p : Numbers) → p ≡ numbersOf x → CanTake (sheetArea sheet) words (x .marks) p mark
   ready mark told p e =
       let h = g .table .holds in
       rw e (record {
         items = h .items;
         table = h .table;
         same = h .count;
-        fine = given-fine (x .count) x (g .good);
+        fine = given-fine fields (x .count) x (g .good);
         told = told;
       })
 
-  pub field-ready : (p : Numbers) → p ≡ numbersOf x → CanTake (sheetArea sheet) words (x .marks) p fieldMark
-  field-ready = ready fieldMark field-parsed
-
-  pub command-ready : (p : Numbers) → p ≡ numbersOf x → CanTake (sheetArea sheet) words (x .marks) p commandMark
-  command-ready = ready commandMark command-parsed
+  -- a number that is written
+  pub number-ready : (mark : ℕ) → 510 ≤ mark → (p : Numbers) → p ≡ numbersOf x → CanTake (sheetArea sheet) words (x .marks) p mark
+  number-ready mark h = ready mark (sym (parsed-is mark) ∙ le-leb 510 mark h)
 
 -- ---- what is handed back
 module _ {A : Type 0} (code : A → Coded) (x : Raw) where
@@ -88,36 +85,35 @@ module _ {A : Type 0} (code : A → Coded) (x : Raw) where
 
 module _ (sheet words : List ℕ) (x : Raw) (p : Numbers) (e : p ≡ numbersOf x) (long : length (x .marks) ≡ 256) (m : List ℕ) (y : Raw) where
   module _ (t : Flag) (j : y ≡ rawOf m (t .numbers)) (f : ℕ) (yes : f ≡ yesNo (t .found)) (r : StateAnswer) (c : r ≡ stateWith 0 0 (coded f 0 0) y) where
-    pub flag-hands : (n : Named) → TakesFlag fieldMark (sheetArea sheet) words n (x .marks) p m t
-        → TakeAnswer yesCode sheet words x (λ is. takeFlag parsedMark is n (fromRaw x)) r
-    unfolding stateOf
-    flag-hands n h = record {
-      same = λ is i.
-          let o = h .same is (rw e i) in
-          let z : stateAnswerOf yesCode (handed x (takeFlag fieldMark is n (fromRaw x))) ≡ some r =
-          took-hands yesCode x _ (t .found) m (t .numbers) (rw e at o) (h .left .fine) (h .left .long ∙ long) ∙ rw (c, j, yes) refl in
-          subst (λ (k : ℕ). stateAnswerOf yesCode (handed x (takeFlag k is n (fromRaw x))) ≡ some r) field-told z;
-    }
+    module _ (mark : ℕ) where
+      pub flag-hands : (n : Named) → TakesFlag mark (sheetArea sheet) words n (x .marks) p m t
+          → TakeAnswer yesCode sheet words x (λ is. takeFlag mark is n (fromRaw x)) r
+      unfolding stateOf
+      flag-hands n h = record {
+        same = λ is i.
+            let o = h .same is (rw e i) in
+            took-hands yesCode x _ (t .found) m (t .numbers) (rw e at o) (h .left .fine) (h .left .long ∙ long) ∙ rw (c, j, yes) refl;
+      }
 
-    pub cmd-hands : (w : List ℕ) → TakesCmd commandMark (sheetArea sheet) words w (x .marks) p m t
-        → TakeAnswer yesCode sheet words x (λ is. takeCmd parsedMark is w (fromRaw x)) r
-    unfolding stateOf
-    cmd-hands w h = record {
-      same = λ is i.
-          let o = h .same is (rw e i) in
-          let z : stateAnswerOf yesCode (handed x (takeCmd commandMark is w (fromRaw x))) ≡ some r =
-          took-hands yesCode x _ (t .found) m (t .numbers) (rw e at o) (h .left .fine) (h .left .long ∙ long) ∙ rw (c, j, yes) refl in
-          subst (λ (k : ℕ). stateAnswerOf yesCode (handed x (takeCmd k is w (fromRaw x))) ≡ some r) command-told z;
-    }
+      pub cmd-hands : (w : List ℕ) → TakesCmd mark (sheetArea sheet) words w (x .marks) p m t → mark ≡ commandMark
+          → TakeAnswer yesCode sheet words x (λ is. takeCmd commandMark is w (fromRaw x)) r
+      unfolding stateOf
+      cmd-hands w h told = record {
+        same = λ is i.
+            let o = h .same is (rw e i) in
+            let z : stateAnswerOf yesCode (handed x (takeCmd mark is w (fromRaw x))) ≡ some r =
+            took-hands yesCode x _ (t .found) m (t .numbers) (rw e at o) (h .left .fine) (h .left .long ∙ long) ∙ rw (c, j, yes) refl in
+            subst (λ (k : ℕ). stateAnswerOf yesCode (handed x (takeCmd k is w (fromRaw x))) ≡ some r) told z;
+      }
 
   module _ (t : Argument) (j : y ≡ rawOf m (t .numbers)) (r : StateAnswer) (c : r ≡ valueAnswer (t .value) y x) where
-    module _ (n : Named) (adjacent : Bool) (h : TakesArg fieldMark (sheetArea sheet) words n adjacent (x .marks) p m t) where
+    module _ (mark : ℕ) (n : Named) (adjacent : Bool) (h : TakesArg mark (sheetArea sheet) words n adjacent (x .marks) p m t) where
       module _ (is : List Item) (i : Items (sheetArea sheet) words (numbersOf x) is) where
-        arg-same : takeArg fieldMark is n adjacent (fromRaw x) ≡ valueOf (sheetArea sheet) m (t .numbers) (t .value)
+        arg-same : takeArg mark is n adjacent (fromRaw x) ≡ valueOf (sheetArea sheet) m (t .numbers) (t .value)
         unfolding stateOf
         arg-same = let o = h .same is (rw e i) in rw e at o
 
-        arg-told : (v : Value) → t .value ≡ v → stateAnswerOf takenCode (handed x (takeArg fieldMark is n adjacent (fromRaw x))) ≡ some r
+        arg-told : (v : Value) → t .value ≡ v → stateAnswerOf takenCode (handed x (takeArg mark is n adjacent (fromRaw x))) ≡ some r
         arg-told Missing k =
             took-hands takenCode x _ none m (t .numbers) (arg-same ∙ rw k refl) (h .left .fine) (h .left .long ∙ long) ∙ rw (c, j, k) refl
         arg-told (Value·Taken a b) k =
@@ -126,12 +122,8 @@ module _ (sheet words : List ℕ) (x : Raw) (p : Numbers) (e : p ≡ numbersOf x
             ∙ rw (c, j, k) refl
         arg-told (NoArgument a) k = refused-hands takenCode x _ 22 a (arg-same ∙ rw k refl) ∙ rw (c, k) refl
 
-      pub arg-hands : TakeAnswer takenCode sheet words x (λ is. takeArg parsedMark is n adjacent (fromRaw x)) r
-      arg-hands = record {
-        same = λ is i.
-            subst (λ (k : ℕ). stateAnswerOf takenCode (handed x (takeArg k is n adjacent (fromRaw x))) ≡ some r) field-told
-            (arg-told is i (t .value) refl);
-      }
+      pub arg-hands : TakeAnswer takenCode sheet words x (λ is. takeArg mark is n adjacent (fromRaw x)) r
+      arg-hands = record { same = λ is i. arg-told is i (t .value) refl }
 
 -- ---- the places that `take_arg` tells
 abbrev Within : ℕ → Outcome (Took (Option Taken)) → Type 0

@@ -1,10 +1,11 @@
 -- What the tests of the input say of a call.
 use mathlib.Core.List.{List, []}
 use mathlib.Core.Option.{some, none}
-use mathlib.Core.Path.{_≡_, refl, ap, _∙_}
-use Prim.Native.Nat.{ℕ}
+use mathlib.Core.Path.{_≡_, refl, ap, subst, _∙_}
+use Prim.Native.Nat.{ℕ, _≤_}
 use lib.ListN.{length}
 use Rattle.rules.specs.Outcome.{Outcome, ok, refused, fault, _>>=_, Refusal, refuse}
+use Rattle.rules.specs.Form.{fieldCount}
 use Rattle.rules.specs.Split.{Item}
 use Rattle.rules.specs.State.{State}
 use Rattle.rules.specs.Accept.{Checked as CheckedForm, accepted, refusedAt, Accepted, checkForm}
@@ -18,6 +19,7 @@ use Rattle.rules.proofs.GivenLaws.{check-accepted, form-passed}
 use Rattle.call_table.specs.Given.{itemsGiven, GivesState}
 use Rattle.call_table.proofs.Laws.{onTable, on-table, state-given}
 use Rattle.call_form.specs.Given.{HasForm, givenIn, Tests}
+use Rattle.call_form.proofs.Keys.{form-eight, form-fields}
 
 -- ---- refused before the end
 abbrev refusalOf : {A : Type 0} → Refusal → Outcome A → Refusal
@@ -51,7 +53,7 @@ module _ (e : Refusal) where
   unfolding givenIn onForm
   call-refused form sheet words x f h = ap (handed x)
       (goes-on (formIn form) _ _ (λ a k.
-      on-table sheet words _ ∙ goes-on (itemsGiven sheet words) _ _ (λ is. then-refused (stateIn (length is) x) (f a is)) k) h)
+      on-table sheet words _ ∙ goes-on (itemsGiven sheet words) _ _ (λ is. then-refused (stateIn (length (a .fields)) (length is) x) (f a is)) k) h)
 
 -- ---- `given`
 module _ (form sheet words : List ℕ) (x : Raw) (r : Refused) (e : r ≡ checkCode (checkForm form)) where
@@ -73,15 +75,20 @@ module _ (form sheet words : List ℕ) (x : Raw) (r : Refused) (e : r ≡ checkC
             };
           }
 
-  pub state-tests : r .number ≡ 0 → (n : ℕ) → GivesState sheet words x n → Tests form sheet words x (record { number = n; place = 0 })
+  pub checked-eight : r .number ≡ 0 → 8 ≤ length form
+  checked-eight z = form-eight form (check-accepted form r e z)
+
+  pub state-tests : r .number ≡ 0 → (fields n : ℕ) → GivesState fields sheet words x n → fields ≡ fieldCount form
+      → Tests form sheet words x (record { number = n; place = 0 })
   unfolding givenIn
-  state-tests z n g =
+  state-tests z fields n said count =
       let (a, h) = check-accepted form r e z in
+      let g = subst (λ (k : ℕ). GivesState k sheet words x n) (count ∙ form-fields form a h) said in
       record {
         good = λ w. record { result = a; accepts = h; state = g .good w };
         bad = λ w. record {
           refusal = refuse n none;
-          same = form-passed form a (λ _. itemsGiven sheet words >>= λ is. stateIn (length is) x) h ∙ g .bad w;
+          same = form-passed form a (λ b. itemsGiven sheet words >>= λ is. stateIn (length (b .fields)) (length is) x) h ∙ g .bad w;
           number = refl;
           place = refl;
         };
@@ -105,5 +112,5 @@ module _ {A : Type 0} (form sheet words : List ℕ) (x : Raw) (f : Accepted → 
   pub passed : (g : HasForm form sheet words x) → onForm form sheet words x f ≡ handed x (f (g .result) (g .state .table .holds .items) (fromRaw x))
   unfolding onForm
   passed g = ap (handed x)
-      (form-passed form (g .result) (λ a. onTable sheet words (λ is. stateIn (length is) x >>= f a is)) (g .accepts)
-      ∙ state-given sheet words x (f (g .result)) (g .state))
+      (form-passed form (g .result) (λ a. onTable sheet words (λ is. stateIn (length (a .fields)) (length is) x >>= f a is)) (g .accepts)
+      ∙ state-given (length (g .result .fields)) sheet words x (f (g .result)) (g .state))

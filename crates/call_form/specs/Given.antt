@@ -12,15 +12,15 @@ use Rattle.rules.specs.declared.Refused.{Refused}
 use Rattle.rules.specs.declared.State.{State as Raw}
 use Rattle.call_table.specs.Given.{itemsGiven, HasState}
 
--- an accepted form, and a state over the items of the slice
+-- an accepted form, and a state over the items of the slice, used by its fields
 pub record HasForm (form sheet words : List ℕ) (x : Raw) : Type 0 where
   pub result : Accepted
   pub accepts : checkForm form ≡ accepted result
-  pub state : HasState sheet words x
+  pub state : HasState (length (result .fields)) sheet words x
 
 -- 1 to 4, then 6, 5, 7, 30 and 29
 unfoldable pub givenIn : List ℕ → List ℕ → List ℕ → Raw → Outcome State
-givenIn form sheet words x = formIn form >>= λ _. itemsGiven sheet words >>= λ is. stateIn (length is) x
+givenIn form sheet words x = formIn form >>= λ a. itemsGiven sheet words >>= λ is. stateIn (length (a .fields)) (length is) x
 
 -- refused under a number, at a place
 pub record Refuses (o : Outcome State) (r : Refused) : Type 0 where

@@ -1,12 +1,14 @@
 // The entry points with a form, items and a state. None asks anything of its input: what is not well made is refused under its
-// number, and then 28 where the form has no such node or name, or the items no such place.
+// number, a state that is not good for the form's number of fields with 29, and then 28 where the form has no such node, name or
+// field, or the items no such place.
 ghost use mathlib.Core.Path.{_≡_};
+ghost use mathlib.Core.Bool.{true};
 ghost use mathlib.Core.Option.{some};
-ghost use Prim.Native.Nat.{_+_, _≤_};
+ghost use Prim.Native.Nat.{ℕ, _+_, _≤_};
 ghost use Rattle.rules.specs.Base.{isSome};
 ghost use Rattle.rules.specs.Form.{nameCount};
 ghost use Rattle.rules.specs.Accept.{Accepted, accepted, checkForm};
-ghost use Rattle.rules.specs.Run.{parsedMark};
+ghost use Rattle.rules.specs.State.{commandMark, parsed};
 ghost use Rattle.rules.specs.Take.{matchesArg, takeFlag, takeArg, takeCmd};
 ghost use Rattle.rules.specs.Calls.{fromRaw, callMatches, callTakeFlag, callTakeArg, callTakeCmd};
 ghost use Rattle.form_layout.specs.Layout.{GoodNames};
@@ -30,7 +32,7 @@ use form_codes::codes_of;
 use rules::Refused;
 use rules::State;
 use state_marks::COMMAND;
-use state_marks::FIELD;
+use state_marks::field_mark;
 use state_marks::joined;
 use state_marks::numbers_of;
 use take::Value;
@@ -51,7 +53,7 @@ fn place_code(x: usize) -> u32
     x as u32 + 1
 }
 
-// The tests of the input, in the order of the numbers: 1 to 4, then 6, 5, 7, 30 and 29.
+// The tests of the input, in the order of the numbers: 1 to 4, then 6, 5, 7, 30 and 29, for the fields of the form.
 fn given(form: &[u8], sheet: &[u8], items: &[u32], s: State) -> Refused
     ensures { λ r. ⌜ Tests (now (form .entry)) (now (sheet .entry)) (now (items .entry)) s r ⌝ }
 {
@@ -59,7 +61,8 @@ fn given(form: &[u8], sheet: &[u8], items: &[u32], s: State) -> Refused
     if checked.number != 0 {
         return checked;
     }
-    let number = call_table::given_state(sheet, items, s);
+    let fields = form_layout::field_count(form);
+    let number = call_table::given_state(sheet, items, s, fields);
     Refused { number, place: 0 }
 }
 
@@ -127,9 +130,16 @@ fn matched(form: &[u8], sheet: &[u8], items: &[u32], i: usize, key: Key) -> Answ
     answered(yes_no(found), 0, 0)
 }
 
-fn flag_taken(form: &[u8], sheet: &[u8], items: &[u32], s: State, key: Key) -> StateAnswer
-    requires { ⌜ HasForm (now form) (now sheet) (now items) s × (key .names .first + key .names .count ≤ nameCount (now form)) ⌝ }
-    ensures { λ r. ⌜ TakeAnswer yesCode (now (sheet .entry)) (now (items .entry)) s (λ is. takeFlag parsedMark is (keyNames (now (form .entry)) key) (fromRaw s)) r ⌝ }
+fn flag_taken(
+    form: &[u8],
+    sheet: &[u8],
+    items: &[u32],
+    s: State,
+    key: Key,
+    mark: u16,
+) -> StateAnswer
+    requires { ⌜ HasForm (now form) (now sheet) (now items) s × (key .names .first + key .names .count ≤ nameCount (now form)) × (parsed mark ≡ true) ⌝ }
+    ensures { λ r. ⌜ TakeAnswer yesCode (now (sheet .entry)) (now (items .entry)) s (λ is. takeFlag mark is (keyNames (now (form .entry)) key) (fromRaw s)) r ⌝ }
 {
     let codes = codes_of(form);
     let mut marks = s.marks;
@@ -142,7 +152,7 @@ fn flag_taken(form: &[u8], sheet: &[u8], items: &[u32], s: State, key: Key) -> S
         numbers_of(s),
         key.names.first,
         key.names.count,
-        FIELD,
+        mark,
     );
     let left = taken.numbers;
     changed(yes_no(taken.found), 0, 0, joined(marks, left))
@@ -161,9 +171,9 @@ fn value_answer(value: Value, left: State, s: State) -> StateAnswer
     }
 }
 
-fn arg_taken(form: &[u8], sheet: &[u8], items: &[u32], s: State, key: Key) -> StateAnswer
-    requires { ⌜ HasForm (now form) (now sheet) (now items) s × (key .names .first + key .names .count ≤ nameCount (now form)) ⌝ }
-    ensures { λ r. ⌜ TakeAnswer takenCode (now (sheet .entry)) (now (items .entry)) s (λ is. takeArg parsedMark is (keyNames (now (form .entry)) key) (key .names .adjacent) (fromRaw s)) r ⌝ }
+fn arg_taken(form: &[u8], sheet: &[u8], items: &[u32], s: State, key: Key, mark: u16) -> StateAnswer
+    requires { ⌜ HasForm (now form) (now sheet) (now items) s × (key .names .first + key .names .count ≤ nameCount (now form)) × (parsed mark ≡ true) ⌝ }
+    ensures { λ r. ⌜ TakeAnswer takenCode (now (sheet .entry)) (now (items .entry)) s (λ is. takeArg mark is (keyNames (now (form .entry)) key) (key .names .adjacent) (fromRaw s)) r ⌝ }
 {
     let codes = codes_of(form);
     let mut marks = s.marks;
@@ -175,7 +185,7 @@ fn arg_taken(form: &[u8], sheet: &[u8], items: &[u32], s: State, key: Key) -> St
         &mut marks,
         numbers_of(s),
         key.names,
-        FIELD,
+        mark,
     );
     let left = taken.numbers;
     let value = taken.value;
@@ -183,8 +193,8 @@ fn arg_taken(form: &[u8], sheet: &[u8], items: &[u32], s: State, key: Key) -> St
 }
 
 fn cmd_taken(sheet: &[u8], items: &[u32], s: State, word: &[u8]) -> StateAnswer
-    requires { ⌜ HasState (now sheet) (now items) s ⌝ }
-    ensures { λ r. ⌜ TakeAnswer yesCode (now (sheet .entry)) (now (items .entry)) s (λ is. takeCmd parsedMark is (now (word .entry)) (fromRaw s)) r ⌝ }
+    requires { ⌜ ((fields : ℕ) × HasState fields (now sheet) (now items) s) ⌝ }
+    ensures { λ r. ⌜ TakeAnswer yesCode (now (sheet .entry)) (now (items .entry)) s (λ is. takeCmd commandMark is (now (word .entry)) (fromRaw s)) r ⌝ }
 {
     let mut marks = s.marks;
     let taken = take::take_cmd(sheet, items, &mut marks, numbers_of(s), word, COMMAND);
@@ -217,9 +227,16 @@ pub fn matches_arg(
     matched(form, sheet, items, place, key)
 }
 
-// A flag: the first present item in scope that has one of its names.
-pub fn take_flag(form: &[u8], sheet: &[u8], items: &[u32], s: State, node: usize) -> StateAnswer
-    ensures { λ r. ⌜ stateAnswerOf yesCode (callTakeFlag (now (form .entry)) (now (sheet .entry)) (now (items .entry)) s node) ≡ some r ⌝ }
+// A flag: a field uses the first present item in scope that has one of its names. 28 for no such flag or field.
+pub fn take_flag(
+    form: &[u8],
+    sheet: &[u8],
+    items: &[u32],
+    s: State,
+    node: usize,
+    field: usize,
+) -> StateAnswer
+    ensures { λ r. ⌜ stateAnswerOf yesCode (callTakeFlag (now (form .entry)) (now (sheet .entry)) (now (items .entry)) s node field) ≡ some r ⌝ }
 {
     let checked = given(form, sheet, items, s);
     if checked.number != 0 {
@@ -229,12 +246,22 @@ pub fn take_flag(form: &[u8], sheet: &[u8], items: &[u32], s: State, node: usize
     if key.kind != 1 {
         return unchanged(NOT_THERE, 0, s);
     }
-    flag_taken(form, sheet, items, s, key)
+    if form_layout::field_count(form) <= field {
+        return unchanged(NOT_THERE, 0, s);
+    }
+    flag_taken(form, sheet, items, s, key, field_mark(field))
 }
 
-// An argument: its key, and the value behind it.
-pub fn take_arg(form: &[u8], sheet: &[u8], items: &[u32], s: State, node: usize) -> StateAnswer
-    ensures { λ r. ⌜ stateAnswerOf takenCode (callTakeArg (now (form .entry)) (now (sheet .entry)) (now (items .entry)) s node) ≡ some r ⌝ }
+// An argument: a field uses its key, and the value behind it. 28 for no such argument or field.
+pub fn take_arg(
+    form: &[u8],
+    sheet: &[u8],
+    items: &[u32],
+    s: State,
+    node: usize,
+    field: usize,
+) -> StateAnswer
+    ensures { λ r. ⌜ stateAnswerOf takenCode (callTakeArg (now (form .entry)) (now (sheet .entry)) (now (items .entry)) s node field) ≡ some r ⌝ }
 {
     let checked = given(form, sheet, items, s);
     if checked.number != 0 {
@@ -244,7 +271,10 @@ pub fn take_arg(form: &[u8], sheet: &[u8], items: &[u32], s: State, node: usize)
     if key.kind != 2 {
         return unchanged(NOT_THERE, 0, s);
     }
-    arg_taken(form, sheet, items, s, key)
+    if form_layout::field_count(form) <= field {
+        return unchanged(NOT_THERE, 0, s);
+    }
+    arg_taken(form, sheet, items, s, key, field_mark(field))
 }
 
 // A command: the name of a record, which only the first present item in scope may be.

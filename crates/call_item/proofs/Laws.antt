@@ -13,23 +13,21 @@ use Rattle.utf8.specs.Utf8.{if_then_else_}
 use Rattle.rules.specs.Outcome.{Outcome, ok, refused, fault, refuse, _>>=_}
 use Rattle.rules.specs.Sheet.{sheetArea}
 use Rattle.rules.specs.Split.{Item}
-use Rattle.rules.specs.State.{State, Found, parsed, present, inScope, get, find, remove, withCurrent, conflict}
+use Rattle.rules.specs.State.{State, Found, fieldMark, present, inScope, get, find, remove, withCurrent, conflict}
 use Rattle.rules.specs.Take.{Took, took, Operand as RulesOperand, isOperand, operand, takePositionalWord}
-use Rattle.rules.specs.Run.{parsedMark}
-use Rattle.rules.specs.Calls.{fromRaw, toRaw, stateIn, placeIn, itemFrom, handed, onItems, operandOr20, callGet, callConflict, callTakePositional, callOnlyOnce}
+use Rattle.rules.specs.Calls.{fromRaw, toRaw, stateIn, mostFields, placeIn, markIn, itemFrom, handed, onItems, operandOr20, callGet, callConflict, callTakePositional, callOnlyOnce}
 use Rattle.rules.specs.declared.State.{State as Raw}
 use Rattle.rules.specs.Sound.{Good}
 use Rattle.rules.specs.Codes.{placeOf}
 use Rattle.rules.proofs.Acceptance.{lookup-some}
+use Rattle.rules.proofs.Fields.{field-parsed}
 use Rattle.rules.proofs.StepLaws.{Finds, find-good, free-below}
 use Rattle.rules.proofs.CodeLaws.{place-some}
 use Rattle.split_arg.specs.Items.{recordAt}
 use Rattle.split_arg.specs.declared.Part.{Part}
 use Rattle.state_marks.specs.declared.Numbers.{Numbers}
-use Rattle.state_marks.specs.Lent.{rawOf, numbersOf, stateOf}
+use Rattle.state_marks.specs.Lent.{rawOf, numbersOf, stateOf, FineState}
 use Rattle.state_marks.proofs.Laws.{raw-back, fine-long}
-use Rattle.state_marks.specs.Written.{fieldMark}
-use Rattle.state_marks.proofs.Mark.{field-parsed, field-told}
 use Rattle.state_marks.proofs.Marks.{present-at}
 use Rattle.state_value.specs.Options.{conflictOf}
 use Rattle.state_value.specs.declared.ConflictOption.{ConflictOption}
@@ -42,46 +40,47 @@ use Rattle.take.specs.declared.Operand.the-variants.{Missing, Taken}
 use Rattle.call_table.specs.Given.{Gives, HasState, GivesState}
 use Rattle.call_table.specs.declared.Input.{Input}
 use Rattle.call_table.proofs.Laws.{table-refused, table-given, state-refused, state-given, item-at}
+use Rattle.rules.proofs.GivenLaws.{no-field, field-there}
 use Rattle.call_answers.specs.Answers.{Coded, coded, codedOr0, answerWith, stateWith, answerOf, plainAnswer, stateAnswerOf, yesNo, conflictCode, operandCode, placeOrNone}
 use Rattle.call_item.specs.Calls.{HasPlace, Earlier, freeAt, gotOf, gotWords, Gets, nothingGot}
 
 -- ---- a state that is handed back as it was
 
-pub same-state : (x : Raw) → stateIn (x .count) x ≡ ok (fromRaw x) → length (x .marks) ≡ 256 → toRaw (fromRaw x) ≡ x
+pub same-state : (x : Raw) → stateIn 16 (x .count) x ≡ ok (fromRaw x) → length (x .marks) ≡ 256 → toRaw (fromRaw x) ≡ x
 unfolding stateOf
-same-state x g long = raw-back (x .marks) (numbersOf x) (given-fine (x .count) x g) long
+same-state x g long = raw-back (x .marks) (numbersOf x) (given-fine 16 (x .count) x g) long
 
--- ---- a call on items and a state
+-- ---- a call on items and a state, with the number of fields as the code has it
 
 module _ {A : Type 0} (s words : List ℕ) (x : Raw) (f : List Item → State → Outcome (Took A)) where
-  pub items-refused : (n : ℕ) → GivesState s words x n → (n ≡ 0 → ⊥)
+  pub items-refused : (n : ℕ) → GivesState 16 s words x n → (n ≡ 0 → ⊥)
       → onItems s words x f ≡ ok (record { number = n; place = none; answer = none; state = x })
-  unfolding onItems handed
-  items-refused n g h = ap (handed x) (state-refused s words x f n g h)
+  unfolding onItems mostFields handed
+  items-refused n g h = ap (handed x) (state-refused 16 s words x f n g h)
 
-  pub items-given : (h : HasState s words x) → onItems s words x f ≡ handed x (f (h .table .holds .items) (fromRaw x))
-  unfolding onItems
-  items-given h = ap (handed x) (state-given s words x f h)
+  pub items-given : (h : HasState 16 s words x) → onItems s words x f ≡ handed x (f (h .table .holds .items) (fromRaw x))
+  unfolding onItems mostFields
+  items-given h = ap (handed x) (state-given 16 s words x f h)
 
-  pub answer-refused : (code : A → Coded) (n : ℕ) → GivesState s words x n → (n ≡ 0 → ⊥)
+  pub answer-refused : (code : A → Coded) (n : ℕ) → GivesState 16 s words x n → (n ≡ 0 → ⊥)
       → answerOf code (onItems s words x f) ≡ some (answerWith n 0 (coded 0 0 0))
   unfolding answerOf codedOr0
   answer-refused code n g h = ap (answerOf code) (items-refused n g h)
 
-  pub state-answer-refused : (code : A → Coded) (n : ℕ) → GivesState s words x n → (n ≡ 0 → ⊥)
+  pub state-answer-refused : (code : A → Coded) (n : ℕ) → GivesState 16 s words x n → (n ≡ 0 → ⊥)
       → stateAnswerOf code (onItems s words x f) ≡ some (stateWith n 0 (coded 0 0 0) x)
   unfolding stateAnswerOf codedOr0
   state-answer-refused code n g h = ap (stateAnswerOf code) (items-refused n g h)
 
 -- ---- `conflict`
 
-module _ (s words : List ℕ) (x : Raw) (n : ℕ) (g : GivesState s words x n) where
+module _ (s words : List ℕ) (x : Raw) (n : ℕ) (g : GivesState 16 s words x n) where
   pub conflict-refused : (n ≡ 0 → ⊥) → answerOf conflictCode (callConflict s words x) ≡ some (answerWith n 0 (coded 0 0 0))
   unfolding callConflict
   conflict-refused h = answer-refused s words x _ conflictCode n g h
 
-  pub conflict-ready : n ≡ 0 → stateIn (x .count) x ≡ ok (fromRaw x)
-  conflict-ready e = g .good e .good
+  pub conflict-ready : n ≡ 0 → FineState x
+  conflict-ready e = given-fine 16 (x .count) x (g .good e .good)
 
   pub conflict-told : n ≡ 0 → (c : ConflictOption)
       → ((items : List Item) → length items ≡ x .count → conflict items (fromRaw x) ≡ ok (conflictOf c))
@@ -123,40 +122,52 @@ operand-below k is s a u g e = let f = find-good is isOperand s g in go (f .0) (
         let w : operand y ≡ a = cc in
         subst (λ (b : RulesOperand). b .place < length is) w (free-below (length is) s (y .place) g (h .free))
 
-module _ (s words : List ℕ) (x : Raw) (n : ℕ) (g : GivesState s words x n) where
-  pub positional-refused : (n ≡ 0 → ⊥) → stateAnswerOf operandCode (callTakePositional s words x) ≡ some (stateWith n 0 (coded 0 0 0) x)
+module _ (s words : List ℕ) (x : Raw) (j n : ℕ) (g : GivesState 16 s words x n) where
+  pub positional-refused : (n ≡ 0 → ⊥) → stateAnswerOf operandCode (callTakePositional s words x j) ≡ some (stateWith n 0 (coded 0 0 0) x)
   unfolding callTakePositional
   positional-refused h = state-answer-refused s words x _ operandCode n g h
 
   module _ (e : n ≡ 0) where
-    pub positional-ready : (p : Numbers) → p ≡ numbersOf x → CanTake (sheetArea s) words (x .marks) p fieldMark
-    positional-ready p q =
+    positional-called : (o : Outcome ℕ) → markIn mostFields j ≡ o
+        → callTakePositional s words x j
+        ≡ handed x (o >>= λ mark. takePositionalWord mark (g .good e .table .holds .items) (fromRaw x) >>= operandOr20)
+    unfolding callTakePositional
+    positional-called o d =
+        items-given s words x _ (g .good e)
+        ∙ ap (λ (y : Outcome ℕ). handed x (y >>= λ mark. takePositionalWord mark (g .good e .table .holds .items) (fromRaw x) >>= operandOr20)) d
+
+    pub positional-beyond : 16 ≤ j → stateAnswerOf operandCode (callTakePositional s words x j) ≡ some (stateWith 28 0 (coded 0 0 0) x)
+    unfolding mostFields handed stateAnswerOf codedOr0 _>>=_
+    positional-beyond l = ap (stateAnswerOf operandCode) (positional-called _ (no-field 16 j l))
+
+    pub positional-ready : (k : ℕ) → k ≡ fieldMark j → (p : Numbers) → p ≡ numbersOf x → CanTake (sheetArea s) words (x .marks) p k
+    positional-ready k ek p q =
         let h = g .good e in
         rw q (record {
           items = h .table .holds .items;
           table = h .table .holds .table;
           same = h .table .holds .count;
-          fine = given-fine (x .count) x (h .good);
-          told = field-parsed;
+          fine = given-fine 16 (x .count) x (h .good);
+          told = rw ek (field-parsed j);
         })
 
-    module _ (p : Numbers) (q : p ≡ numbersOf x) (m : List ℕ) (r : Positional) (t : TakesPositional fieldMark (sheetArea s) words (x .marks) p m r) where
+    module _ (l : j < 16) (k : ℕ) (ek : k ≡ fieldMark j) (p : Numbers) (q : p ≡ numbersOf x) (m : List ℕ) (r : Positional)
+        (t : TakesPositional k (sheetArea s) words (x .marks) p m r) where
       -- what the rules take
-      taken : (h : HasState s words x) → takePositionalWord parsedMark (h .table .holds .items) (fromRaw x) ≡ operandOf (sheetArea s) m (r .numbers) (r .operand)
+      taken : (h : HasState 16 s words x) → takePositionalWord k (h .table .holds .items) (fromRaw x) ≡ operandOf (sheetArea s) m (r .numbers) (r .operand)
       unfolding stateOf
       taken h =
-          ap (λ (k : ℕ). takePositionalWord k (h .table .holds .items) (fromRaw x)) (sym field-told)
-          ∙ sym (ap (λ (y : Numbers). takePositionalWord fieldMark (h .table .holds .items) (stateOf (x .marks) y)) q)
+          sym (ap (λ (y : Numbers). takePositionalWord k (h .table .holds .items) (stateOf (x .marks) y)) q)
           ∙ t .same (h .table .holds .items) (h .table .holds .table, h .table .holds .count ∙ ap (λ (y : Numbers). y .count) (sym q))
 
       handed-back : (o : Outcome (Took (Option RulesOperand))) → operandOf (sheetArea s) m (r .numbers) (r .operand) ≡ o
-          → callTakePositional s words x ≡ handed x (o >>= operandOr20)
-      unfolding callTakePositional
+          → callTakePositional s words x j ≡ handed x (o >>= operandOr20)
+      unfolding mostFields _>>=_
       handed-back o d =
           let h = g .good e in
-          items-given s words x _ h ∙ ap (λ (y : Outcome (Took (Option RulesOperand))). handed x (y >>= operandOr20)) (taken h ∙ d)
+          positional-called (ok k) (field-there 16 j l ∙ ap ok (sym ek)) ∙ ap (λ (y : Outcome (Took (Option RulesOperand))). handed x (y >>= operandOr20)) (taken h ∙ d)
 
-      pub positional-missing : r .operand ≡ Missing → stateAnswerOf operandCode (callTakePositional s words x) ≡ some (stateWith 20 0 (coded 0 0 0) x)
+      pub positional-missing : r .operand ≡ Missing → stateAnswerOf operandCode (callTakePositional s words x j) ≡ some (stateWith 20 0 (coded 0 0 0) x)
       unfolding handed operandOr20 took stateAnswerOf codedOr0 _>>=_
       positional-missing d = ap (stateAnswerOf operandCode) (handed-back _ (ap (operandOf (sheetArea s) m (r .numbers)) d))
 
@@ -165,17 +176,17 @@ module _ (s words : List ℕ) (x : Raw) (n : ℕ) (g : GivesState s words x n) w
         unfolding stateOf
         positional-below =
             let h = g .good e in
-            let f = given-fine (x .count) x (h .good) in
+            let f = given-fine 16 (x .count) x (h .good) in
             let o = h .table .holds .count in
-            let k = operand-below parsedMark (h .table .holds .items) (fromRaw x) (record { place = i; strict = strict; text = partBytes (sheetArea s) part })
+            let w = operand-below k (h .table .holds .items) (fromRaw x) (record { place = i; strict = strict; text = partBytes (sheetArea s) part })
             (stateOf m (r .numbers)) (good h) (taken h ∙ ap (operandOf (sheetArea s) m (r .numbers)) d) in
             omega (arith, f .small)
           where
-            good : (h : HasState s words x) → Good (length (h .table .holds .items)) (fromRaw x)
-            good h = subst (λ (l : ℕ). Good l (fromRaw x)) (sym (h .table .holds .count)) (given-fine (x .count) x (h .good) .good)
+            good : (h : HasState 16 s words x) → Good (length (h .table .holds .items)) (fromRaw x)
+            good h = subst (λ (l : ℕ). Good l (fromRaw x)) (sym (h .table .holds .count)) (given-fine 16 (x .count) x (h .good) .good)
 
         pub positional-taken : length (x .marks) ≡ 256 → (u : Raw) → u ≡ rawOf m (r .numbers) → (b : ℕ) → b ≡ yesNo strict
-            → stateAnswerOf operandCode (callTakePositional s words x)
+            → stateAnswerOf operandCode (callTakePositional s words x j)
             ≡ some (record { number = 0; place = 0; found = 1; first = i; second = b; state = u })
         unfolding handed operandOr20 took stateAnswerOf codedOr0 _>>=_
         positional-taken long u eu b eb =
@@ -267,21 +278,21 @@ record-list l i h =
     )
 
 -- the code's test is that of the rules
-free-get : (x : Raw) (is : List Item) (i : ℕ) → stateIn (x .count) x ≡ ok (fromRaw x) → i < x .count
+free-get : (x : Raw) (is : List Item) (i : ℕ) → stateIn 16 (x .count) x ≡ ok (fromRaw x) → i < x .count
     → get is (fromRaw x) i ≡ (if freeAt x i then getElem? is i else none)
 unfolding get inScope fromRaw freeAt
 free-get x is i g h =
-    let f = given-fine (x .count) x g in
+    let f = given-fine 16 (x .count) x g in
     let l : x .count ≤ length (x .marks) = fine-long (x .marks) (numbersOf x) f in
     rw (present-at (take (x .count) (x .marks)) i (omega (arith, length-take-le (x .count) (x .marks) l)), getD-take (x .count) (x .marks) i 0 h)
 
 -- the scope of a good state
-pub scope-small : (s words : List ℕ) (x : Raw) (n : ℕ) → GivesState s words x n → n ≡ 0 → x .end ≤ 256
+pub scope-small : (s words : List ℕ) (x : Raw) (n : ℕ) → GivesState 16 s words x n → n ≡ 0 → x .end ≤ 256
 scope-small s words x n g e =
-    let f = given-fine (x .count) x (g .good e .good) in
+    let f = given-fine 16 (x .count) x (g .good e .good) in
     omega (arith, f .inside, f .small)
 
-module _ (s words : List ℕ) (x : Raw) (i n : ℕ) (g : GivesState s words x n) where
+module _ (s words : List ℕ) (x : Raw) (i n : ℕ) (g : GivesState 16 s words x n) where
   pub get-refused : (n ≡ 0 → ⊥) → Gets s words x i (nothingGot n)
   unfolding callGet gotOf gotWords placeOf if_then_else_
   get-refused h = record {

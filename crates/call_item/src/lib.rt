@@ -1,4 +1,5 @@
-// The entry points on items, a state and a place. None asks anything of its input.
+// The entry points on items, a state and a place. None asks anything of its input: what is not well made is refused under its
+// number, a state that is not good, where there may be 16 fields, with 29, then a place or field that is not there with 28.
 ghost use mathlib.Core.Path.{_≡_};
 ghost use mathlib.Core.List.{List};
 ghost use mathlib.Core.Option.{some};
@@ -25,7 +26,8 @@ use call_answers::yes_no;
 use rules::State;
 use split_arg::Item;
 use split_arg::Part;
-use state_marks::FIELD;
+use state_marks::MOST_FIELDS;
+use state_marks::field_mark;
 use state_marks::is_present;
 use state_marks::joined;
 use state_marks::numbers_of;
@@ -45,7 +47,7 @@ pub struct Got {
 pub fn conflict(sheet: &[u8], items: &[u32], s: State) -> Answer
     ensures { λ r. ⌜ answerOf conflictCode (callConflict (now (sheet .entry)) (now (items .entry)) s) ≡ some r ⌝ }
 {
-    let number = call_table::given_state(sheet, items, s);
+    let number = call_table::given_state(sheet, items, s, MOST_FIELDS);
     if number != 0 {
         return refused(number, 0);
     }
@@ -56,16 +58,19 @@ pub fn conflict(sheet: &[u8], items: &[u32], s: State) -> Answer
     }
 }
 
-// A positional: the first present Word or PosWord in scope; 20 if there is none.
-pub fn take_positional_word(sheet: &[u8], items: &[u32], s: State) -> StateAnswer
-    ensures { λ r. ⌜ stateAnswerOf operandCode (callTakePositional (now (sheet .entry)) (now (items .entry)) s) ≡ some r ⌝ }
+// A positional: a field uses the first present Word or PosWord in scope. 28 for no such field; 20 if there is no such word.
+pub fn take_positional_word(sheet: &[u8], items: &[u32], s: State, field: usize) -> StateAnswer
+    ensures { λ r. ⌜ stateAnswerOf operandCode (callTakePositional (now (sheet .entry)) (now (items .entry)) s field) ≡ some r ⌝ }
 {
-    let number = call_table::given_state(sheet, items, s);
+    let number = call_table::given_state(sheet, items, s, MOST_FIELDS);
     if number != 0 {
         return unchanged(number, 0, s);
     }
+    if MOST_FIELDS <= field {
+        return unchanged(NOT_THERE, 0, s);
+    }
     let mut marks = s.marks;
-    let taken = take::take_positional_word(items, &mut marks, numbers_of(s), FIELD);
+    let taken = take::take_positional_word(items, &mut marks, numbers_of(s), field_mark(field));
     let operand = taken.operand;
     let Operand::Taken(place, strict, _) = operand else {
         return unchanged(MISSING, 0, s);
@@ -200,7 +205,7 @@ fn is_free(s: State, i: usize) -> bool
 pub fn get(sheet: &[u8], items: &[u32], s: State, place: usize) -> Got
     ensures { λ r. ⌜ Gets (now (sheet .entry)) (now (items .entry)) s place r ⌝ }
 {
-    let number = call_table::given_state(sheet, items, s);
+    let number = call_table::given_state(sheet, items, s, MOST_FIELDS);
     if number != 0 {
         return nothing(number);
     }

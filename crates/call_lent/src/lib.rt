@@ -22,20 +22,27 @@ fn answer_of(a: StateAnswer) -> Answer
     }
 }
 
-// A place in scope that is present becomes used, and the current one.
-pub fn remove(s: &mut State, place: usize) -> Answer
-    ensures { λ r. ⌜ stateAnswerOf yesCode (callRemove (now (s .entry)) place) ≡ some (joined r (now (s .exit))) ⌝ }
+// A place in scope that is present becomes used by a field, and the current one. 28 for no such place or field.
+pub fn remove(s: &mut State, place: usize, field: usize) -> Answer
+    ensures { λ r. ⌜ stateAnswerOf yesCode (callRemove (now (s .entry)) place field) ≡ some (joined r (now (s .exit))) ⌝ }
 {
-    let removed = call_state::remove(*s, place);
+    let removed = call_state::remove(*s, place, field);
     *s = removed.state;
     answer_of(removed)
 }
 
-// A flag: the first present item in scope that has one of its names.
-pub fn take_flag(s: &mut State, form: &[u8], sheet: &[u8], items: &[u32], node: usize) -> Answer
-    ensures { λ r. ⌜ stateAnswerOf yesCode (callTakeFlag (now (form .entry)) (now (sheet .entry)) (now (items .entry)) (now (s .entry)) node) ≡ some (joined r (now (s .exit))) ⌝ }
+// A flag: a field uses the first present item in scope that has one of its names. 28 for no such flag or field.
+pub fn take_flag(
+    s: &mut State,
+    form: &[u8],
+    sheet: &[u8],
+    items: &[u32],
+    node: usize,
+    field: usize,
+) -> Answer
+    ensures { λ r. ⌜ stateAnswerOf yesCode (callTakeFlag (now (form .entry)) (now (sheet .entry)) (now (items .entry)) (now (s .entry)) node field) ≡ some (joined r (now (s .exit))) ⌝ }
 {
-    let taken = call_form::take_flag(form, sheet, items, *s, node);
+    let taken = call_form::take_flag(form, sheet, items, *s, node, field);
     *s = taken.state;
     answer_of(taken)
 }

@@ -1,4 +1,5 @@
 -- What is handed back: a refusal that changes nothing, or the words of the value in an answer slice that was all 0.
+use mathlib.Core.Bool.{true}
 use mathlib.Core.List.{List, [], _++_, append-nil}
 use mathlib.Core.Option.{Option, some, Option·some-injective, Option·none-ne-some}
 use mathlib.Core.Path.{_≡_, refl, sym, ap, subst, _∙_}
@@ -11,14 +12,15 @@ use borrow.Author.Tests.{eq-eqb, ne-eqb}
 use Rattle.rules.specs.Base.{_>>?_}
 use Rattle.rules.specs.Outcome.{Outcome, ok, refused, fault, MissingItem, listWords, isMissing}
 use Rattle.rules.specs.Value.{Value, words}
-use Rattle.rules.specs.Form.{nameCount}
+use Rattle.rules.specs.Form.{nameCount, fieldCount, readForm}
+use Rattle.rules.specs.Accept.{lengthGood, fieldOf}
 use Rattle.rules.specs.Sheet.{sheetArea, sheetFault}
 use Rattle.rules.specs.Tree.{Tree}
 use Rattle.rules.specs.Split.{Item}
 use Rattle.rules.specs.State.{State, parsed}
 use Rattle.rules.specs.Codes.{placeCode}
 use Rattle.rules.specs.Eval.{Ran as Run, eval}
-use Rattle.rules.specs.Run.{padded, parsedMark}
+use Rattle.rules.specs.Run.{padded}
 use Rattle.rules.specs.Missing.{lacking}
 use Rattle.rules.specs.Calls.{itemsIn, fromRaw, toRaw, evaluatedWith, evaluated, unchanged, callEval}
 use Rattle.rules.specs.declared.Refused.{Refused}
@@ -31,7 +33,7 @@ use Rattle.form_layout.proofs.Sizes.{sized}
 use Rattle.state_marks.specs.declared.Numbers.{Numbers}
 use Rattle.state_marks.specs.Lent.{rawOf, numbersOf, stateOf}
 use Rattle.state_marks.proofs.Laws.{raw-back, in-kept, kept-fine}
-use Rattle.state_marks.proofs.Mark.{field-parsed}
+use Rattle.rules.proofs.Fields.{field-parsed}
 use Rattle.form_layout.specs.Layout.{GoodNames}
 use Rattle.form_codes.specs.Codes.{CodedNames}
 use Rattle.take_table.specs.Known.{Matchable, Known}
@@ -44,7 +46,7 @@ use Rattle.eval_told.proofs.NodeLaw.{at-tree}
 use Rattle.eval_list.specs.Lists.{Writes}
 use Rattle.eval_missing.specs.Missing.{Listing, Lists}
 use Rattle.run_fields.specs.Line.{FieldReady}
-use Rattle.call_node.specs.Node.{Answered, evaluatedAnswer, unchangedBy, answerOf, Admitted, Admits, ClearedAnswers, Runs}
+use Rattle.call_node.specs.Node.{Answered, evaluatedAnswer, unchangedBy, answerOf, Admitted, Admits, ClearedAnswers, nodeMark, Runs}
 use Rattle.run_fields.specs.declared.RunAnswer.{RunAnswer}
 use Rattle.call_node.proofs.Leaves.{few-leaves}
 use Rattle.call_node.proofs.Tests.{admitted-runs}
@@ -94,7 +96,10 @@ cleared-holds b s words o l x k c n e = rw e (c .input .holds)
 
 -- a state has a mark for each of its items
 pub cleared-few : (b s words o l : List ℕ) (x : Raw) (k : ℕ) → ClearedAnswers b s words o l x k → (n : ℕ) → n ≡ x .count → n ≤ 256
-cleared-few b s words o l x k c n e = omega (arith, in-kept (x .count) x (c .input .good) .small)
+cleared-few b s words o l x k c n e = omega (arith, in-kept (fieldCount b) (x .count) x (c .input .good) .small)
+
+pub cleared-long : (b s words o l : List ℕ) (x : Raw) (k : ℕ) → ClearedAnswers b s words o l x k → lengthGood b ≡ true
+cleared-long b s words o l x k c = accepted-length b (c .input .result) (c .input .accepts)
 
 pub cleared-made : (b s words o l : List ℕ) (x : Raw) (k : ℕ) → ClearedAnswers b s words o l x k → sheetFault s ≡ 0
 cleared-made b s words o l x k c = c .input .made
@@ -162,8 +167,8 @@ told-handed na nl r x e = go (r .outcome) refl
     go (refused d) h = rw (h, evaluated, lost) (ap (λ (y : Option Told). y >>? λ z. some (handed na nl (d .missing) z)) (rw (h, told) at e))
     go (fault d) h = absurd (Option·none-ne-some x (rw (h, told) at e))
 
-module _ (b s words o l : List ℕ) (x : Raw) (k : ℕ) (c : ClearedAnswers b s words o l x k) (p : Numbers) (ep : p ≡ numbersOf x) where
-  pub node-stands : (n : ℕ) → n ≡ x .count → (known : List ℕ) → Known b (sheetArea s) words n known → FieldReady b known s words (x .marks) p (record { node = k; at = 0; mark = 1 }) o
+module _ (b s words o l : List ℕ) (x : Raw) (k : ℕ) (c : ClearedAnswers b s words o l x k) (p : Numbers) (ep : p ≡ numbersOf x) (mark : ℕ) (em : mark ≡ nodeMark b k) where
+  pub node-stands : (n : ℕ) → n ≡ x .count → (known : List ℕ) → Known b (sheetArea s) words n known → FieldReady b known s words (x .marks) p (record { node = k; at = 0; mark = mark }) o
   node-stands n same known w =
       let i = c .input in
       let stands : getElem? (i .result .trees) k ≡ some (i .tree) = sym (at-tree b (i .result) (i .accepts) k) ∙ i .node in
@@ -178,8 +183,8 @@ module _ (b s words o l : List ℕ) (x : Raw) (k : ℕ) (c : ClearedAnswers b s 
             items = i .holds .items;
             table = i .holds .table;
             same = i .holds .count;
-            fine = kept-fine (x .count) x (in-kept (x .count) x (i .good));
-            told = field-parsed;
+            fine = kept-fine (fieldCount b) (x .count) x (in-kept (fieldCount b) (x .count) x (i .good));
+            told = rw em (field-parsed (fieldOf (readForm b) k));
           };
           knows = subst (λ (l : ℕ). Known b (sheetArea s) words l known) (same ∙ sym (i .holds .count)) w;
         };
@@ -187,7 +192,7 @@ module _ (b s words o l : List ℕ) (x : Raw) (k : ℕ) (c : ClearedAnswers b s 
       })
 
   -- the items of the words, and what is told of their evaluation
-  module _ (m o′ : List ℕ) (ran : Ran) (writes : (t : Tree) → treeAt b k ≡ some t → Writes 1 (sheetArea s) words t (x .marks) p m o 0 o′ ran) where
+  module _ (m o′ : List ℕ) (ran : Ran) (writes : (t : Tree) → treeAt b k ≡ some t → Writes mark (sheetArea s) words t (x .marks) p m o 0 o′ ran) where
     over : (is : List Item) → itemsIn (sheetArea s) words ≡ ok is → states.Items (sheetArea s) words p is
     over is read =
         let i = c .input in
@@ -195,7 +200,7 @@ module _ (b s words o l : List ℕ) (x : Raw) (k : ℕ) (c : ClearedAnswers b s 
         subst (states.Items (sheetArea s) words p) same (rw ep (i .holds .table, i .holds .count))
 
     says : (is : List Item) (t : Tree) → states.Items (sheetArea s) words p is → (node : treeAt b k ≡ some t)
-        → told (eval 1 is t (fromRaw x)) ≡ some (toldWith ran m (writes t node .value))
+        → told (eval mark is t (fromRaw x)) ≡ some (toldWith ran m (writes t node .value))
     unfolding stateOf
     says is t h node = rw ep at (writes t node .same is h)
 
@@ -205,23 +210,22 @@ module _ (b s words o l : List ℕ) (x : Raw) (k : ℕ) (c : ClearedAnswers b s 
           (l′ : List ℕ) (r : RunAnswer)
           → r ≡ answerOf ran m
           → ((is : List Item) (t : Tree) → itemsIn (sheetArea s) words ≡ ok is → treeAt b k ≡ some t
-          → padded (length l) (listWords (lost (eval 1 is t (fromRaw x)))) ≡ l′)
+          → padded (length l) (listWords (lost (eval mark is t (fromRaw x)))) ≡ l′)
           → Runs b s words (length o) (length l) x k o′ l′ r
-      unfolding parsedMark
       runs-with l′ r e lists is t read node =
           let w = writes t node in
           let room = c .input .room in
           let fits = w .fits in
           let state : toRaw (stateOf m (ran .numbers)) ≡ rawOf m (ran .numbers) = raw-back m (ran .numbers) (w .left .fine) (w .left .long ∙ long) in
           let put : padded (length o) (w .value) ≡ o′ = sym (sets-zeros (w .value) (length o) (omega arith)) ∙ ap (λ (l : List ℕ). sets l 0 (w .value)) (sym (c .zeros)) ∙ sym (w .put) in
-          told-handed (length o) (length l) (eval 1 is t (fromRaw x)) (toldWith ran m (w .value)) (says is t (over is read) node)
-          ∙ rw (state, put, lists is t read node, ← w .len, e)
+          rw (← em) (told-handed (length o) (length l) (eval mark is t (fromRaw x)) (toldWith ran m (w .value)) (says is t (over is read) node)
+          ∙ rw (state, put, lists is t read node, ← w .len, e))
 
       -- not refused with 20: the list stays all 0
       pub node-runs : (r : RunAnswer) → (ran .number ≡ 20 → ⊥) → r ≡ answerOf ran m → Runs b s words (length o) (length l) x k o′ l r
       node-runs r h e =
           runs-with l r e (λ is t read node.
-          no-entries-listed (length l) _ (lost-nothing 1 is t (fromRaw x) (toldWith ran m (writes t node .value)) (says is t (over is read) node) h)
+          no-entries-listed (length l) _ (lost-nothing mark is t (fromRaw x) (toldWith ran m (writes t node .value)) (says is t (over is read) node) h)
           ∙ sym (c .unlisted))
 
     -- refused with 20: what the node lacks in the state that is left
@@ -231,7 +235,7 @@ module _ (b s words o l : List ℕ) (x : Raw) (k : ℕ) (c : ClearedAnswers b s 
           → n ≡ x .count
           → (known : List ℕ)
           → Known b (sheetArea s) words n known
-          → Listing b known s words m (ran .numbers) 1 k l
+          → Listing b known s words m (ran .numbers) mark k l
       missing-stands n same known w =
           let f = node-stands n same known w .stands in
           let left = writes (f .tree) (f .node) .left in
@@ -250,7 +254,7 @@ module _ (b s words o l : List ℕ) (x : Raw) (k : ℕ) (c : ClearedAnswers b s 
       pub missing-runs :
           length (x .marks) ≡ 256
           → (l′ : List ℕ) (stop : ℕ)
-          → ((t : Tree) → treeAt b k ≡ some t → Lists 1 (sheetArea s) words t m (ran .numbers) 0 l l′ stop)
+          → ((t : Tree) → treeAt b k ≡ some t → Lists mark (sheetArea s) words t m (ran .numbers) 0 l l′ stop)
           → (r : RunAnswer)
           → r ≡ answerOf ran m
           → Runs b s words (length o) (length l) x k o′ l′ r
@@ -259,8 +263,8 @@ module _ (b s words o l : List ℕ) (x : Raw) (k : ℕ) (c : ClearedAnswers b s 
           let w = writes t node in
           let y = lists t node in
           let here : states.Items (sheetArea s) words (ran .numbers) is = (over is read .0, over is read .1 ∙ sym (w .left .count)) in
-          let same : listWords (lost (eval 1 is t (fromRaw x))) ≡ y .entries =
-          ap listWords (lost-missing 1 is t (fromRaw x) (toldWith ran m (w .value)) (says is t (over is read) node) h) ∙ y .same is here in
+          let same : listWords (lost (eval mark is t (fromRaw x))) ≡ y .entries =
+          ap listWords (lost-missing mark is t (fromRaw x) (toldWith ran m (w .value)) (says is t (over is read) node) h) ∙ y .same is here in
           let room = c .input .entries in
           let few = y .few in
           let light = few-leaves b (c .input .result) (c .input .accepts) k t (sym (at-tree b (c .input .result) (c .input .accepts) k) ∙ node) in

@@ -9,16 +9,16 @@ use lib.ListN.{length, getElem?}
 use borrow.Author.Tests.{eq-eqb, ne-eqb, le-leb, lt-leb, not-true, not-false}
 use Rattle.utf8.specs.Utf8.{if_then_else_}
 use Rattle.rules.specs.Outcome.{ok, refused, _>>=_, refuse}
-use Rattle.rules.specs.Form.{Form, nodeCount}
+use Rattle.rules.specs.Form.{Form, nodeCount, fieldCount}
 use Rattle.rules.specs.Sheet.{sheetArea, sheetFault}
 use Rattle.rules.specs.Accept.{Checked, accepted, refusedAt, Accepted, checkForm}
 use Rattle.rules.specs.Codes.{checkCode, placeOf}
 use Rattle.rules.specs.Eval.{eval}
-use Rattle.rules.specs.Run.{parsedMark}
 use Rattle.rules.specs.Given.{roomIn, listRoomIn}
 use Rattle.rules.specs.Calls.{formIn, sheetIn, sliceIn, stateIn, fromRaw, asked, evalIn}
 use Rattle.rules.specs.declared.Refused.{Refused}
 use Rattle.rules.specs.declared.State.{State as Raw}
+use Rattle.run_fields.proofs.Fields.{field-count}
 use Rattle.rules.proofs.Acceptance.{lookup-some, accepted-form, accepted-trees, accepted-length}
 use Rattle.rules.proofs.WellMadeLaws.{check-numbers}
 use Rattle.rules.proofs.CodeLaws.{place-code}
@@ -28,7 +28,7 @@ use Rattle.state_marks.proofs.Laws.{in-kept}
 use Rattle.eval_told.proofs.NodeLaw.{at-tree}
 use Rattle.call_table.specs.Given.{Holds, Checks}
 use Rattle.call_table.specs.declared.Checked as table
-use Rattle.call_node.specs.Node.{Admitted, Admits}
+use Rattle.call_node.specs.Node.{Admitted, Admits, nodeMark}
 
 past : {A : Type 0} (l : List A) (k : ℕ) → length l ≤ k → getElem? l k ≡ none
 past [] k h = refl
@@ -111,66 +111,71 @@ module _ (b s words o l : List ℕ) (x : Raw) (k : ℕ) where
               refusing 30 q g (λ i. omega arith)
               (rw (y, formIn, eq-eqb (sheetFault s) 0 (sym ef ∙ zf), le-leb 1792 (length words) long, le-leb 8240 (length o) room, le-leb 192 (length l) listable, says .bad (not-true (c .good) h)))
 
-          module _ (well : not (c .good) ≡ false) (t : Bool) (said : stateIn (c .count) x ≡ (if t then ok (fromRaw x) else refused (refuse 29 none))) where
-            holds : Holds (sheetArea s) words (c .count)
-            holds = says .good (not-false (c .good) well)
+          module _
+              (well : not (c .good) ≡ false) (u : ℕ) (eu : u ≡ fieldCount b) (t : Bool)
+              (said : stateIn u (c .count) x ≡ (if t then ok (fromRaw x) else refused (refuse 29 none)))
+            where
+              holds : Holds (sheetArea s) words (c .count)
+              holds = says .good (not-false (c .good) well)
 
-            -- 29
-            pub state-refused : not t ≡ true → (q : Refused) → q ≡ record { number = 29; place = 0 } → Admits b s words o l x k q
-            unfolding evalIn formIn sheetIn sliceIn roomIn listRoomIn _>>=_ if_then_else_
-            state-refused h q g =
-                let (a, y) = check-accepted b r e z in
-                let bad : stateIn (c .count) x ≡ refused (refuse 29 none) = said ∙ rw (not-true t h) in
-                refusing 29 q g (λ i. omega arith)
-                (rw (y, formIn, eq-eqb (sheetFault s) 0 (sym ef ∙ zf), le-leb 1792 (length words) long, le-leb 8240 (length o) room, le-leb 192 (length l) listable, holds .read, holds .count, bad))
-
-            module _ (fine : not t ≡ false) (n : ℕ) (en : n ≡ nodeCount b) where
-              good : stateIn (c .count) x ≡ ok (fromRaw x)
-              unfolding if_then_else_
-              good = said ∙ rw (not-false t fine)
-
-              -- 28
-              pub node-refused : n ≤ k → (q : Refused) → q ≡ record { number = 28; place = 0 } → Admits b s words o l x k q
-              unfolding evalIn formIn sheetIn sliceIn roomIn listRoomIn asked _>>=_ if_then_else_
-              node-refused h q g =
+              -- 29
+              pub state-refused : not t ≡ true → (q : Refused) → q ≡ record { number = 29; place = 0 } → Admits b s words o l x k q
+              unfolding evalIn formIn sheetIn sliceIn roomIn listRoomIn _>>=_ if_then_else_
+              state-refused h q g =
                   let (a, y) = check-accepted b r e z in
-                  let all : length (a .trees) ≡ nodeCount b = accepted-trees b a y ∙ ap (λ (f : Form). length (f .nodes)) (accepted-form b a y) ∙ nodes-length b in
-                  let none : getElem? (a .trees) k ≡ none = past (a .trees) k (omega arith) in
-                  let wide = le-leb 1792 (length words) long in
-                  let enough = le-leb 8240 (length o) room in
-                  refusing 28 q g (λ i. omega arith)
-                  (rw (y, formIn, eq-eqb (sheetFault s) 0 (sym ef ∙ zf), wide, enough, le-leb 192 (length l) listable, holds .read, holds .count, good, none))
+                  let bad : stateIn (length (a .fields)) (c .count) x ≡ refused (refuse 29 none) = rw (field-count b a y, ← eu) (said ∙ rw (not-true t h)) in
+                  refusing 29 q g (λ i. omega arith)
+                  (rw (y, formIn, eq-eqb (sheetFault s) 0 (sym ef ∙ zf), le-leb 1792 (length words) long, le-leb 8240 (length o) room, le-leb 192 (length l) listable, holds .read, holds .count, bad))
 
-              pub all-passed : k < n → (q : Refused) → q ≡ record { number = 0; place = 0 } → Admits b s words o l x k q
-              all-passed h q g =
-                  let (a, y) = check-accepted b r e z in
-                  let all : length (a .trees) ≡ nodeCount b = accepted-trees b a y ∙ ap (λ (f : Form). length (f .nodes)) (accepted-form b a y) ∙ nodes-length b in
-                  let (u, v) = lookup-some (a .trees) k (omega arith) in
-                  let same : c .count ≡ x .count = sym (in-kept (c .count) x good .count) in
-                  rw g (record {
-                    good = λ _. record {
-                      result = a;
-                      accepts = y;
-                      made = sym ef ∙ zf;
-                      wide = long;
-                      room = room;
-                      entries = listable;
-                      holds = subst (Holds (sheetArea s) words) same holds;
-                      good = subst (λ (m : ℕ). stateIn m x ≡ ok (fromRaw x)) same good;
-                      tree = u;
-                      node = at-tree b a y k ∙ v;
-                    };
-                    bad = λ i. absurd (i refl);
-                  })
+              module _ (fine : not t ≡ false) (n : ℕ) (en : n ≡ nodeCount b) where
+                good : stateIn (fieldCount b) (c .count) x ≡ ok (fromRaw x)
+                unfolding if_then_else_
+                good = rw (← eu) (said ∙ rw (not-false t fine))
+
+                -- 28
+                pub node-refused : n ≤ k → (q : Refused) → q ≡ record { number = 28; place = 0 } → Admits b s words o l x k q
+                unfolding evalIn formIn sheetIn sliceIn roomIn listRoomIn asked _>>=_ if_then_else_
+                node-refused h q g =
+                    let (a, y) = check-accepted b r e z in
+                    let all : length (a .trees) ≡ nodeCount b = accepted-trees b a y ∙ ap (λ (f : Form). length (f .nodes)) (accepted-form b a y) ∙ nodes-length b in
+                    let none : getElem? (a .trees) k ≡ none = past (a .trees) k (omega arith) in
+                    let wide = le-leb 1792 (length words) long in
+                    let enough = le-leb 8240 (length o) room in
+                    refusing 28 q g (λ i. omega arith)
+                    (rw (y, formIn, eq-eqb (sheetFault s) 0 (sym ef ∙ zf), wide, enough, le-leb 192 (length l) listable, holds .read, holds .count, field-count b a y, good, none))
+
+                pub all-passed : k < n → (q : Refused) → q ≡ record { number = 0; place = 0 } → Admits b s words o l x k q
+                all-passed h q g =
+                    let (a, y) = check-accepted b r e z in
+                    let all : length (a .trees) ≡ nodeCount b = accepted-trees b a y ∙ ap (λ (f : Form). length (f .nodes)) (accepted-form b a y) ∙ nodes-length b in
+                    let (u, v) = lookup-some (a .trees) k (omega arith) in
+                    let same : c .count ≡ x .count = sym (in-kept (fieldCount b) (c .count) x good .count) in
+                    rw g (record {
+                      good = λ _. record {
+                        result = a;
+                        accepts = y;
+                        made = sym ef ∙ zf;
+                        wide = long;
+                        room = room;
+                        entries = listable;
+                        holds = subst (Holds (sheetArea s) words) same holds;
+                        good = subst (λ (m : ℕ). stateIn (fieldCount b) m x ≡ ok (fromRaw x)) same good;
+                        tree = u;
+                        node = at-tree b a y k ∙ v;
+                      };
+                      bad = λ i. absurd (i refl);
+                    })
 
 -- with every test passed the node is evaluated
 pub admitted-runs :
     (b s words o l : List ℕ) (x : Raw) (k : ℕ) (i : Admitted b s words (length o) (length l) x k)
-    → evalIn b s words o l x k ≡ ok (eval parsedMark (i .holds .items) (i .tree) (fromRaw x))
+    → evalIn b s words o l x k ≡ ok (eval (nodeMark b k) (i .holds .items) (i .tree) (fromRaw x))
 unfolding evalIn formIn sheetIn sliceIn roomIn listRoomIn asked _>>=_ if_then_else_
 admitted-runs b s words o l x k i =
     let stands : getElem? (i .result .trees) k ≡ some (i .tree) = sym (at-tree b (i .result) (i .accepts) k) ∙ i .node in
     let wide = le-leb 1792 (length words) (i .wide) in
     let enough = le-leb 8240 (length o) (i .room) in
     let listable = le-leb 192 (length l) (i .entries) in
-    rw (i .accepts, formIn, eq-eqb (sheetFault s) 0 (i .made), wide, enough, listable, i .holds .read, i .holds .count, i .good, stands)
+    let fields = field-count b (i .result) (i .accepts) in
+    let form = accepted-form b (i .result) (i .accepts) in
+    rw (i .accepts, formIn, eq-eqb (sheetFault s) 0 (i .made), wide, enough, listable, i .holds .read, i .holds .count, fields, i .good, stands, form)

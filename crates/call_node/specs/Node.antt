@@ -7,11 +7,12 @@ use lib.ListN.{length, replicate}
 use Rattle.rules.specs.Outcome.{Outcome, ok, refused, fault}
 use Rattle.rules.specs.Codes.{placeCode}
 use Rattle.rules.specs.Sheet.{sheetArea, sheetFault}
+use Rattle.rules.specs.Form.{fieldCount, readForm}
 use Rattle.rules.specs.Tree.{Tree}
-use Rattle.rules.specs.Accept.{Accepted, accepted, checkForm}
+use Rattle.rules.specs.Accept.{Accepted, accepted, fieldOf, checkForm}
 use Rattle.rules.specs.Split.{Item}
 use Rattle.rules.specs.Eval.{eval}
-use Rattle.rules.specs.Run.{parsedMark}
+use Rattle.rules.specs.State.{fieldMark}
 use Rattle.rules.specs.Calls.{Evaluated, fromRaw, itemsIn, stateIn, evalIn, evaluated}
 use Rattle.rules.specs.declared.Refused.{Refused}
 use Rattle.rules.specs.declared.State.{State as Raw}
@@ -67,7 +68,7 @@ pub record Admitted (b s words : List ℕ) (na nl : ℕ) (x : Raw) (k : ℕ) : T
   pub room : 8240 ≤ na
   pub entries : 192 ≤ nl
   pub holds : Holds (sheetArea s) words (x .count)
-  pub good : stateIn (x .count) x ≡ ok (fromRaw x)
+  pub good : stateIn (fieldCount b) (x .count) x ≡ ok (fromRaw x)
   pub tree : Tree
   pub node : treeAt b k ≡ some tree
 
@@ -82,8 +83,12 @@ pub record ClearedAnswers (b s words o l : List ℕ) (x : Raw) (k : ℕ) : Type 
   pub zeros : o ≡ replicate (length o) 0
   pub unlisted : l ≡ replicate (length l) 0
 
+-- the mark of what node k uses
+abbrev pub nodeMark : List ℕ → ℕ → ℕ
+nodeMark b k = fieldMark (fieldOf (readForm b) k)
+
 -- ---- the run, for the items of the words and the node's tree
 abbrev pub Runs : List ℕ → List ℕ → List ℕ → ℕ → ℕ → Raw → ℕ → List ℕ → List ℕ → RunAnswer → Type 0
 Runs b s words na nl x k o′ l′ r =
     (is : List Item) (t : Tree) → itemsIn (sheetArea s) words ≡ ok is → treeAt b k ≡ some t
-    → evaluatedAnswer (evaluated na nl (eval parsedMark is t (fromRaw x))) ≡ some (record { answer = r; answers = o′; list = l′ })
+    → evaluatedAnswer (evaluated na nl (eval (nodeMark b k) is t (fromRaw x))) ≡ some (record { answer = r; answers = o′; list = l′ })

@@ -1,9 +1,13 @@
 // `eval` of one node of a form on a state, as an entry point.
 ghost use mathlib.Core.Path.{_≡_};
+ghost use mathlib.Core.Bool.{true};
 ghost use mathlib.Core.Option.{some};
 ghost use Prim.Native.Nat.{_≤_};
 ghost use lib.ListN.{length};
 ghost use Rattle.rules.specs.Sheet.{sheetArea, sheetFault};
+ghost use Rattle.rules.specs.Form.{readForm};
+ghost use Rattle.rules.specs.Accept.{lengthGood, fieldOf};
+ghost use Rattle.rules.specs.State.{fieldMark};
 ghost use Rattle.rules.specs.Calls.{callEval};
 ghost use Rattle.form_layout.specs.Layout.{GoodNames};
 ghost use Rattle.take_table.specs.Known.{Known};
@@ -73,13 +77,23 @@ fn admit(
     if !held.good {
         return refused(30);
     }
-    if !state_marks::good(s, held.count) {
+    let fields = form_layout::field_count(form);
+    if !state_marks::good(s, held.count, fields) {
         return refused(29);
     }
     if form_layout::node_count(form) <= node {
         return refused(28);
     }
     refused(0)
+}
+
+// The mark of what a node uses: that of the field whose tree has it.
+fn node_mark(form: &[u8], node: usize) -> u16
+    requires { ⌜ lengthGood (now form) ≡ true ⌝ }
+    ensures { λ r. ⌜ r ≡ fieldMark (fieldOf (readForm (now (form .entry))) node) ⌝ }
+{
+    let field = form_fields::field_of(form, node);
+    state_marks::field_mark(field)
 }
 
 fn answered(ran: Ran, marks: [u16; 256]) -> RunAnswer
@@ -127,7 +141,7 @@ fn run_admitted(
     let mut marks = s.marks;
     let p = state_marks::numbers_of(s);
     let field = Field { node, at: 0 };
-    let mark = state_marks::FIELD;
+    let mark = node_mark(form, node);
     let ran = run_fields::run_value(
         form,
         &known,

@@ -9,20 +9,20 @@ use lib.Dec.{leb, ltb}
 use borrow.Author.Tests.{lt-ltb, le-ltb, le-leb, lt-leb, ltb-true, ltb-false, not-true, not-false}
 use Rattle.utf8.specs.Utf8.{if_then_else_}
 use Rattle.rules.specs.Outcome.{Outcome, ok, refused, refuse, _>>=_}
-use Rattle.rules.specs.State.{State, remove, setScope, saveConflicts, pickWinner, adjacentScope, adjacentlyAvailableFrom}
+use Rattle.rules.specs.State.{State, fieldMark, remove, setScope, saveConflicts, pickWinner, adjacentScope, adjacentlyAvailableFrom}
 use Rattle.rules.specs.Take.{Took, took}
-use Rattle.rules.specs.Run.{parsedMark}
-use Rattle.rules.specs.Calls.{fromRaw, toRaw, stateIn, placeIn, scopeIn, handed}
+use Rattle.rules.specs.Calls.{fromRaw, toRaw, stateIn, mostFields, placeIn, scopeIn, handed}
 use Rattle.rules.specs.Calls.{callRemove, callPickWinner, callSaveConflicts, callSetScope, callAdjacentScope, callAvailableFrom}
 use Rattle.rules.specs.declared.State.{State as Raw}
-use Rattle.state_marks.specs.Lent.{pickOf}
+use Rattle.rules.proofs.GivenLaws.{no-field, field-there}
+use Rattle.state_marks.specs.Lent.{FineState, pickOf}
 use Rattle.state_marks.specs.declared.Picked.{Picked}
 use Rattle.rules.proofs.CodeLaws.{code-place}
 use Rattle.state_value.specs.Options.{handedOver, rangeOf, scopeOf}
 use Rattle.state_value.specs.declared.Scope.{Scope}
 use Rattle.state_value.specs.declared.ScopeOption.{ScopeOption}
 use Rattle.state_value.specs.declared.ScopeOption.the-variants as scope
-use Rattle.state_value.proofs.Given.{ok-handed}
+use Rattle.state_value.proofs.Given.{ok-handed, given-fine, given-count}
 use Rattle.call_answers.specs.Answers.{Coded, coded, yesNo, yesCode, pickCode, scopeCode, scopeOrNone, codedOr0, answerWith, stateWith, answerOf, stateAnswerOf}
 use Rattle.call_answers.specs.declared.Answer.{Answer}
 use Rattle.call_answers.specs.declared.StateAnswer.{StateAnswer}
@@ -72,12 +72,18 @@ tested-bad : (o : Outcome State) (x : Raw) (b : Bool) → Tested o x b → not b
 unfolding if_then_else_
 tested-bad o x b g h = g ∙ rw (not-true b h)
 
-module _ (n : ℕ) (x : Raw) (b : Bool) (e : n ≡ x .count) (g : Tested (stateIn n x) x b) where
-  pub in-good : not b ≡ false → stateIn (x .count) x ≡ ok (fromRaw x)
+-- with the number of fields as the code has it
+module _ (n : ℕ) (x : Raw) (b : Bool) (e : n ≡ x .count) (g : Tested (stateIn 16 n x) x b) where
+  in-good : not b ≡ false → stateIn mostFields (x .count) x ≡ ok (fromRaw x)
+  unfolding mostFields
   in-good h = tested-good _ x b (rw e at g) h
 
-  in-bad : not b ≡ true → stateIn (x .count) x ≡ refused (refuse 29 none)
+  in-bad : not b ≡ true → stateIn mostFields (x .count) x ≡ refused (refuse 29 none)
+  unfolding mostFields
   in-bad h = tested-bad _ x b (rw e at g) h
+
+  pub in-fine : not b ≡ false → FineState x
+  in-fine h = given-fine mostFields (x .count) x (in-good h)
 
   -- ---- two states: the first decides, then the second
   module _ (y : Raw) where
@@ -85,8 +91,8 @@ module _ (n : ℕ) (x : Raw) (b : Bool) (e : n ≡ x .count) (g : Tested (stateI
     unfolding bothIn _>>=_ if_then_else_
     first-bad h = rw (in-bad h)
 
-    pub second-decides : not b ≡ false → (c : Bool) → Tested (stateIn n y) y c → Tested (bothIn x y) y c
-    unfolding bothIn _>>=_
+    pub second-decides : not b ≡ false → (c : Bool) → Tested (stateIn 16 n y) y c → Tested (bothIn x y) y c
+    unfolding bothIn mostFields _>>=_
     second-decides h c k = rw (in-good h) (rw e at k)
 
 -- 29 lets a state through as it is, or refuses it
@@ -95,7 +101,7 @@ unfolding if_then_else_
 if-cases true u v = inl refl
 if-cases false u v = inr refl
 
-state-cases : (n : ℕ) (x : Raw) → (stateIn n x ≡ ok (fromRaw x)) ⊎ (stateIn n x ≡ refused (refuse 29 none))
+state-cases : (n : ℕ) (x : Raw) → (stateIn mostFields n x ≡ ok (fromRaw x)) ⊎ (stateIn mostFields n x ≡ refused (refuse 29 none))
 unfolding stateIn
 state-cases n x = if-cases _ _ _
 
@@ -129,11 +135,11 @@ module _ (n a b : ℕ) where
 
 -- ---- calls on one state
 
-module _ (n : ℕ) (x : Raw) (b : Bool) (e : n ≡ x .count) (g : Tested (stateIn n x) x b) where
+module _ (n : ℕ) (x : Raw) (b : Bool) (e : n ≡ x .count) (g : Tested (stateIn 16 n x) x b) where
   module _ (bad : not b ≡ true) where
-    pub remove-bad : (i : ℕ) (r : StateAnswer) → r ≡ stateWith 29 0 (coded 0 0 0) x → stateAnswerOf yesCode (callRemove x i) ≡ some r
+    pub remove-bad : (i k : ℕ) (r : StateAnswer) → r ≡ stateWith 29 0 (coded 0 0 0) x → stateAnswerOf yesCode (callRemove x i k) ≡ some r
     unfolding callRemove _>>=_
-    remove-bad i r f = refused-state yesCode x _ 29 (rw (in-bad n x b e g bad)) r f
+    remove-bad i k r f = refused-state yesCode x _ 29 (rw (in-bad n x b e g bad)) r f
 
     pub scope-bad : (i j : ℕ) (r : StateAnswer) → r ≡ stateWith 29 0 (coded 0 0 0) x → stateAnswerOf yesCode (callSetScope x i j) ≡ some r
     unfolding callSetScope _>>=_
@@ -144,18 +150,25 @@ module _ (n : ℕ) (x : Raw) (b : Bool) (e : n ≡ x .count) (g : Tested (stateI
     available-bad i r f = refused-answer scopeCode x _ 29 (rw (in-bad n x b e g bad)) r f
 
   module _ (good : not b ≡ false) where
-    fine : stateIn (x .count) x ≡ ok (fromRaw x)
+    fine : stateIn mostFields (x .count) x ≡ ok (fromRaw x)
     fine = in-good n x b e g good
 
-    module _ (m i : ℕ) (same : m ≡ x .count) (r : StateAnswer) where
-      pub remove-past : m ≤ i → r ≡ stateWith 28 0 (coded 0 0 0) x → stateAnswerOf yesCode (callRemove x i) ≡ some r
+    module _ (m i k : ℕ) (same : m ≡ x .count) (r : StateAnswer) where
+      pub remove-past : m ≤ i → r ≡ stateWith 28 0 (coded 0 0 0) x → stateAnswerOf yesCode (callRemove x i k) ≡ some r
       unfolding callRemove _>>=_
       remove-past h f = refused-state yesCode x _ 28 (rw (fine, no-place (x .count) i (omega arith))) r f
 
-      pub remove-done : (y : Raw) → i < m → handedOver (remove parsedMark (fromRaw x) i) ≡ ok y → r ≡ stateWith 0 0 (coded 1 0 0) y
-          → stateAnswerOf yesCode (callRemove x i) ≡ some r
-      unfolding callRemove _>>=_
-      remove-done y h d f = rw (fine, place-there (x .count) i (omega arith)) (stepped x (remove parsedMark (fromRaw x) i) y d r f)
+      module _ (h : i < m) where
+        pub remove-beyond : 16 ≤ k → r ≡ stateWith 28 0 (coded 0 0 0) x → stateAnswerOf yesCode (callRemove x i k) ≡ some r
+        unfolding callRemove mostFields _>>=_
+        remove-beyond l f =
+            refused-state yesCode x _ 28 (rw (fine, place-there (x .count) i (omega arith), no-field 16 k l)) r f
+
+        pub remove-done : k < 16 → (mark : ℕ) → mark ≡ fieldMark k → (y : Raw) → handedOver (remove mark (fromRaw x) i) ≡ ok y
+            → r ≡ stateWith 0 0 (coded 1 0 0) y → stateAnswerOf yesCode (callRemove x i k) ≡ some r
+        unfolding callRemove mostFields _>>=_
+        remove-done l mark em y d f =
+            rw (fine, place-there (x .count) i (omega arith), field-there 16 k l, ← em) (stepped x (remove mark (fromRaw x) i) y d r f)
 
     module _ (i j : ℕ) (r : StateAnswer) where
       pub falling : j < i → r ≡ stateWith 28 0 (coded 0 0 0) x → stateAnswerOf yesCode (callSetScope x i j) ≡ some r
@@ -185,21 +198,26 @@ module _ (n : ℕ) (x : Raw) (b : Bool) (e : n ≡ x .count) (g : Tested (stateI
 -- ---- calls on two states
 
 module _ (x y : Raw) (b : Bool) (g : Tested (bothIn x y) y b) where
-  pub both-fine : not b ≡ false → (stateIn (x .count) x ≡ ok (fromRaw x)) × (stateIn (x .count) y ≡ ok (fromRaw y))
+  both-good : not b ≡ false → (stateIn mostFields (x .count) x ≡ ok (fromRaw x)) × (stateIn mostFields (x .count) y ≡ ok (fromRaw y))
   unfolding bothIn _>>=_
-  both-fine h = ⊎-elim
+  both-good h = ⊎-elim
       (λ k. (k, rw k at (tested-good (bothIn x y) y b g h)))
       (λ k. absurd (
       let z : refused (refuse 29 none) ≡ ok (fromRaw y) = rw k at (tested-good (bothIn x y) y b g h) in
       let o : _≡_ {A = ℕ} 0 1 = cc in omega arith))
       (state-cases (x .count) x)
 
+  pub both-fine : not b ≡ false → FineState x × FineState y × (y .count ≡ x .count)
+  both-fine h =
+      let (k, l) = both-good h in
+      (given-fine mostFields (x .count) x k, given-fine mostFields (x .count) y l, given-count mostFields (x .count) y l)
+
   both-bad : {A : Type 0} → not b ≡ true → (f : State → State → Outcome A)
-      → (stateIn (x .count) x >>= λ s. stateIn (x .count) y >>= λ t. f s t) ≡ refused (refuse 29 none)
+      → (stateIn mostFields (x .count) x >>= λ s. stateIn mostFields (x .count) y >>= λ t. f s t) ≡ refused (refuse 29 none)
   unfolding bothIn _>>=_
   both-bad h f = ⊎-elim
-      (λ (k : stateIn (x .count) x ≡ ok (fromRaw x)).
-      let z : stateIn (x .count) y ≡ refused (refuse 29 none) = rw k at (tested-bad (bothIn x y) y b g h) in
+      (λ (k : stateIn mostFields (x .count) x ≡ ok (fromRaw x)).
+      let z : stateIn mostFields (x .count) y ≡ refused (refuse 29 none) = rw k at (tested-bad (bothIn x y) y b g h) in
       rw (k, z))
       (λ k. rw k)
       (state-cases (x .count) x)
@@ -222,26 +240,26 @@ module _ (x y : Raw) (b : Bool) (g : Tested (bothIn x y) y b) where
         → r ≡ answerWith 0 0 (coded a (p .place) 0) → answerOf pickCode (callPickWinner x y) ≡ some r
     unfolding callPickWinner pickOf _>>=_
     pick-done p a r d h f =
-        accepted-answer pickCode x _ (pickOf p) (fromRaw x) (rw (both-fine good .0, both-fine good .1, d)) r (rw (code-place (p .place), ← h) f)
+        accepted-answer pickCode x _ (pickOf p) (fromRaw x) (rw (both-good good .0, both-good good .1, d)) r (rw (code-place (p .place), ← h) f)
 
     module _ (n w : ℕ) (e : n ≡ x .count) (r : StateAnswer) where
       pub conflicts-past : n ≤ w → r ≡ stateWith 28 0 (coded 0 0 0) x → stateAnswerOf yesCode (callSaveConflicts x y w) ≡ some r
       unfolding callSaveConflicts _>>=_
       conflicts-past h f =
-          refused-state yesCode x _ 28 (rw (both-fine good .0, both-fine good .1, no-place (x .count) w (omega arith))) r f
+          refused-state yesCode x _ 28 (rw (both-good good .0, both-good good .1, no-place (x .count) w (omega arith))) r f
 
       pub conflicts-done : (z : Raw) → w < n → z ≡ toRaw (saveConflicts (fromRaw x) (fromRaw y) w) → r ≡ stateWith 0 0 (coded 1 0 0) z
           → stateAnswerOf yesCode (callSaveConflicts x y w) ≡ some r
       unfolding callSaveConflicts _>>=_
       conflicts-done z h d f =
           accepted-state yesCode x _ true (saveConflicts (fromRaw x) (fromRaw y) w)
-          (rw (both-fine good .0, both-fine good .1, place-there (x .count) w (omega arith))) r (rw (← d) f)
+          (rw (both-good good .0, both-good good .1, place-there (x .count) w (omega arith))) r (rw (← d) f)
 
     module _ (o : ScopeOption) (r : Answer) (d : adjacentScope (fromRaw x) (fromRaw y) ≡ ok (scopeOf o)) where
       adjacent-done : r ≡ answerWith 0 0 (scopeOrNone (scopeOf o)) → answerOf scopeOrNone (callAdjacentScope x y) ≡ some r
       unfolding callAdjacentScope _>>=_
       adjacent-done f =
-          accepted-answer scopeOrNone x _ (scopeOf o) (fromRaw x) (rw (both-fine good .0, both-fine good .1, d)) r f
+          accepted-answer scopeOrNone x _ (scopeOf o) (fromRaw x) (rw (both-good good .0, both-good good .1, d)) r f
 
       pub adjacent-some : (i j : ℕ) → o ≡ scope.Some i j → r ≡ answerWith 0 0 (coded 1 i j) → answerOf scopeOrNone (callAdjacentScope x y) ≡ some r
       adjacent-some i j k f = adjacent-done (f ∙ ap (λ (q : ScopeOption). answerWith 0 0 (scopeOrNone (scopeOf q))) (sym k))

@@ -1,5 +1,5 @@
-// The entry points on states alone. None asks anything of its input: a state that is not good is refused with 29, then a
-// place or scope that is not there with 28.
+// The entry points on states alone. None asks anything of its input: a state that is not good, where there may be 16 fields, is
+// refused with 29, then a place, scope or field that is not there with 28.
 ghost use mathlib.Core.Path.{_≡_};
 ghost use mathlib.Core.Option.{some, none};
 ghost use Rattle.utf8.specs.Utf8.{if_then_else_};
@@ -18,6 +18,8 @@ use call_answers::refused;
 use call_answers::unchanged;
 use call_answers::yes_no;
 use rules::State;
+use state_marks::MOST_FIELDS;
+use state_marks::field_mark;
 use state_value::ScopeOption;
 use wire::wide;
 
@@ -26,23 +28,26 @@ fn both_good(s: State, t: State) -> bool
     ensures { λ r. ⌜ bothIn s t ≡ (if r then ok (fromRaw t) else refusedWith (refuse 29 none)) ⌝ }
 {
     let count = wide(s.count);
-    if !state_marks::good(s, count) {
+    if !state_marks::good(s, count, MOST_FIELDS) {
         return false;
     }
-    state_marks::good(t, count)
+    state_marks::good(t, count, MOST_FIELDS)
 }
 
-// A place in scope that is present becomes used, and the current one.
-pub fn remove(s: State, place: usize) -> StateAnswer
-    ensures { λ r. ⌜ stateAnswerOf yesCode (callRemove s place) ≡ some r ⌝ }
+// A place in scope that is present becomes used by a field, and the current one. 28 for no such place or field.
+pub fn remove(s: State, place: usize, field: usize) -> StateAnswer
+    ensures { λ r. ⌜ stateAnswerOf yesCode (callRemove s place field) ≡ some r ⌝ }
 {
-    if !state_marks::good(s, wide(s.count)) {
+    if !state_marks::good(s, wide(s.count), MOST_FIELDS) {
         return unchanged(BAD_STATE, 0, s);
     }
     if wide(s.count) <= place {
         return unchanged(NOT_THERE, 0, s);
     }
-    changed(1, 0, 0, state_value::remove(s, place))
+    if MOST_FIELDS <= field {
+        return unchanged(NOT_THERE, 0, s);
+    }
+    changed(1, 0, 0, state_value::remove(s, place, field_mark(field)))
 }
 
 // Whether the first state wins, and the place that decides.
@@ -74,7 +79,7 @@ pub fn set_scope(s: State, from: usize, to: usize) -> StateAnswer
     ensures { λ r. ⌜ stateAnswerOf yesCode (callSetScope s from to) ≡ some r ⌝ }
 {
     let count = wide(s.count);
-    if !state_marks::good(s, count) {
+    if !state_marks::good(s, count, MOST_FIELDS) {
         return unchanged(BAD_STATE, 0, s);
     }
     if to < from || count < to {
@@ -102,7 +107,7 @@ pub fn adjacently_available_from(s: State, from: usize) -> Answer
     ensures { λ r. ⌜ answerOf scopeCode (callAvailableFrom s from) ≡ some r ⌝ }
 {
     let count = wide(s.count);
-    if !state_marks::good(s, count) {
+    if !state_marks::good(s, count, MOST_FIELDS) {
         return refused(BAD_STATE, 0);
     }
     if count < from {

@@ -176,32 +176,32 @@ bind-refused : {A B : Type 0} (o : Outcome A) (f : A → Outcome B) {x : Refusal
 unfolding _>>=_
 bind-refused o f e = rw e
 
-module _ (s words : List ℕ) (x : Raw) (r : Input) (g : Gives s words r) where
-  pub state-fault : (r .number ≡ 0 → ⊥) → GivesState s words x (r .number)
+module _ (fields : ℕ) (s words : List ℕ) (x : Raw) (r : Input) (g : Gives s words r) where
+  pub state-fault : (r .number ≡ 0 → ⊥) → GivesState fields s words x (r .number)
   state-fault h = record { good = λ e. absurd (h e); bad = λ _. bind-refused (itemsGiven s words) _ (g .bad h) }
 
-  module _ (e : r .number ≡ 0) (b : Bool) (said : stateIn (r .count) x ≡ (if b then ok (fromRaw x) else refused (refuse 29 none))) where
+  module _ (e : r .number ≡ 0) (b : Bool) (said : stateIn fields (r .count) x ≡ (if b then ok (fromRaw x) else refused (refuse 29 none))) where
     table : HasTable s words (r .count)
     table = g .good e
 
-    pub state-bad : not b ≡ true → GivesState s words x 29
+    pub state-bad : not b ≡ true → GivesState fields s words x 29
     unfolding if_then_else_
     state-bad h = record {
       good = λ z. absurd (omega arith);
       bad = λ _.
           bind-ok (itemsGiven s words) _ (items-given s words (r .count) table)
-          ∙ ap (λ (n : ℕ). stateIn n x) (table .holds .count) ∙ said ∙ rw (not-true b h);
+          ∙ ap (λ (n : ℕ). stateIn fields n x) (table .holds .count) ∙ said ∙ rw (not-true b h);
     }
 
-    pub state-good : not b ≡ false → GivesState s words x 0
+    pub state-good : not b ≡ false → GivesState fields s words x 0
     unfolding if_then_else_
     state-good h =
-        let k : stateIn (r .count) x ≡ ok (fromRaw x) = said ∙ rw (not-false b h) in
-        let z : r .count ≡ x .count = sym (in-kept (r .count) x k .count) in
+        let k : stateIn fields (r .count) x ≡ ok (fromRaw x) = said ∙ rw (not-false b h) in
+        let z : r .count ≡ x .count = sym (in-kept fields (r .count) x k .count) in
         record {
           good = λ _. record {
             table = subst (HasTable s words) z table;
-            good = subst (λ (n : ℕ). stateIn n x ≡ ok (fromRaw x)) z k;
+            good = subst (λ (n : ℕ). stateIn fields n x ≡ ok (fromRaw x)) z k;
           };
           bad = λ i. absurd (i refl);
         }
@@ -231,22 +231,22 @@ module _ {B : Type 0} (s words : List ℕ) (f : List Item → Outcome B) where
   pub table-given : (n : ℕ) (t : HasTable s words n) → onTable s words f ≡ f (t .holds .items)
   table-given n t = on-table s words f ∙ bind-ok (itemsGiven s words) f (items-given s words n t)
 
-module _ {B : Type 0} (s words : List ℕ) (x : Raw) (f : List Item → State → Outcome B) where
-  pub state-refused : (n : ℕ) → GivesState s words x n → (n ≡ 0 → ⊥) → onTable s words (λ is. stateIn (length is) x >>= f is) ≡ refused (refuse n none)
+module _ {B : Type 0} (fields : ℕ) (s words : List ℕ) (x : Raw) (f : List Item → State → Outcome B) where
+  pub state-refused : (n : ℕ) → GivesState fields s words x n → (n ≡ 0 → ⊥) → onTable s words (λ is. stateIn fields (length is) x >>= f is) ≡ refused (refuse n none)
   unfolding _>>=_
   state-refused n g h = on-table s words _ ∙ go (itemsGiven s words) (g .bad h)
     where
-      go : (o : Outcome (List Item)) → (o >>= λ is. stateIn (length is) x) ≡ refused (refuse n none)
-          → (o >>= λ is. stateIn (length is) x >>= f is) ≡ refused (refuse n none)
-      go (ok is) e = bind-refused (stateIn (length is) x) (f is) e
+      go : (o : Outcome (List Item)) → (o >>= λ is. stateIn fields (length is) x) ≡ refused (refuse n none)
+          → (o >>= λ is. stateIn fields (length is) x >>= f is) ≡ refused (refuse n none)
+      go (ok is) e = bind-refused (stateIn fields (length is) x) (f is) e
       go (refused d) e = cc
       go (fault d) e = absurd (let z : _≡_ {A = ℕ} 0 1 = cc in omega arith)
 
-  pub state-given : (h : HasState s words x) → onTable s words (λ is. stateIn (length is) x >>= f is) ≡ f (h .table .holds .items) (fromRaw x)
+  pub state-given : (h : HasState fields s words x) → onTable s words (λ is. stateIn fields (length is) x >>= f is) ≡ f (h .table .holds .items) (fromRaw x)
   state-given h =
       table-given s words _ (x .count) (h .table)
-      ∙ bind-ok (stateIn (length (h .table .holds .items)) x) (f (h .table .holds .items))
-      (ap (λ (n : ℕ). stateIn n x) (h .table .holds .count) ∙ h .good)
+      ∙ bind-ok (stateIn fields (length (h .table .holds .items)) x) (f (h .table .holds .items))
+      (ap (λ (n : ℕ). stateIn fields n x) (h .table .holds .count) ∙ h .good)
 
 -- the item at a place is the one of its record
 pub item-at : (area words : List ℕ) (is : List Item) → Table area words is → (i : ℕ) → i < length is → itemFrom area (recordAt words i) ≡ getElem? is i

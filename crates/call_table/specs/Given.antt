@@ -44,11 +44,11 @@ pub record Gives (s words : List ℕ) (r : Input) : Type 0 where
   pub bad : (r .number ≡ 0 → ⊥) → itemsGiven s words ≡ refused (refuse (r .number) none)
   pub nothing : (r .number ≡ 0 → ⊥) → r .count ≡ 0
 
--- ---- and with a state over these items: 29
-pub record HasState (s words : List ℕ) (x : Raw) : Type 0 where
+-- ---- and with a state over these items, used by fields below a number: 29
+pub record HasState (fields : ℕ) (s words : List ℕ) (x : Raw) : Type 0 where
   pub table : HasTable s words (x .count)
-  pub good : stateIn (x .count) x ≡ ok (fromRaw x)
+  pub good : stateIn fields (x .count) x ≡ ok (fromRaw x)
 
-pub record GivesState (s words : List ℕ) (x : Raw) (r : ℕ) : Type 0 where
-  pub good : r ≡ 0 → HasState s words x
-  pub bad : (r ≡ 0 → ⊥) → (itemsGiven s words >>= λ is. stateIn (length is) x) ≡ refused (refuse r none)
+pub record GivesState (fields : ℕ) (s words : List ℕ) (x : Raw) (r : ℕ) : Type 0 where
+  pub good : r ≡ 0 → HasState fields s words x
+  pub bad : (r ≡ 0 → ⊥) → (itemsGiven s words >>= λ is. stateIn fields (length is) x) ≡ refused (refuse r none)

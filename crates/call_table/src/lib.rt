@@ -179,15 +179,15 @@ pub fn given(sheet: &[u8], items: &[u32]) -> Input
     }
 }
 
-// The same, and then 29, for a state over these items: the number, or 0.
-pub fn given_state(sheet: &[u8], items: &[u32], s: State) -> u32
-    ensures { λ r. ⌜ GivesState (now (sheet .entry)) (now (items .entry)) s r ⌝ }
+// The same, and then 29, for a state over these items, used by fields below `fields`: the number, or 0.
+pub fn given_state(sheet: &[u8], items: &[u32], s: State, fields: usize) -> u32
+    ensures { λ r. ⌜ GivesState fields (now (sheet .entry)) (now (items .entry)) s r ⌝ }
 {
     let g = given(sheet, items);
     if g.number != 0 {
         return g.number;
     }
-    if !state_marks::good(s, g.count) {
+    if !state_marks::good(s, g.count, fields) {
         return BAD_STATE;
     }
     0

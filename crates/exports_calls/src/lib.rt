@@ -23,10 +23,10 @@ use rules::State;
 use run_fields::RunAnswer;
 
 #[no_mangle]
-pub extern "C" fn silverpoise_remove(s: State, place: usize) -> StateAnswer
-    ensures { λ r. ⌜ stateAnswerOf doneCode (callRemove s place) ≡ some r ⌝ }
+pub extern "C" fn silverpoise_remove(s: State, place: usize, field: usize) -> StateAnswer
+    ensures { λ r. ⌜ stateAnswerOf doneCode (callRemove s place field) ≡ some r ⌝ }
 {
-    call_state::remove(s, place)
+    call_state::remove(s, place, field)
 }
 
 #[no_mangle]
@@ -97,10 +97,11 @@ pub extern "C" fn silverpoise_take_positional_word(
     sheet: &[u8],
     items: &[u32],
     s: State,
+    field: usize,
 ) -> StateAnswer
-    ensures { λ r. ⌜ stateAnswerOf operandCode (callTakePositional (now (sheet .entry)) (now (items .entry)) s) ≡ some r ⌝ }
+    ensures { λ r. ⌜ stateAnswerOf operandCode (callTakePositional (now (sheet .entry)) (now (items .entry)) s field) ≡ some r ⌝ }
 {
-    call_item::take_positional_word(sheet, items, s)
+    call_item::take_positional_word(sheet, items, s, field)
 }
 
 #[no_mangle]
@@ -138,10 +139,11 @@ pub extern "C" fn silverpoise_take_flag(
     items: &[u32],
     s: State,
     node: usize,
+    field: usize,
 ) -> StateAnswer
-    ensures { λ r. ⌜ stateAnswerOf doneCode (callTakeFlag (now (form .entry)) (now (sheet .entry)) (now (items .entry)) s node) ≡ some r ⌝ }
+    ensures { λ r. ⌜ stateAnswerOf doneCode (callTakeFlag (now (form .entry)) (now (sheet .entry)) (now (items .entry)) s node field) ≡ some r ⌝ }
 {
-    call_form::take_flag(form, sheet, items, s, node)
+    call_form::take_flag(form, sheet, items, s, node, field)
 }
 
 #[no_mangle]
@@ -151,10 +153,11 @@ pub extern "C" fn silverpoise_take_arg(
     items: &[u32],
     s: State,
     node: usize,
+    field: usize,
 ) -> StateAnswer
-    ensures { λ r. ⌜ stateAnswerOf takenCode (callTakeArg (now (form .entry)) (now (sheet .entry)) (now (items .entry)) s node) ≡ some r ⌝ }
+    ensures { λ r. ⌜ stateAnswerOf takenCode (callTakeArg (now (form .entry)) (now (sheet .entry)) (now (items .entry)) s node field) ≡ some r ⌝ }
 {
-    call_form::take_arg(form, sheet, items, s, node)
+    call_form::take_arg(form, sheet, items, s, node, field)
 }
 
 #[no_mangle]
@@ -186,10 +189,10 @@ pub extern "C" fn silverpoise_eval(
 }
 
 #[no_mangle]
-pub extern "C" fn silverpoise_remove_in_place(s: &mut State, place: usize) -> Answer
-    ensures { λ r. ⌜ stateAnswerOf doneCode (callRemove (now (s .entry)) place) ≡ some (joined r (now (s .exit))) ⌝ }
+pub extern "C" fn silverpoise_remove_in_place(s: &mut State, place: usize, field: usize) -> Answer
+    ensures { λ r. ⌜ stateAnswerOf doneCode (callRemove (now (s .entry)) place field) ≡ some (joined r (now (s .exit))) ⌝ }
 {
-    call_lent::remove(s, place)
+    call_lent::remove(s, place, field)
 }
 
 #[no_mangle]
@@ -199,10 +202,11 @@ pub extern "C" fn silverpoise_take_flag_in_place(
     sheet: &[u8],
     items: &[u32],
     node: usize,
+    field: usize,
 ) -> Answer
-    ensures { λ r. ⌜ stateAnswerOf doneCode (callTakeFlag (now (form .entry)) (now (sheet .entry)) (now (items .entry)) (now (s .entry)) node) ≡ some (joined r (now (s .exit))) ⌝ }
+    ensures { λ r. ⌜ stateAnswerOf doneCode (callTakeFlag (now (form .entry)) (now (sheet .entry)) (now (items .entry)) (now (s .entry)) node field) ≡ some (joined r (now (s .exit))) ⌝ }
 {
-    call_lent::take_flag(s, form, sheet, items, node)
+    call_lent::take_flag(s, form, sheet, items, node, field)
 }
 
 #[no_mangle]

@@ -53,18 +53,18 @@ pub record EvalTold (form sheet items : List ℕ) (s : State) (m : ℕ) (b words
 pub data CallTold (h : Head) (form sheet items : List ℕ) (s t : State) (b words : List ℕ) : Type 0 where
   eval : h .call ≡ 5 → EvalTold form sheet items s (h .m) b words → CallTold h form sheet items s t b words
   get : h .call ≡ 6 → GetTold sheet items s (h .m) b words → CallTold h form sheet items s t b words
-  remove : h .call ≡ 7 → Changes b (stateAnswerOf yesCode (callRemove s (h .m))) → CallTold h form sheet items s t b words
+  remove : h .call ≡ 7 → Changes b (stateAnswerOf yesCode (callRemove s (h .m) (h .n))) → CallTold h form sheet items s t b words
   pick-winner : h .call ≡ 8 → Leaves b s (answerOf pickCode (callPickWinner s t)) → CallTold h form sheet items s t b words
   save-conflicts : h .call ≡ 9 → Changes b (stateAnswerOf yesCode (callSaveConflicts s t (h .m))) → CallTold h form sheet items s t b words
   set-scope : h .call ≡ 10 → Changes b (stateAnswerOf yesCode (callSetScope s (h .m) (h .n))) → CallTold h form sheet items s t b words
   adjacent-scope : h .call ≡ 11 → Leaves b s (answerOf scopeOrNone (callAdjacentScope s t)) → CallTold h form sheet items s t b words
   available-from : h .call ≡ 12 → Leaves b s (answerOf scopeCode (callAvailableFrom s (h .m))) → CallTold h form sheet items s t b words
   conflict : h .call ≡ 13 → Leaves b s (answerOf conflictCode (callConflict sheet items s)) → CallTold h form sheet items s t b words
-  take-positional : h .call ≡ 14 → Changes b (stateAnswerOf operandCode (callTakePositional sheet items s)) → CallTold h form sheet items s t b words
+  take-positional : h .call ≡ 14 → Changes b (stateAnswerOf operandCode (callTakePositional sheet items s (h .m))) → CallTold h form sheet items s t b words
   only-once : h .call ≡ 15 → Leaves b s (plainAnswer placeOrNone (callOnlyOnce sheet items (h .m))) → CallTold h form sheet items s t b words
   matches : h .call ≡ 16 → Leaves b s (answerOf yesCode (callMatches form sheet items s (h .m) (h .n))) → CallTold h form sheet items s t b words
-  take-flag : h .call ≡ 17 → Changes b (stateAnswerOf yesCode (callTakeFlag form sheet items s (h .m))) → CallTold h form sheet items s t b words
-  take-arg : h .call ≡ 18 → Changes b (stateAnswerOf takenCode (callTakeArg form sheet items s (h .m))) → CallTold h form sheet items s t b words
+  take-flag : h .call ≡ 17 → Changes b (stateAnswerOf yesCode (callTakeFlag form sheet items s (h .m) (h .n))) → CallTold h form sheet items s t b words
+  take-arg : h .call ≡ 18 → Changes b (stateAnswerOf takenCode (callTakeArg form sheet items s (h .m) (h .n))) → CallTold h form sheet items s t b words
   take-cmd : h .call ≡ 19 → Changes b (stateAnswerOf yesCode (callTakeCmd form sheet items s (h .m))) → CallTold h form sheet items s t b words
 
 -- the bytes are those of the text

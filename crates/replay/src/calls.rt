@@ -99,22 +99,31 @@ pub fn call(
     match k {
         5 => eval(form, sheet, items, s, h.m, numbers, words),
         6 => get(sheet, items, s, h.m, numbers, words),
-        7 => changes(numbers, call_state::remove(s, h.m)),
+        7 => changes(numbers, call_state::remove(s, h.m, h.n)),
         8 => leaves(numbers, call_state::pick_winner(s, t), s),
         9 => changes(numbers, call_state::save_conflicts(s, t, h.m)),
         10 => changes(numbers, call_state::set_scope(s, h.m, h.n)),
         11 => leaves(numbers, call_state::adjacent_scope(s, t), s),
         12 => leaves(numbers, call_state::adjacently_available_from(s, h.m), s),
         13 => leaves(numbers, call_item::conflict(sheet, items, s), s),
-        14 => changes(numbers, call_item::take_positional_word(sheet, items, s)),
+        14 => changes(
+            numbers,
+            call_item::take_positional_word(sheet, items, s, h.m),
+        ),
         15 => leaves(numbers, call_item::only_once(sheet, items, h.m), s),
         16 => leaves(
             numbers,
             call_form::matches_arg(form, sheet, items, s, h.m, h.n),
             s,
         ),
-        17 => changes(numbers, call_form::take_flag(form, sheet, items, s, h.m)),
-        18 => changes(numbers, call_form::take_arg(form, sheet, items, s, h.m)),
+        17 => changes(
+            numbers,
+            call_form::take_flag(form, sheet, items, s, h.m, h.n),
+        ),
+        18 => changes(
+            numbers,
+            call_form::take_arg(form, sheet, items, s, h.m, h.n),
+        ),
         19 => changes(numbers, call_form::take_cmd(form, sheet, items, s, h.m)),
         _ => false,
     }

@@ -20,21 +20,24 @@ use Rattle.rules.specs.Eval.{Ran, eval}
 use Rattle.rules.specs.Sheet.{sheetFault, sheetArea}
 use Rattle.rules.specs.Form.{Form, readForm}
 use Rattle.rules.specs.Tree.{Named, zeros, kindOf}
-use Rattle.rules.specs.Accept.{Checked, accepted, refusedAt, Accepted, checkForm}
+use Rattle.rules.specs.Accept.{Checked, accepted, refusedAt, Accepted, checkForm, fieldOf}
 use Rattle.rules.specs.Split.{Item, Short, Long, ArgWord, Word, PosWord}
-use Rattle.rules.specs.State.{State, Scope, Found, position, matchShort, matchLong, sameName, before, onlyOnce, parsed, stateGood, emptyState, first, conflict, remove, setScope}
+use Rattle.rules.specs.State.{State, Scope, Found, position, matchShort, matchLong, sameName, before, onlyOnce, markerMark, commandMark, fieldMark, parsed, stateGood, emptyState}
+use Rattle.rules.specs.State.{first, conflict, remove, setScope}
 use Rattle.rules.specs.State.{adjacentScope}
 use Rattle.rules.specs.Take.{Took, took, Operand, isCommand, takeCommand, takeArg, takePositionalWord, takeCmd}
 use Rattle.rules.specs.Given.{roomIn, listRoomIn}
-use Rattle.rules.specs.Run.{Line, parsedMark, padded, split}
+use Rattle.rules.specs.Run.{Line, padded, split}
 use Rattle.rules.specs.Calls.{callRemove, callPickWinner, callSaveConflicts, callSetScope, callAdjacentScope, callAvailableFrom, onItems, callGet, callConflict, operandOr20}
 use Rattle.rules.specs.Calls.{callTakePositional, callOnlyOnce, onForm, keyOf, flagNames, argumentKey, commandName, callMatches, callTakeFlag, callTakeArg, callTakeCmd, callKind}
 use Rattle.rules.specs.Calls.{callPortable, callText}
-use Rattle.rules.specs.Calls.{formIn, sheetIn, sliceIn, itemsFrom, trimmed, wholeRecords, itemsIn, fromRaw, toRaw, stateIn, asked, placeIn, scopeIn, handed, splitRefused, splitReport}
+use Rattle.rules.specs.Calls.{formIn, sheetIn, sliceIn, itemsFrom, trimmed, wholeRecords, itemsIn, fromRaw, toRaw, mostFields, stateIn, asked, placeIn, markIn, scopeIn, handed}
+use Rattle.rules.specs.Calls.{splitRefused, splitReport}
 use Rattle.rules.specs.Calls.{callSplit, evaluatedWith, evaluated, unchanged, evalIn, callEval}
 use Rattle.rules.specs.declared.State.{State as Raw}
 use Rattle.rules.specs.Sound.{Good, Sound}
 use Rattle.rules.specs.Answered.{FormFault, badCounts, badName, badNode, badField, badUse, SheetFault, manyArguments, badSheet, AtFault, badForm, sheetAtFault, shortSlice, ItemsLeft}
+use Rattle.rules.proofs.Fields.{field-parsed}
 use Rattle.rules.specs.CallsAnswered.{OneOf, Answers, answers, refuses, Hands, EvalAnswers, SplitsLine, CallsAnswered}
 use Rattle.rules.proofs.GivenLaws.{split-form, split-sheet, split-short, split-goes}
 use Rattle.rules.proofs.StepLaws.{test-good, first-found, remove-step, set-scope-good, flag-takes, arg-takes, positional-takes}
@@ -150,9 +153,9 @@ items-answers : (area l : List ℕ) → Answers (30 ∷ []) (itemsIn area l)
 unfolding itemsIn
 items-answers area l = some-answers 30 (wholeRecords l >>? λ rs. itemsFrom area (trimmed rs))
 
-state-answers : (n : ℕ) (x : Raw) → Answers (29 ∷ []) (stateIn n x)
+state-answers : (fields n : ℕ) (x : Raw) → Answers (29 ∷ []) (stateIn fields n x)
 unfolding stateIn
-state-answers n x = if-answers 29 _ (fromRaw x)
+state-answers fields n x = if-answers 29 _ (fromRaw x)
 
 asked-answers : {A : Type 0} (o : Option A) → Answers (28 ∷ []) (asked o)
 unfolding asked contains
@@ -162,6 +165,10 @@ asked-answers (some a) = answers a
 place-answers : (n i : ℕ) → Answers (28 ∷ []) (placeIn n i)
 unfolding placeIn
 place-answers n i = if-answers 28 (ltb i n) i
+
+mark-answers : (fields k : ℕ) → Answers (28 ∷ []) (markIn fields k)
+unfolding markIn
+mark-answers fields k = if-answers 28 (ltb k fields) (fieldMark k)
 
 scope-answers : (n a b : ℕ) → Answers (28 ∷ []) (scopeIn n a b)
 unfolding scopeIn
@@ -176,23 +183,32 @@ isOk (fault x) = false
 refused-not-ok : {A : Type 0} (e : Refusal) (a : A) → refused e ≡ ok a → ⊥
 refused-not-ok e a h = false≢true (ap isOk h)
 
-if-ok : {A : Type 0} (t : Bool) (a b : A) (e : Refusal) → (if t then ok a else refused e) ≡ ok b → (t ≡ true) × (a ≡ b)
+pub if-ok : {A : Type 0} (t : Bool) (a b : A) (e : Refusal) → (if t then ok a else refused e) ≡ ok b → (t ≡ true) × (a ≡ b)
 unfolding if_then_else_
 if-ok true a b e h = (refl, ok-injective h)
 if-ok false a b e h = absurd (refused-not-ok e b h)
 
-pub state-good : (n : ℕ) (x : Raw) (s : State) → stateIn n x ≡ ok s → Good n s
+pub state-good : (fields n : ℕ) (x : Raw) (s : State) → stateIn fields n x ≡ ok s → Good n s
 unfolding stateIn
-state-good n x s h =
-    let (t, e) = if-ok (eqb (x .count) n && zeros (drop (x .count) (x .marks)) && stateGood parsed n (fromRaw x)) (fromRaw x) s (refuse 29 none) h in
-    let p = and-eq-true-iff (eqb (x .count) n && zeros (drop (x .count) (x .marks))) (stateGood parsed n (fromRaw x)) .0 t in
-    rw (← e) (test-good n (fromRaw x) (p .1))
+state-good fields n x s h =
+    let (t, e) = if-ok (eqb (x .count) n && zeros (drop (x .count) (x .marks)) && stateGood fields n (fromRaw x)) (fromRaw x) s (refuse 29 none) h in
+    let p = and-eq-true-iff (eqb (x .count) n && zeros (drop (x .count) (x .marks))) (stateGood fields n (fromRaw x)) .0 t in
+    rw (← e) (test-good fields n (fromRaw x) (p .1) .0)
 
-place-below : (n i j : ℕ) → placeIn n i ≡ ok j → i < n
+command-parsed : parsed commandMark ≡ true
+unfolding parsed markerMark commandMark
+command-parsed = refl
+
+-- the mark of a field is parsed
+told-parsed : (fields k mark : ℕ) → markIn fields k ≡ ok mark → parsed mark ≡ true
+unfolding markIn
+told-parsed fields k mark h = rw (← if-ok (ltb k fields) (fieldMark k) mark (refuse 28 none) h .1) (field-parsed k)
+
+pub place-below : (n i j : ℕ) → placeIn n i ≡ ok j → i < n
 unfolding placeIn
 place-below n i j h = ltb-true i n (if-ok (ltb i n) i j (refuse 28 none) h .0)
 
-scope-inside : (n a b : ℕ) (c : Scope) → scopeIn n a b ≡ ok c → (a ≤ b) × (b ≤ n)
+pub scope-inside : (n a b : ℕ) (c : Scope) → scopeIn n a b ≡ ok c → (a ≤ b) × (b ≤ n)
 unfolding scopeIn
 scope-inside n a b c h =
     let p = and-eq-true-iff (leb a b) (leb b n) .0 (if-ok (leb a b && leb b n) (record { start = a; end = b }) c (refuse 28 none) h .0) in
@@ -210,9 +226,8 @@ adjacent-some s t a b e p q = rw (e, p, q) (answers _)
 ok-answers : {A : Type 0} {l : List ℕ} (o : Outcome A) (a : A) → o ≡ ok a → Answers l o
 ok-answers o a e = rw e (answers a)
 
-remove-answers : (n : ℕ) (s : State) (i : ℕ) → Good n s → Answers [] (remove 1 s i)
-unfolding parsed
-remove-answers n s i g = let (u, e, st) = remove-step 1 refl n s i g in ok-answers _ u e
+remove-answers : (k : ℕ) → parsed k ≡ true → (n : ℕ) (s : State) (i : ℕ) → Good n s → Answers [] (remove k s i)
+remove-answers k p n s i g = let (u, e, st) = remove-step k p n s i g in ok-answers _ u e
 
 scope-set : (n : ℕ) (s : State) (a b : ℕ) → Good n s → a ≤ b → b ≤ n → Answers [] (setScope s a b)
 scope-set n s a b g h k = let r = set-scope-good n s a b g h k in ok-answers _ (r .0) (r .1)
@@ -235,23 +250,24 @@ adjacent-answers n s t g h = go (null (s .marks)) refl
     go true e = adjacent-none s t e
     go false e = adjacent-some s t (ours .0) (theirs .0) e (ours .1) (theirs .1)
 
-command-answers : (is : List Item) (w : List ℕ) (s : State) → Good (length is) s → Answers [] (takeCmd 1 is w s)
+command-answers : (k : ℕ) → parsed k ≡ true → (is : List Item) (w : List ℕ) (s : State) → Good (length is) s → Answers [] (takeCmd k is w s)
 unfolding takeCmd takeCommand took all
-command-answers is w s g =
+command-answers k p is w s g =
     bind-answers {l = []} (first is s) _ (ok-answers _ _ (first-found is s g .1)) refl (λ x e. command-taken (if isCommand w x then x else none))
   where
-    command-taken : (x : Option Found) → Answers [] (takeCommand 1 s x)
+    command-taken : (x : Option Found) → Answers [] (takeCommand k s x)
     command-taken none = answers _
-    command-taken (some x) = bind-answers (remove 1 s (x .place)) _ (remove-answers (length is) s (x .place) g) refl (λ u e. answers _)
+    command-taken (some x) = bind-answers (remove k s (x .place)) _ (remove-answers k p (length is) s (x .place) g) refl (λ u e. answers _)
 
 conflict-answers : (is : List Item) (s : State) → Good (length is) s → Answers [] (conflict is s)
 unfolding conflict _>>=_
 conflict-answers is s g = rw (first-found is s g .1) (answers _)
 
-arg-answers : (is : List Item) (m : Named) (adjacent : Bool) (s : State) → Good (length is) s → Answers (22 ∷ []) (takeArg 1 is m adjacent s)
-unfolding parsed contains
-arg-answers is m adjacent s g =
-    ⊎-elim (λ t. ok-answers _ (t .0) (t .1)) (λ t. rw (t .1) (refuses _ refl)) (arg-takes 1 refl is m adjacent s g)
+arg-answers : (k : ℕ) → parsed k ≡ true → (is : List Item) (m : Named) (adjacent : Bool) (s : State) → Good (length is) s
+    → Answers (22 ∷ []) (takeArg k is m adjacent s)
+unfolding contains
+arg-answers k p is m adjacent s g =
+    ⊎-elim (λ t. ok-answers _ (t .0) (t .1)) (λ t. rw (t .1) (refuses _ refl)) (arg-takes k p is m adjacent s g)
 
 -- an earlier place is below
 position-below : (test : Item → Bool) (k : ℕ) (l : List Item) (j : ℕ) → position test k l ≡ some j → j < k + length l
@@ -321,21 +337,23 @@ module _ (x : Raw) where
       {A : Type 0} {l : List ℕ} (f : State → Outcome (Took A))
       → all (contains l) (29 ∷ []) ≡ true
       → ((s : State) → Good (x .count) s → Answers l (f s))
-      → Hands l x (handed x (stateIn (x .count) x >>= f))
-  on-state f n h = handed-answers x _ (bind-answers (stateIn (x .count) x) f (state-answers (x .count) x) n (λ s e. h s (state-good (x .count) x s e)))
+      → Hands l x (handed x (stateIn mostFields (x .count) x >>= f))
+  on-state f n h = handed-answers x _ (bind-answers (stateIn mostFields (x .count) x) f (state-answers mostFields (x .count) x) n
+      (λ s e. h s (state-good mostFields (x .count) x s e)))
 
-  remove-called : (i : ℕ) → Hands (29 ∷ 28 ∷ []) x (callRemove x i)
-  unfolding callRemove parsedMark took all contains
-  remove-called i = on-state _ refl (λ s g. bind-answers (placeIn (x .count) i) _ (place-answers (x .count) i) refl
-      (λ _ _. bind-answers (remove 1 s i) _ (remove-answers (x .count) s i g) refl (λ u _. answers _)))
+  remove-called : (i k : ℕ) → Hands (29 ∷ 28 ∷ []) x (callRemove x i k)
+  unfolding callRemove took all contains
+  remove-called i k = on-state _ refl (λ s g. bind-answers (placeIn (x .count) i) _ (place-answers (x .count) i) refl
+      (λ _ _. bind-answers (markIn mostFields k) _ (mark-answers mostFields k) refl
+      (λ mark e. bind-answers (remove mark s i) _ (remove-answers mark (told-parsed mostFields k mark e) (x .count) s i g) refl (λ u _. answers _))))
 
   pick-called : (y : Raw) → Hands (29 ∷ []) x (callPickWinner x y)
   unfolding callPickWinner took all contains
-  pick-called y = on-state _ refl (λ s g. bind-answers (stateIn (x .count) y) _ (state-answers (x .count) y) refl (λ t _. answers _))
+  pick-called y = on-state _ refl (λ s g. bind-answers (stateIn mostFields (x .count) y) _ (state-answers mostFields (x .count) y) refl (λ t _. answers _))
 
   conflicts-called : (y : Raw) (w : ℕ) → Hands (29 ∷ 28 ∷ []) x (callSaveConflicts x y w)
   unfolding callSaveConflicts took all contains
-  conflicts-called y w = on-state _ refl (λ s g. bind-answers (stateIn (x .count) y) _ (state-answers (x .count) y) refl
+  conflicts-called y w = on-state _ refl (λ s g. bind-answers (stateIn mostFields (x .count) y) _ (state-answers mostFields (x .count) y) refl
       (λ t _. bind-answers (placeIn (x .count) w) _ (place-answers (x .count) w) refl (λ _ _. answers _)))
 
   scope-called : (a b : ℕ) → Hands (29 ∷ 28 ∷ []) x (callSetScope x a b)
@@ -346,8 +364,8 @@ module _ (x : Raw) where
 
   adjacent-called : (y : Raw) → Hands (29 ∷ []) x (callAdjacentScope x y)
   unfolding callAdjacentScope took all contains
-  adjacent-called y = on-state _ refl (λ s g. bind-answers (stateIn (x .count) y) _ (state-answers (x .count) y) refl
-      (λ t e. bind-answers (adjacentScope s t) _ (adjacent-answers (x .count) s t g (state-good (x .count) y t e)) refl (λ _ _. answers _)))
+  adjacent-called y = on-state _ refl (λ s g. bind-answers (stateIn mostFields (x .count) y) _ (state-answers mostFields (x .count) y) refl
+      (λ t e. bind-answers (adjacentScope s t) _ (adjacent-answers (x .count) s t g (state-good mostFields (x .count) y t e)) refl (λ _ _. answers _)))
 
   available-called : (a : ℕ) → Hands (29 ∷ 28 ∷ []) x (callAvailableFrom x a)
   unfolding callAvailableFrom took all contains
@@ -379,8 +397,8 @@ module _ (sheet slice : List ℕ) where
         → Hands l x (onItems sheet slice x f)
     unfolding onItems
     items-called f t n h = handed-answers x _
-        (with-items _ t (λ is. bind-answers (stateIn (length is) x) (f is) (state-answers (length is) x) n
-        (λ s e. h is s (state-good (length is) x s e))))
+        (with-items _ t (λ is. bind-answers (stateIn mostFields (length is) x) (f is) (state-answers mostFields (length is) x) n
+        (λ s e. h is s (state-good mostFields (length is) x s e))))
 
     get-called : (i : ℕ) → Hands (6 ∷ 5 ∷ 7 ∷ 30 ∷ 29 ∷ 28 ∷ []) x (callGet sheet slice x i)
     unfolding callGet took all contains
@@ -392,18 +410,20 @@ module _ (sheet slice : List ℕ) where
     conflict-called = items-called _ (refl, refl, refl) refl
         (λ is s g. bind-answers (conflict is s) _ (conflict-answers is s g) refl (λ _ _. answers _))
 
-    operand-answers : (t : Took (Option Operand)) → Answers (6 ∷ 5 ∷ 7 ∷ 30 ∷ 29 ∷ 20 ∷ []) (operandOr20 t)
+    operand-answers : (t : Took (Option Operand)) → Answers (6 ∷ 5 ∷ 7 ∷ 30 ∷ 29 ∷ 28 ∷ 20 ∷ []) (operandOr20 t)
     unfolding operandOr20 took contains
     operand-answers t = go (t .answer) refl
       where
-        go : (o : Option Operand) → t .answer ≡ o → Answers (6 ∷ 5 ∷ 7 ∷ 30 ∷ 29 ∷ 20 ∷ []) (operandOr20 t)
+        go : (o : Option Operand) → t .answer ≡ o → Answers (6 ∷ 5 ∷ 7 ∷ 30 ∷ 29 ∷ 28 ∷ 20 ∷ []) (operandOr20 t)
         go none e = rw (e, operandOr20) (refuses _ refl)
         go (some o) e = rw (e, operandOr20) (answers _)
 
-    positional-called : Hands (6 ∷ 5 ∷ 7 ∷ 30 ∷ 29 ∷ 20 ∷ []) x (callTakePositional sheet slice x)
-    unfolding callTakePositional parsedMark parsed all contains
-    positional-called = items-called _ (refl, refl, refl) refl (λ is s g. let t = positional-takes 1 refl is s g in
-        bind-answers {l = []} (takePositionalWord 1 is s) _ (ok-answers _ (t .0) (t .1)) refl (λ u _. operand-answers u))
+    positional-called : (k : ℕ) → Hands (6 ∷ 5 ∷ 7 ∷ 30 ∷ 29 ∷ 28 ∷ 20 ∷ []) x (callTakePositional sheet slice x k)
+    unfolding callTakePositional all contains
+    positional-called k = items-called _ (refl, refl, refl) refl (λ is s g.
+        bind-answers (markIn mostFields k) _ (mark-answers mostFields k) refl
+        (λ mark e. let t = positional-takes mark (told-parsed mostFields k mark e) is s g in
+        bind-answers {l = []} (takePositionalWord mark is s) _ (ok-answers _ (t .0) (t .1)) refl (λ u _. operand-answers u)))
 
     -- ---- calls with a form
     module _ (form : List ℕ) where
@@ -417,8 +437,9 @@ module _ (sheet slice : List ℕ) where
       unfolding onForm
       form-called f p t n h = handed-answers x _
           (bind-answers (formIn form) _ (form-answers form) p
-          (λ a _. with-items _ t (λ is. bind-answers (stateIn (length is) x) (f a is) (state-answers (length is) x) n
-          (λ s e. h a is s (state-good (length is) x s e)))))
+          (λ a _. with-items _ t (λ is.
+          bind-answers (stateIn (length (a .fields)) (length is) x) (f a is) (state-answers (length (a .fields)) (length is) x) n
+          (λ s e. h a is s (state-good (length (a .fields)) (length is) x s e)))))
 
       matches-called : (k i : ℕ) → Hands (1 ∷ 2 ∷ 3 ∷ 4 ∷ 6 ∷ 5 ∷ 7 ∷ 30 ∷ 29 ∷ 28 ∷ []) x (callMatches form sheet slice x k i)
       unfolding callMatches took all contains
@@ -426,22 +447,24 @@ module _ (sheet slice : List ℕ) where
           (λ a is s g. bind-answers _ _ (asked-answers (getElem? (a .trees) k >>? keyOf)) refl
           (λ m _. bind-answers _ _ (asked-answers (getElem? is i)) refl (λ y _. answers _)))
 
-      flag-called : (k : ℕ) → Hands (1 ∷ 2 ∷ 3 ∷ 4 ∷ 6 ∷ 5 ∷ 7 ∷ 30 ∷ 29 ∷ 28 ∷ []) x (callTakeFlag form sheet slice x k)
-      unfolding callTakeFlag parsedMark parsed all contains
-      flag-called k = form-called _ refl (refl, refl, refl) refl
+      flag-called : (k j : ℕ) → Hands (1 ∷ 2 ∷ 3 ∷ 4 ∷ 6 ∷ 5 ∷ 7 ∷ 30 ∷ 29 ∷ 28 ∷ []) x (callTakeFlag form sheet slice x k j)
+      unfolding callTakeFlag all contains
+      flag-called k j = form-called _ refl (refl, refl, refl) refl
           (λ a is s g. bind-answers _ _ (asked-answers (getElem? (a .trees) k >>? flagNames)) refl
-          (λ m _. let t = flag-takes 1 refl is m s g in ok-answers _ (t .0) (t .1)))
+          (λ m _. bind-answers (markIn (length (a .fields)) j) _ (mark-answers (length (a .fields)) j) refl
+          (λ mark e. let t = flag-takes mark (told-parsed (length (a .fields)) j mark e) is m s g in ok-answers _ (t .0) (t .1))))
 
-      arg-called : (k : ℕ) → Hands (1 ∷ 2 ∷ 3 ∷ 4 ∷ 6 ∷ 5 ∷ 7 ∷ 30 ∷ 29 ∷ 28 ∷ 22 ∷ []) x (callTakeArg form sheet slice x k)
-      unfolding callTakeArg parsedMark parsed all contains
-      arg-called k = form-called _ refl (refl, refl, refl) refl
+      arg-called : (k j : ℕ) → Hands (1 ∷ 2 ∷ 3 ∷ 4 ∷ 6 ∷ 5 ∷ 7 ∷ 30 ∷ 29 ∷ 28 ∷ 22 ∷ []) x (callTakeArg form sheet slice x k j)
+      unfolding callTakeArg all contains
+      arg-called k j = form-called _ refl (refl, refl, refl) refl
           (λ a is s g. bind-answers _ _ (asked-answers (getElem? (a .trees) k >>? argumentKey)) refl
-          (λ m _. more-answers (arg-answers is (m .named) (m .adjacent) s g) refl))
+          (λ m _. bind-answers (markIn (length (a .fields)) j) _ (mark-answers (length (a .fields)) j) refl
+          (λ mark e. more-answers (arg-answers mark (told-parsed (length (a .fields)) j mark e) is (m .named) (m .adjacent) s g) refl)))
 
       command-called : (k : ℕ) → Hands (1 ∷ 2 ∷ 3 ∷ 4 ∷ 6 ∷ 5 ∷ 7 ∷ 30 ∷ 29 ∷ 28 ∷ []) x (callTakeCmd form sheet slice x k)
-      unfolding callTakeCmd parsedMark all contains
+      unfolding callTakeCmd all contains
       command-called k = form-called _ refl (refl, refl, refl) refl
-          (λ a is s g. bind-answers _ _ (asked-answers (commandName a k)) refl (λ w _. more-answers (command-answers is w s g) refl))
+          (λ a is s g. bind-answers _ _ (asked-answers (commandName a k)) refl (λ w _. more-answers (command-answers commandMark command-parsed is w s g) refl))
 
   -- ---- with no state
   once-called : (i : ℕ) → Answers (6 ∷ 5 ∷ 7 ∷ 30 ∷ 28 ∷ []) (callOnlyOnce sheet slice i)
@@ -481,7 +504,7 @@ form-checked b a e = go (checkForm b) refl
     go (accepted d) h = h ∙ ap accepted (ok-injective (rw (h, formIn) at e))
     go (refusedAt n k) h = absurd (refused-not-ok _ a (rw (h, formIn) at e))
 
-asked-some : {A : Type 0} (o : Option A) (a : A) → asked o ≡ ok a → o ≡ some a
+pub asked-some : {A : Type 0} (o : Option A) (a : A) → asked o ≡ ok a → o ≡ some a
 unfolding asked
 asked-some none a e = absurd (refused-not-ok _ a e)
 asked-some (some b) a e = ap some (ok-injective e)
@@ -502,7 +525,7 @@ module _ (form sheet slice buffer list : List ℕ) (x : Raw) (k : ℕ) where
       (λ l _. bind-answers (sliceIn 8240 buffer) _ (slice-answers 8240 buffer) refl
       (λ _ _. bind-answers (listRoomIn (length list)) _ (list-answers (length list)) refl
       (λ _ _. bind-answers (itemsIn area l) _ (items-answers area l) refl
-      (λ is _. bind-answers (stateIn (length is) x) _ (state-answers (length is) x) refl
+      (λ is _. bind-answers (stateIn (length (a .fields)) (length is) x) _ (state-answers (length (a .fields)) (length is) x) refl
       (λ s _. bind-answers (asked (getElem? (a .trees) k)) _ (asked-answers _) refl (λ t _. answers _))))))))
 
   -- how the evaluation ended, and that only 20 has entries
@@ -510,7 +533,7 @@ module _ (form sheet slice buffer list : List ℕ) (x : Raw) (k : ℕ) where
       (r : Ran Value)
       → evalIn form sheet slice buffer list x k ≡ ok r
       → Answers late (r .outcome) × ((e : Refusal) → r .outcome ≡ refused e → isMissing e ≡ false → e .missing ≡ [])
-  unfolding evalIn parsedMark parsed
+  unfolding evalIn
   eval-ended r e =
       let (a, p, e₁) = bind-ok (formIn form) _ r e in
       let (area, q, e₂) = bind-ok (sheetIn sheet) _ r e₁ in
@@ -518,13 +541,15 @@ module _ (form sheet slice buffer list : List ℕ) (x : Raw) (k : ℕ) where
       let (m, v, e₄) = bind-ok (sliceIn 8240 buffer) _ r e₃ in
       let (n, y, e₅) = bind-ok (listRoomIn (length list)) _ r e₄ in
       let (is, w, e₆) = bind-ok (itemsIn area l) _ r e₅ in
-      let (s, h, e₇) = bind-ok (stateIn (length is) x) _ r e₆ in
+      let (s, h, e₇) = bind-ok (stateIn (length (a .fields)) (length is) x) _ r e₆ in
       let (t, g, e₈) = bind-ok (asked (getElem? (a .trees) k)) _ r e₇ in
       let z = All-at Sound (a .trees) k t (accepted-trees-sound form a (form-checked form a p)) (asked-some _ t g) in
-      let ends = eval-sound 1 refl is t z s (state-good (length is) x s h) .ends in
+      let field : ℕ = fieldOf (a .form) k in
+      let mark : ℕ = fieldMark field in
+      let ends = eval-sound mark (field-parsed field) is t z s (state-good (length (a .fields)) (length is) x s h) .ends in
       let same = ok-injective e₈ in (
-        rw same at (ends-answers (s .remaining + 1) (kindOf t) (eval 1 is t s .outcome) ends),
-        λ d q. missing-told .lacks 1 is t s d (ap (λ (u : Ran Value). u .outcome) same ∙ q) .only,
+        rw same at (ends-answers (s .remaining + 1) (kindOf t) (eval mark is t s .outcome) ends),
+        λ d q. missing-told .lacks mark is t s d (ap (λ (u : Ran Value). u .outcome) same ∙ q) .only,
       )
 
   evaluated-is :

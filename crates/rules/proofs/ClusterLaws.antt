@@ -21,7 +21,7 @@ use Rattle.rules.specs.Split.{Letter, clusterFrom, Cluster, single, allF
 use Rattle.rules.specs.Split.{disambiguateShort, flagItems, argumentItems, clusterItems, ambiguousAt, plain, clusterGroup, shortGroup}
 use Rattle.rules.specs.Split.{partsGroup, wordGroup, splitArgument, Split, joined, splitFrom, itemsOf, recordsFrom}
 use Rattle.rules.specs.State.{construct}
-use Rattle.rules.specs.Run.{Line, parsedMark, ambiguity, lineOf, split}
+use Rattle.rules.specs.Run.{Line, ambiguity, lineOf, split}
 use Rattle.rules.specs.Demands.{All}
 use Rattle.rules.specs.Clusters.{outcomeOf, itemCount, FlagsOnly, Unknown, EndsUnknown, OneWordMore, ClustersKnown}
 use Rattle.rules.proofs.SplitLaws.{cluster-step, ok-injective, behind, Open, items-behind, split-append}

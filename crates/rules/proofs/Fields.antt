@@ -7,13 +7,14 @@ use Prim.Native.Nat.{ℕ, zero, suc, _+_, _-_, _*_, _≤_}
 use native.Mathlib.Nat.{mul-le-mul-right, mul-add, le-trans, le-refl}
 use native.Mathlib.Omega.{arith}
 use lib.ListN.{length, length-append}
+use borrow.Author.Tests.{le-leb}
 use Rattle.rules.specs.Outcome.{Outcome, ok, refused, fault, _>>=_, refuse}
 use Rattle.rules.specs.Value.{BaseValue, Value, size, words, answerWords}
 use Rattle.rules.specs.Tree.{Tree, kindOf, hasRepeat}
 use Rattle.rules.specs.Split.{Item}
-use Rattle.rules.specs.State.{State, Found, parsed, presentAt, presentFrom, unused, first}
+use Rattle.rules.specs.State.{State, Found, markerMark, fieldMark, parsed, presentAt, presentFrom, unused, first}
 use Rattle.rules.specs.Eval.{Ran, ended, _then_, eval}
-use Rattle.rules.specs.Run.{parsedMark, markOf, runFields, leftOver, runAll}
+use Rattle.rules.specs.Run.{runFields, leftOver, runAll}
 use Rattle.rules.specs.Demands.{All, OnePerField, Ends}
 use Rattle.rules.specs.Sound.{Good, leaves, allLeaves, Sound}
 use Rattle.rules.proofs.Steps.{Step, inner, most, Visited}
@@ -63,9 +64,13 @@ most-leaves t r = if-holds (λ (x : ℕ). x ≤ (r + 2) * leaves t) (hasRepeat t
 abbrev pub AllMean : (BaseValue → Type 0) → List Tree → Type 0
 AllMean M ts = All (λ (t : Tree). All M (fallbacks t)) ts
 
-pub field-parsed : (k : ℕ) → parsed (markOf k) ≡ true
-unfolding parsed markOf parsedMark
-field-parsed k = refl
+pub field-parsed : (k : ℕ) → parsed (fieldMark k) ≡ true
+unfolding parsed fieldMark markerMark
+field-parsed k = le-leb 510 (512 + k) (omega arith)
+
+-- by the number that the code has
+pub mark-parsed : (k m : ℕ) → m ≡ fieldMark k → parsed m ≡ true
+mark-parsed k m e = rw e (field-parsed k)
 
 module _ (is : List Item) (M : BaseValue → Type 0) (means : Meaning is M) where
   pub fields-sound :
@@ -86,10 +91,10 @@ module _ (is : List Item) (M : BaseValue → Type 0) (means : Meaning is M) wher
       m = s .remaining + 1
 
       r : Ran Value
-      r = eval (markOf k) is t s
+      r = eval (fieldMark k) is t s
 
       w : Went M n 26 (Fits M m (kindOf t)) s (most t (s .remaining)) r
-      w = eval-means (markOf k) (field-parsed k) is M means t (z .0) (y .0) s g .went
+      w = eval-means (fieldMark k) (field-parsed k) is M means t (z .0) (y .0) s g .went
 
       small : (vs : List Value) → All (Small (r .state .remaining + 1)) vs → All (Small m) vs
       small vs = all-weaker _ (Small m) vs (λ v h. let f = w .step .fewer in omega (arith, h .0, h .1))

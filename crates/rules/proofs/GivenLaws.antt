@@ -6,7 +6,7 @@ use mathlib.Core.Path.{_≡_, refl, sym, ap, _∙_}
 use Prim.Native.Nat.{ℕ, _≤_, _<_}
 use native.Mathlib.Omega.{arith}
 use lib.ListN.{length}
-use borrow.Author.Tests.{eq-eqb, ne-eqb, le-leb, lt-leb}
+use borrow.Author.Tests.{eq-eqb, ne-eqb, le-leb, lt-leb, le-ltb, lt-ltb}
 use Rattle.utf8.specs.Utf8.{if_then_else_}
 use Rattle.rules.specs.Outcome.{Outcome, ok, refused, _>>=_, refuse}
 use Rattle.rules.specs.Sheet.{sheetFault}
@@ -14,7 +14,8 @@ use Rattle.rules.specs.Accept.{Checked, accepted, refusedAt, Accepted, l
 use Rattle.rules.specs.Codes.{checkCode}
 use Rattle.rules.specs.Given.{formIn, sheetIn, roomIn, listRoomIn, inputIn}
 use Rattle.rules.specs.Run.{split, runLine, refusedInput, report, run}
-use Rattle.rules.specs.Calls.{splitRefused, splitReport, callSplit}
+use Rattle.rules.specs.Calls.{markIn, splitRefused, splitReport, callSplit}
+use Rattle.rules.specs.State.{fieldMark}
 use Rattle.rules.specs.declared.Refused.{Refused}
 use Rattle.rules.proofs.Acceptance.{accepted-length}
 use Rattle.rules.proofs.WellMadeLaws.{check-numbers, well-made}
@@ -113,3 +114,13 @@ module _ (b s : List ℕ) (ni : ℕ) where
             → run b s ni na nl ≡ (split (a .form) s >>= λ l. report ni na nl l (runLine (a .fields) l))
         unfolding run roomIn listRoomIn _>>=_ if_then_else_
         run-goes na nl h k = rw (input-good, run, le-leb 8240 na h, le-leb 192 nl k)
+
+-- ---- 28: the field that a take is told
+module _ (fields k : ℕ) where
+  pub no-field : fields ≤ k → markIn fields k ≡ refused (refuse 28 none)
+  unfolding markIn if_then_else_
+  no-field h = rw (le-ltb k fields h)
+
+  pub field-there : k < fields → markIn fields k ≡ ok (fieldMark k)
+  unfolding markIn if_then_else_
+  field-there h = rw (lt-ltb k fields h)

@@ -16,8 +16,8 @@ use Rattle.rules.specs.Sheet.{arguments}
 use Rattle.rules.specs.Form.{readForm}
 use Rattle.rules.specs.Accept.{accepted, Accepted, checkForm, lettersOf}
 use Rattle.rules.specs.Split.{Split, splitFrom, itemsOf, recordsFrom}
-use Rattle.rules.specs.State.{State, emptyState, construct}
-use Rattle.rules.specs.Run.{Line, tooMany, ambiguity, parsedMark, lineOf, padded, split}
+use Rattle.rules.specs.State.{State, markerMark, emptyState, construct}
+use Rattle.rules.specs.Run.{Line, tooMany, ambiguity, lineOf, padded, split}
 use Rattle.rules.specs.Demands.{All}
 use Rattle.rules.specs.WellMade.{WellMade, SheetMade}
 use Rattle.rules.specs.Answered.{SheetFault, manyArguments, badSheet, Splits, AtFault, manyItems, ambiguousLetter, ItemsLeft}
@@ -89,7 +89,7 @@ module _ (b s : List ℕ) (l : Line) (e : Refusal) (refuses : l .refusal ≡ som
     few-refuses : ltb 256 (length (itemsOf x)) ≡ false → lineOf (arguments s) x ≡ ok l → (o : Option ℕ) → x .ambiguous ≡ o → Refuses b s l
     unfolding lineOf itemsOf ambiguity construct _>>=_ if_then_else_
     few-refuses t g none a =
-        let (u, h, k) = bind-ok (construct parsedMark (length (itemsOf x)) (x .marker)) _ l (rw t at g) in
+        let (u, h, k) = bind-ok (construct markerMark (length (itemsOf x)) (x .marker)) _ l (rw t at g) in
         let same = ap (λ (l : Line). l .refusal) (ok-injective k) in
         absurd (some≢none (sym refuses ∙ sym same ∙ ap ambiguity a))
     few-refuses t g (some i) a =

@@ -48,6 +48,12 @@ pub mod PortableLaws
 pub mod ClusterLaws
 -- Refusal 20
 pub mod MissingLaws
+-- Marks
+pub mod Turning
+pub mod NodeFields
+pub mod MarkLaws
+pub mod Passing
+pub mod CallsPass
 -- The demands
 pub mod Demand3Holds
 pub mod Demand1Holds

@@ -18,12 +18,12 @@ use Rattle.rules.specs.Tree.{Named, Position, unrestricted, strict, nonS
 use Rattle.rules.specs.Form.{Form}
 use Rattle.rules.specs.Accept.{Accepted, accepted, checkForm}
 use Rattle.rules.specs.Split.{Item}
-use Rattle.rules.specs.State.{State, Found, Picked, inScope, present, unused, get, findIn, find, first, used, remove, withCurrent, pickWinner}
+use Rattle.rules.specs.State.{State, Found, Picked, fieldMark, inScope, present, unused, get, findIn, find, first, used, remove, withCurrent, pickWinner}
 use Rattle.rules.specs.Take.{took, matchesArg, takeFlag, valueText, takeValue, takeArg, Operand, isOperand, operand, takePositionalWord}
 use Rattle.rules.specs.Eval.{Ran, ended, after, _then_, visit, leaf, refuseMissing, shownName, notFound, flagValue, evalFlag, numberOf, parseText, argumentValue, evalArgument}
 use Rattle.rules.specs.Eval.{wrongPosition, placedValue, positionalValue, evalPositional, fewer, swallowed, parseOption, evalOptional, idle, repeat, repeated}
 use Rattle.rules.specs.Eval.{evalMany, evalSome, evalCount, lastOf, evalLast, side, picksFirst, won, valueOf, picked, chosen, evalChoice, evalFallback, guarded, evalGuard, eval}
-use Rattle.rules.specs.Run.{markOf, runFields, leftOver, runAll}
+use Rattle.rules.specs.Run.{runFields, leftOver, runAll}
 use Rattle.rules.specs.Demands.{All}
 use Rattle.rules.specs.Sound.{leaves, allLeaves}
 use Rattle.rules.specs.Missing.{entry, endsMissing, lacking, LookedIn, Lacks, FieldLacks, MissingTold}
@@ -702,7 +702,7 @@ later-field k is t ts left e f = record {
         field = suc (x .field);
         tree = x .tree;
         here = x .here;
-        same = x .same ∙ ap (λ (n : ℕ). lacking (markOf n) is (x .tree) left) next;
+        same = x .same ∙ ap (λ (n : ℕ). lacking (fieldMark n) is (x .tree) left) next;
       };
 }
 
@@ -715,12 +715,12 @@ tree-lacks mark is t s e q =
 
 field-lacks :
     (k : ℕ) (is : List Item) (t : Tree) (ts : List Tree) (s : State) (e : Refusal)
-    → eval (markOf k) is t s .outcome ≡ refused e
-    → FieldLacks k is (t ∷ ts) (eval (markOf k) is t s .state) e
+    → eval (fieldMark k) is t s .outcome ≡ refused e
+    → FieldLacks k is (t ∷ ts) (eval (fieldMark k) is t s .state) e
 field-lacks k is t ts s e q =
-    let law = tree-lacks (markOf k) is t s e q in
+    let law = tree-lacks (fieldMark k) is t s e q in
     let here : k ≡ k + 0 = omega arith in
-    let left = eval (markOf k) is t s .state in
+    let left = eval (fieldMark k) is t s .state in
     record {
       only = law .only;
       listed = λ h. record {
@@ -728,8 +728,8 @@ field-lacks k is t ts s e q =
         tree = t;
         here = refl;
         same =
-            law .listed h ∙ ap (lacking (markOf k) is t) (sym (law .unchanged h))
-            ∙ ap (λ (n : ℕ). lacking (markOf n) is t left) here;
+            law .listed h ∙ ap (lacking (fieldMark k) is t) (sym (law .unchanged h))
+            ∙ ap (λ (n : ℕ). lacking (fieldMark n) is t left) here;
       };
     }
 
@@ -748,13 +748,13 @@ module _ (k : ℕ) (is : List Item) (t : Tree) (ts : List Tree) where
 
     first-lacks :
         (s : State) (e : Refusal)
-        → (eval (markOf k) is t s then rest) .outcome ≡ refused e
-        → FieldLacks k is (t ∷ ts) ((eval (markOf k) is t s then rest) .state) e
-    first-lacks s e q = go (then-refused (eval (markOf k) is t s) rest e q)
+        → (eval (fieldMark k) is t s then rest) .outcome ≡ refused e
+        → FieldLacks k is (t ∷ ts) ((eval (fieldMark k) is t s then rest) .state) e
+    first-lacks s e q = go (then-refused (eval (fieldMark k) is t s) rest e q)
       where
-        go : Refuses (eval (markOf k) is t s) rest e → FieldLacks k is (t ∷ ts) ((eval (markOf k) is t s then rest) .state) e
+        go : Refuses (eval (fieldMark k) is t s) rest e → FieldLacks k is (t ∷ ts) ((eval (fieldMark k) is t s then rest) .state) e
         go (at-once w l) = rw l (field-lacks k is t ts s e w)
-        go (going-on v w l) = rw l (rest-lacks v (eval (markOf k) is t s .state) e w)
+        go (going-on v w l) = rw l (rest-lacks v (eval (fieldMark k) is t s .state) e w)
 
 fields-lack :
     (k : ℕ) (is : List Item) (ts : List Tree) (s : State) (e : Refusal)
@@ -821,7 +821,7 @@ list-fits b a h k is s e q = go (isMissing e) refl (run-lacks k is (a .fields) s
     go true x f =
         let y = f .listed x in
         let same = ap length (y .same) in
-        let few = lacking-few (markOf (k + y .field)) is (y .tree) (runAll k is (a .fields) s .state) in
+        let few = lacking-few (fieldMark (k + y .field)) is (y .tree) (runAll k is (a .fields) s .state) in
         let within = leaves-within (a .fields) (y .field) (y .tree) (y .here) in
         let all = accepted-few b a h in
         omega arith

@@ -24,11 +24,11 @@ use Rattle.rules.specs.Split.{splitOsArgument, clusterFrom, pickLetter, 
 use Rattle.rules.specs.Split.{clusterItems, ambiguousAt, plain, clusterGroup, shortGroup, longGroup, partsGroup, wordGroup}
 use Rattle.rules.specs.Split.{splitArgument, positionals, joined, splitFrom, itemsOf, recordWords, bit, partOffset}
 use Rattle.rules.specs.Split.{recordWith, itemRecord, itemWords, recordsFrom}
-use Rattle.rules.specs.State.{parsed, present, winner, construct, emptyState, inScope, presentAt, presentFrom, unused, get}
+use Rattle.rules.specs.State.{markerMark, commandMark, fieldMark, parsed, present, winner, construct, emptyState, inScope, presentAt, presentFrom, unused, get}
 use Rattle.rules.specs.State.{findIn, find, first, used, remove, withCurrent, pickFrom, pickWinner, conflicts}
 use Rattle.rules.specs.State.{saveConflicts, conflictAt, conflict, countPresent, setScope, untilPresent, proposed}
 use Rattle.rules.specs.State.{adjacentScope, span, adjacentlyAvailableFrom, matchShort, matchLong, position, sameName}
-use Rattle.rules.specs.State.{before, onlyOnce, markGood, currentGood, stateGood}
+use Rattle.rules.specs.State.{before, onlyOnce, usedBelow, markGood, currentGood, stateGood}
 use Rattle.rules.specs.Take.{took, containsName, matchesArg, takeFlag, valueText, takeValue, takeArg, isOperand, isPosWord}
 use Rattle.rules.specs.Take.{textOf, operand, takePositionalWord, commandText, isCommand, takeCommand, takeCmd}
 use Rattle.rules.specs.Eval.{ended, after, _then_, visit, statesOf, leaf, refuseMissing, shownName, notFound, flagValue}
@@ -37,7 +37,7 @@ use Rattle.rules.specs.Eval.{wrongPosition, placedValue, positionalValue
 use Rattle.rules.specs.Eval.{evalOptional, idle, repeat, repeated, evalMany, evalSome, evalCount, lastOf, evalLast, side}
 use Rattle.rules.specs.Eval.{picksFirst, won, valueOf, picked, chosen, evalChoice, evalFallback, guarded, evalGuard, eval}
 use Rattle.rules.specs.Given.{formIn, sheetIn, roomIn, listRoomIn, sliceIn, inputIn}
-use Rattle.rules.specs.Run.{parsedMark, markOf, tooMany, ambiguity, lineOf, split, runFields, leftOver, runAll, runLine, padded}
+use Rattle.rules.specs.Run.{tooMany, ambiguity, lineOf, split, runFields, leftOver, runAll, runLine, padded}
 use Rattle.rules.specs.Run.{refusedInput, reportWith, report, run}
 use Rattle.rules.specs.Encode.{bytesOf, wordsOf, offsetsFrom, encodeSheet, encodeNode, encodeName, encodeForm}
 use Rattle.rules.specs.Lines.{reported, entries, allKinds}
@@ -67,10 +67,10 @@ unfolding dash equals beforeEquals behindEquals parts splitLong shortBody splitS
 splitting = tt
 
 unfoldable pub states : Unit {0}
-unfolding parsed present winner construct emptyState inScope presentAt presentFrom unused get findIn find first used
+unfolding markerMark commandMark fieldMark parsed present winner construct emptyState inScope presentAt presentFrom unused get findIn find first used
     remove withCurrent pickFrom pickWinner conflicts saveConflicts conflictAt conflict countPresent setScope
     untilPresent proposed adjacentScope span adjacentlyAvailableFrom matchShort matchLong position sameName before
-    onlyOnce markGood currentGood stateGood took containsName matchesArg takeFlag valueText takeValue takeArg
+    onlyOnce usedBelow markGood currentGood stateGood took containsName matchesArg takeFlag valueText takeValue takeArg
     isOperand isPosWord textOf operand takePositionalWord commandText isCommand takeCommand takeCmd
 states = tt
 
@@ -82,7 +82,7 @@ unfolding ended after _then_ visit statesOf leaf refuseMissing shownName notFoun
 evaluation = tt
 
 unfoldable pub running : Unit {0}
-unfolding formIn sheetIn roomIn listRoomIn sliceIn inputIn parsedMark markOf tooMany ambiguity lineOf split runFields leftOver runAll
+unfolding formIn sheetIn roomIn listRoomIn sliceIn inputIn tooMany ambiguity lineOf split runFields leftOver runAll
     runLine padded refusedInput reportWith report run bytesOf wordsOf offsetsFrom encodeSheet encodeNode encodeName
     encodeForm reported entries allKinds
 running = tt

@@ -9,10 +9,10 @@ use native.Mathlib.Nat.{le-refl, not-suc-le-zero, le-of-suc-le-suc, eq-or-lt-of-
 use native.Mathlib.Omega.{arith}
 use lib.Dec.{eqb}
 use lib.ListN.{length, take, drop, set, replicate, getElem?}
-use borrow.Author.Tests.{ne-eqb, lt-ltb, le-leb}
+use borrow.Author.Tests.{ne-eqb, lt-ltb, le-leb, lt-leb}
 use Rattle.utf8.specs.Utf8.{if_then_else_}
 use Rattle.rules.specs.Base.{all, minus, write, slice}
-use Rattle.rules.specs.State.{Picked, parsed, present, presentAt, presentFrom, countPresent, pickFrom, conflicts, markGood}
+use Rattle.rules.specs.State.{Picked, markerMark, parsed, present, presentAt, presentFrom, countPresent, pickFrom, conflicts, markGood}
 use Rattle.rules.specs.Demands.{All}
 
 -- ---- tests
@@ -126,21 +126,23 @@ pub parsed-not : (m : ℕ) → parsed m ≡ true → present m ≡ false
 unfolding present
 parsed-not m e = rw e
 
-pub conflict-present : (w : ℕ) → present (2 + w) ≡ true
-unfolding present parsed
-conflict-present w = rw (ne-eqb (2 + w) 1 (λ e. omega arith))
+-- a winner's place lies below 256, so that a conflict is no parsed mark
+pub conflict-present : (w : ℕ) → w < 256 → present (2 + w) ≡ true
+unfolding present parsed markerMark
+conflict-present w h = rw (lt-leb 510 (2 + w) (omega arith))
 
-pub parsed-good : (n m : ℕ) → parsed m ≡ true → markGood parsed n m ≡ true
+pub used-good : (used : ℕ → Bool) (n m : ℕ) → used m ≡ true → markGood used n m ≡ true
 unfolding markGood
-parsed-good n m e =
+used-good used n m e =
     if-elim (λ (b : Bool). b ≡ true) (eqb m 0) _ _ (λ _. refl)
-    (λ _. if-elim (λ (b : Bool). b ≡ true) (parsed m) _ _ (λ _. refl) (λ f. absurd (false≢true (sym f ∙ e))))
+    (λ _. if-elim (λ (b : Bool). b ≡ true) (used m) _ _ (λ _. refl) (λ f. absurd (false≢true (sym f ∙ e))))
 
-pub conflict-good : (n w : ℕ) → w < n → markGood parsed n (2 + w) ≡ true
-unfolding markGood parsed if_then_else_
-conflict-good n w h =
+pub conflict-good : (used : ℕ → Bool) (n w : ℕ) → w < n → markGood used n (2 + w) ≡ true
+unfolding markGood if_then_else_
+conflict-good used n w h =
     let back : 2 + w - 2 ≡ w = omega arith in
-    rw (ne-eqb (2 + w) 0 (λ e. omega arith), ne-eqb (2 + w) 1 (λ e. omega arith), le-leb 2 (2 + w) (omega arith), back, lt-ltb w n h)
+    rw (ne-eqb (2 + w) 0 (λ e. omega arith), le-leb 2 (2 + w) (omega arith), back, lt-ltb w n h)
+    (if-elim (λ (b : Bool). b ≡ true) (used (2 + w)) true true (λ _. refl) (λ _. refl))
 
 -- ---- the present ones of k places from a on
 
@@ -216,15 +218,15 @@ conflicts-length w (x ∷ m) [] = refl
 conflicts-length w (x ∷ m) (y ∷ l) = ap suc (conflicts-length w m l)
 
 -- a place is in conflict only where it is present, and stays so
-pub conflicts-present : (w : ℕ) (m l : List ℕ) (i : ℕ) → presentAt (conflicts w m l) i ≡ presentAt m i
+pub conflicts-present : (w : ℕ) → w < 256 → (m l : List ℕ) (i : ℕ) → presentAt (conflicts w m l) i ≡ presentAt m i
 unfolding conflicts presentAt
-conflicts-present w [] l i = refl
-conflicts-present w (x ∷ m) [] i = refl
-conflicts-present w (x ∷ m) (y ∷ l) zero =
+conflicts-present w h [] l i = refl
+conflicts-present w h (x ∷ m) [] i = refl
+conflicts-present w h (x ∷ m) (y ∷ l) zero =
     if-elim (λ (z : ℕ). present z ≡ present x) (present x && parsed y) _ _
-    (λ e. conflict-present w ∙ sym (left (present x) (parsed y) e))
+    (λ e. conflict-present w h ∙ sym (left (present x) (parsed y) e))
     (λ _. refl)
-conflicts-present w (x ∷ m) (y ∷ l) (suc i) = conflicts-present w m l i
+conflicts-present w h (x ∷ m) (y ∷ l) (suc i) = conflicts-present w h m l i
 
 pub conflicts-good : (n w : ℕ) (m l : List ℕ) → w < n → all (markGood parsed n) m ≡ true → all (markGood parsed n) (conflicts w m l) ≡ true
 unfolding conflicts all
@@ -233,7 +235,7 @@ conflicts-good n w (x ∷ m) [] h e = e
 conflicts-good n w (x ∷ m) (y ∷ l) h e =
     both _ _
     (if-elim (λ (z : ℕ). markGood parsed n z ≡ true) (present x && parsed y) _ _
-    (λ _. conflict-good n w h)
+    (λ _. conflict-good parsed n w h)
     (λ _. left _ (all (markGood parsed n) m) e))
     (conflicts-good n w m l h (right (markGood parsed n x) _ e))
 

@@ -25,8 +25,8 @@ use Rattle.rules.specs.Split.{Letter, clusterFrom, Cluster, single, allF
 use Rattle.rules.specs.Split.{disambiguateShort, flagItems, clusterItems, ambiguousAt}
 use Rattle.rules.specs.Split.{Group, plain, clusterGroup, shortGroup, longGroup, partsGroup, wordGroup, splitArgument}
 use Rattle.rules.specs.Split.{Split, positionals, joined, splitFrom, itemsOf, itemWords, recordWords, recordsFrom}
-use Rattle.rules.specs.State.{parsed}
-use Rattle.rules.specs.Run.{Line, parsedMark, tooMany, ambiguity, lineOf, split}
+use Rattle.rules.specs.State.{markerMark, parsed}
+use Rattle.rules.specs.Run.{Line, tooMany, ambiguity, lineOf, split}
 use Rattle.rules.specs.Demands.{hasMarker, placesLeft}
 use Rattle.rules.specs.Sound.{Good}
 use Rattle.rules.proofs.Places.{if-elim}
@@ -524,11 +524,15 @@ unfolding ambiguity
 ambiguity-some none e h = absurd (some≢none (sym h))
 ambiguity-some (some i) e h = (i, cc, refl)
 
+marker-parsed : parsed markerMark ≡ true
+unfolding parsed markerMark
+marker-parsed = refl
+
 line-of :
     (l : Letters) (args : List (List ℕ)) (x : Split)
     → splitFrom l 0 args ≡ ok x
     → (y : Line) × (lineOf args x ≡ ok y) × ((y ≡ tooMany) ⊎ LineGood args y)
-unfolding lineOf if_then_else_ _>>=_ parsedMark parsed
+unfolding lineOf if_then_else_ _>>=_
 line-of l args x e = go (ltb 256 (length (itemsOf x))) refl
   where
     go : (t : Bool) → ltb 256 (length (itemsOf x)) ≡ t → (y : Line) × (lineOf args x ≡ ok y) × ((y ≡ tooMany) ⊎ LineGood args y)
@@ -536,7 +540,8 @@ line-of l args x e = go (ltb 256 (length (itemsOf x))) refl
     go false h =
         let n = length (itemsOf x) in
         let m = marker-below n (hasMarker args) (x .marker) (x .ambiguous) (split-ended l 0 args x e) in
-        let c = construct-good 1 refl n (x .marker) m in
+        let few : n ≤ 256 = ltb-false 256 n h in
+        let c = construct-good markerMark marker-parsed n (x .marker) few m in
         let y : Line = record {
           refusal = ambiguity (x .ambiguous);
           items = itemsOf x;
@@ -546,7 +551,7 @@ line-of l args x e = go (ltb 256 (length (itemsOf x))) refl
           y,
           rw (h, c .1),
           inr (record {
-            few = ltb-false 256 n h;
+            few = few;
             good = c .2;
             records = records-length l args x e;
             remaining = λ z.

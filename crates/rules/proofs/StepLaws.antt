@@ -15,15 +15,15 @@ use Rattle.rules.specs.Base.{isSome, all}
 use Rattle.rules.specs.Outcome.{Outcome, ok, refused, _>>=_, at, refuse}
 use Rattle.rules.specs.Tree.{Named}
 use Rattle.rules.specs.Split.{Item, Short, Long, ArgWord, Word, PosWord}
-use Rattle.rules.specs.State.{State, Found, Picked, parsed, present, construct, inScope, presentAt, presentFrom, unused, get, findIn, find, first, used, remove, withCurrent}
-use Rattle.rules.specs.State.{pickWinner, saveConflicts, countPresent, setScope, markGood, currentGood, stateGood}
+use Rattle.rules.specs.State.{State, Found, Picked, markerMark, parsed, present, construct, inScope, presentAt, presentFrom, unused, get, findIn, find, first, used, remove, withCurrent}
+use Rattle.rules.specs.State.{pickWinner, saveConflicts, countPresent, setScope, usedBelow, markGood, currentGood, stateGood}
 use Rattle.rules.specs.Take.{Took, took, matchesArg, takeFlag, Taken, valueText, takeValue, takeArg, Operand, isOperand, operand, takePositionalWord}
 use Rattle.rules.specs.Eval.{won}
 use Rattle.rules.specs.Demands.{All, hasText}
 use Rattle.rules.specs.Sound.{Good}
 use Rattle.rules.proofs.Steps.{Step}
-use Rattle.rules.proofs.Places.{if-elim, left, right, at-below, present-below, mark-present, minus-below, write-below, set-same, set-other, set-kept, all-set, parsed-not}
-use Rattle.rules.proofs.Places.{parsed-good, from-same, from-used, from-each, from-all, slice-below, count-from, replicate-present, all-replicate, conflicts-length}
+use Rattle.rules.proofs.Places.{if-elim, both, left, right, at-below, present-below, mark-present, minus-below, write-below, set-same, set-other, set-kept, all-set, parsed-not}
+use Rattle.rules.proofs.Places.{used-good, from-same, from-used, from-each, from-all, slice-below, count-from, replicate-present, all-replicate, conflicts-length}
 use Rattle.rules.proofs.Places.{conflicts-present, conflicts-good, Differs, pick-case}
 
 -- ---- steps
@@ -144,10 +144,11 @@ module _ (k : ℕ) (told : parsed k ≡ true) (n : ℕ) (s : State) (i : ℕ) (g
   pub removed-good : Free s i → Good n (removed k s i)
   unfolding currentGood
   removed-good f = record {
+    small = g .small;
     long = length-set (s .marks) i k ∙ g .long;
     order = g .order;
     inside = g .inside;
-    marks = all-set (markGood parsed n) (s .marks) i k (g .marks) (parsed-good n k told);
+    marks = all-set (markGood parsed n) (s .marks) i k (g .marks) (used-good parsed n k told);
     current = lt-ltb i n (free-below n s i g f);
     counted = let c = removed-count f in omega arith;
   }
@@ -234,6 +235,7 @@ OperandAt is (some x) = TextAt is (x .place)
 pub current-good : (n : ℕ) (s : State) (i : ℕ) → Good n s → i < n → Good n (withCurrent (some i) s)
 unfolding withCurrent currentGood unused
 current-good n s i g h = record {
+  small = g .small;
   long = g .long;
   order = g .order;
   inside = g .inside;
@@ -330,6 +332,20 @@ module _ (k : ℕ) (told : parsed k ≡ true) (is : List Item) where
 
 -- ---- the winner of two
 
+pub saved-good : (n : ℕ) (s loser : State) (w : ℕ) → Good n s → w < n → Good n (saveConflicts s loser w)
+unfolding saveConflicts unused
+saved-good n s loser w g h =
+    let low : w < 256 = omega (arith, g .small) in
+    record {
+      small = g .small;
+      long = conflicts-length w (s .marks) (loser .marks) ∙ g .long;
+      order = g .order;
+      inside = g .inside;
+      marks = conflicts-good n w (s .marks) (loser .marks) h (g .marks);
+      current = g .current;
+      counted = g .counted ∙ ap length (sym (from-same _ (s .marks) _ _ (λ j _. conflicts-present w low (s .marks) (loser .marks) j)));
+    }
+
 -- the winner has used a place that the loser has not
 won-step : (n : ℕ) (s a b : State) (w : ℕ) → Step n s a → Step n s b
     → presentAt (a .marks) w ≡ false → presentAt (b .marks) w ≡ true → Step n s (won a b (some w))
@@ -337,19 +353,13 @@ unfolding won saveConflicts unused
 won-step n s a b w p q gone here =
     let lower : a .remaining < s .remaining = p .strict w (q .kept w here) gone in
     let below : w < n = omega (arith, present-below (b .marks) w here, q .good .long) in
+    let low : w < 256 = omega (arith, p .good .small) in
     record {
-      good = record {
-        long = conflicts-length w (a .marks) (b .marks) ∙ p .good .long;
-        order = p .good .order;
-        inside = p .good .inside;
-        marks = conflicts-good n w (a .marks) (b .marks) below (p .good .marks);
-        current = p .good .current;
-        counted = p .good .counted ∙ ap length (sym (from-same _ (a .marks) _ _ (λ j _. conflicts-present w (a .marks) (b .marks) j)));
-      };
+      good = saved-good n a b w (p .good) below;
       start = p .start;
       end = p .end;
       fewer = p .fewer;
-      kept = λ j e. p .kept j (sym (conflicts-present w (a .marks) (b .marks) j) ∙ e);
+      kept = λ j e. p .kept j (sym (conflicts-present w low (a .marks) (b .marks) j) ∙ e);
       strict = λ j x y. lower;
       still = λ e. absurd (omega arith);
     }
@@ -379,14 +389,31 @@ won-second n s a b g p q e = ⊎-elim
 
 -- ---- the test of a state
 
-pub good-test : (n : ℕ) (s : State) → n ≤ 256 → Good n s → stateGood parsed n s ≡ true
+-- marks that are used by fields below a number are parsed
+below-good : (fields n m : ℕ) → markGood (usedBelow fields) n m ≡ true → markGood parsed n m ≡ true
+unfolding markGood usedBelow if_then_else_
+below-good fields n m h = go (eqb m 0) refl (parsed m) refl
+  where
+    go : (z : Bool) → eqb m 0 ≡ z → (b : Bool) → parsed m ≡ b → markGood parsed n m ≡ true
+    go true z b e = rw z
+    go false z true e = rw (z, e)
+    go false z false e = let k = rw (z, e) at h in rw (z, e) k
+
+pub all-used : (fields n : ℕ) (l : List ℕ) → all (markGood (usedBelow fields) n) l ≡ true → all (markGood parsed n) l ≡ true
+unfolding all
+all-used fields n [] h = refl
+all-used fields n (m ∷ l) h =
+    both _ _ (below-good fields n m (left _ (all (markGood (usedBelow fields) n) l) h))
+    (all-used fields n l (right (markGood (usedBelow fields) n m) _ h))
+
+pub good-test : (fields n : ℕ) (s : State) → Good n s → all (markGood (usedBelow fields) n) (s .marks) ≡ true → stateGood fields n s ≡ true
 unfolding stateGood
-good-test n s h g =
-    rw (eq-eqb _ _ (g .long), le-leb _ _ h, le-leb _ _ (g .order), le-leb _ _ (g .inside), g .marks, g .current, eq-eqb _ _ (g .counted))
+good-test fields n s g marks =
+    rw (eq-eqb _ _ (g .long), le-leb _ _ (g .small), le-leb _ _ (g .order), le-leb _ _ (g .inside), marks, g .current, eq-eqb _ _ (g .counted))
 
 each-test : (a b c d e f : Bool) → a && b && c && d && e && f ≡ true
-    → (a ≡ true) × (c ≡ true) × (d ≡ true) × (e ≡ true) × (f ≡ true)
-each-test true true true true true true h = (refl, refl, refl, refl, refl)
+    → (a ≡ true) × (b ≡ true) × (c ≡ true) × (d ≡ true) × (e ≡ true) × (f ≡ true)
+each-test true true true true true true h = (refl, refl, refl, refl, refl, refl)
 each-test true true true true true false h = absurd (false≢true h)
 each-test true true true true false f h = absurd (false≢true h)
 each-test true true true false e f h = absurd (false≢true h)
@@ -394,22 +421,27 @@ each-test true true false d e f h = absurd (false≢true h)
 each-test true false c d e f h = absurd (false≢true h)
 each-test false b c d e f h = absurd (false≢true h)
 
-pub test-good : (n : ℕ) (s : State) → stateGood parsed n s ≡ true → Good n s
+-- a state that the test lets through, and its marks
+pub test-good : (fields n : ℕ) (s : State) → stateGood fields n s ≡ true
+    → Good n s × (all (markGood (usedBelow fields) n) (s .marks) ≡ true)
 unfolding stateGood
-test-good n s h =
+test-good fields n s h =
     let order : Bool = leb (s .start) (s .end) in
     let inside : Bool = leb (s .end) n in
-    let marks : Bool = all (markGood parsed n) (s .marks) in
+    let marks : Bool = all (markGood (usedBelow fields) n) (s .marks) in
     let counted : Bool = eqb (s .remaining) (length (unused s)) in
-    let t = each-test (eqb (length (s .marks)) n) (leb n 256) (order && inside) marks (currentGood n (s .current)) counted h in
-    record {
-      long = eqb-true _ _ (t .0);
-      order = leb-true _ _ (left order inside (t .1));
-      inside = leb-true _ _ (right order inside (t .1));
-      marks = t .2;
-      current = t .3;
-      counted = eqb-true _ _ (t .4);
-    }
+    let t = each-test (eqb (length (s .marks)) n) (leb n 256) (order && inside) marks (currentGood n (s .current)) counted h in (
+      record {
+        small = leb-true _ _ (t .1);
+        long = eqb-true _ _ (t .0);
+        order = leb-true _ _ (left order inside (t .2));
+        inside = leb-true _ _ (right order inside (t .2));
+        marks = all-used fields n (s .marks) (t .3);
+        current = t .4;
+        counted = eqb-true _ _ (t .5);
+      },
+      t .3,
+    )
 
 -- ---- places that remain
 present-few : (marks : List ℕ) (n i : ℕ) → length (presentFrom marks n i) ≤ n
@@ -426,38 +458,39 @@ remaining-within n s g = omega (arith, g .counted, g .order, g .inside, present-
 -- ---- scopes
 
 pub zero-present : present 0 ≡ true
-unfolding present parsed
+unfolding present parsed markerMark
 zero-present = refl
 
-pub zero-good : (n : ℕ) → markGood parsed n 0 ≡ true
+pub zero-good : (used : ℕ → Bool) (n : ℕ) → markGood used n 0 ≡ true
 unfolding markGood if_then_else_
-zero-good n = refl
+zero-good used n = refl
 
 -- all n places are unused
 fresh : (n k : ℕ) → k ≡ n → length (presentFrom (replicate n 0) k 0) ≡ n
 fresh n k e = from-all (replicate n 0) k 0 (λ i _ l. replicate-present n 0 i zero-present (omega arith)) ∙ e
 
 -- `construct`, with no `--` and with the place of one
-construct-fresh : (k n : ℕ) → (s : State) × (construct k n none ≡ ok s) × Good n s × (s .remaining ≡ n)
+construct-fresh : (k n : ℕ) → n ≤ 256 → (s : State) × (construct k n none ≡ ok s) × Good n s × (s .remaining ≡ n)
 unfolding construct currentGood unused
-construct-fresh k n = (
+construct-fresh k n few = (
   record { marks = replicate n 0; remaining = n; current = none; start = 0; end = n },
   refl,
   record {
+    small = few;
     long = length-replicate n 0;
     order = omega arith;
     inside = omega arith;
-    marks = all-replicate (markGood parsed n) n 0 (zero-good n);
+    marks = all-replicate (markGood parsed n) n 0 (zero-good parsed n);
     current = refl;
     counted = sym (fresh n (n - 0) (omega arith));
   },
   refl,
 )
 
-construct-marked : (k : ℕ) → parsed k ≡ true → (n i : ℕ) → i < n
+construct-marked : (k : ℕ) → parsed k ≡ true → (n i : ℕ) → n ≤ 256 → i < n
     → (s : State) × (construct k n (some i) ≡ ok s) × Good n s × (s .remaining + 1 ≡ n)
 unfolding construct currentGood unused _>>=_ at
-construct-marked k told n i h =
+construct-marked k told n i few h =
     let zeros : List ℕ = replicate n 0 in
     let long : length zeros ≡ n = length-replicate n 0 in
     let inside : i < length zeros = rw long h in
@@ -468,10 +501,11 @@ construct-marked k told n i h =
       record { marks = set zeros i k; remaining = n - 1; current = none; start = 0; end = n },
       rw (write-below zeros i k inside, minus-below n 1 (omega arith)),
       record {
+        small = few;
         long = length-set zeros i k ∙ long;
         order = omega arith;
         inside = omega arith;
-        marks = all-set (markGood parsed n) zeros i k (all-replicate (markGood parsed n) n 0 (zero-good n)) (parsed-good n k told);
+        marks = all-set (markGood parsed n) zeros i k (all-replicate (markGood parsed n) n 0 (zero-good parsed n)) (used-good parsed n k told);
         current = refl;
         counted = omega arith;
       },
@@ -488,10 +522,10 @@ abbrev pub Remains : ℕ → Option ℕ → ℕ → Type 0
 Remains n none r = r ≡ n
 Remains n (some i) r = r + 1 ≡ n
 
-pub construct-good : (k : ℕ) → parsed k ≡ true → (n : ℕ) (marker : Option ℕ) → Within n marker
+pub construct-good : (k : ℕ) → parsed k ≡ true → (n : ℕ) (marker : Option ℕ) → n ≤ 256 → Within n marker
     → (s : State) × (construct k n marker ≡ ok s) × Good n s × Remains n marker (s .remaining)
-construct-good k told n none h = construct-fresh k n
-construct-good k told n (some i) h = construct-marked k told n i h
+construct-good k told n none few h = construct-fresh k n few
+construct-good k told n (some i) few h = construct-marked k told n i few h
 
 pub set-scope-good : (n : ℕ) (s : State) (a b : ℕ) → Good n s → a ≤ b → b ≤ n
     → (u : State) × (setScope s a b ≡ ok u) × Good n u × (u .start ≡ a) × (u .end ≡ b)
@@ -501,6 +535,7 @@ set-scope-good n s a b g h l =
       record { marks = s .marks; remaining = countPresent (take (b - a) (drop a (s .marks))); current = s .current; start = a; end = b },
       rw (slice-below a b (s .marks) h (omega arith)),
       record {
+        small = g .small;
         long = long;
         order = h;
         inside = l;

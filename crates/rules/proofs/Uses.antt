@@ -153,6 +153,11 @@ module _ (f : Form) (ts : List Tree) (k : ℕ) (x : Node) where
   made-parts t (fallbackMade c κ v z u h g w e) = child-parts _ c 10 z h refl refl refl
   made-parts t (guardMade c z u h s e) = child-parts _ c 11 z h refl refl refl
 
+-- the children of a node have lower numbers
+pub children-lower : (f : Form) (ts : List Tree) (k : ℕ) (x : Node) (t : Tree) → Made f ts k x t → All (λ (i : ℕ). i < k) (childrenOf x)
+unfolding childrenOf childrenBy
+children-lower f ts k x t m = made-parts f ts k x t m .lower
+
 -- ---- all nodes
 count-own : (x : Node) (xs : List Node) → leafCount (x ∷ xs) ≡ own (x .kind) + leafCount xs
 unfolding leafCount own if_then_else_

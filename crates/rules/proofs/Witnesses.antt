@@ -57,20 +57,20 @@ unfoldable fresh : State
 fresh = record { marks = 0 ∷ 0 ∷ []; remaining = 2; current = none; start = 0; end = 2 }
 
 unfoldable after-one : State
-after-one = record { marks = 0 ∷ 1 ∷ []; remaining = 1; current = some 1; start = 0; end = 2 }
+after-one = record { marks = 0 ∷ 512 ∷ []; remaining = 1; current = some 1; start = 0; end = 2 }
 
 unfoldable after-zero : State
-after-zero = record { marks = 1 ∷ 0 ∷ []; remaining = 1; current = some 0; start = 0; end = 2 }
+after-zero = record { marks = 512 ∷ 0 ∷ []; remaining = 1; current = some 0; start = 0; end = 2 }
 
 -- place 1 is in conflict with place 0
 unfoldable after-choice : State
-after-choice = record { marks = 1 ∷ 2 ∷ []; remaining = 1; current = some 0; start = 0; end = 2 }
+after-choice = record { marks = 512 ∷ 2 ∷ []; remaining = 1; current = some 0; start = 0; end = 2 }
 
 unfoldable one-word : State
 one-word = record { marks = 0 ∷ []; remaining = 1; current = none; start = 0; end = 1 }
 
 unfoldable word-used : State
-word-used = record { marks = 1 ∷ []; remaining = 0; current = some 0; start = 0; end = 1 }
+word-used = record { marks = 512 ∷ []; remaining = 0; current = some 0; start = 0; end = 1 }
 
 unfoldable nothing : State
 nothing = record { marks = []; remaining = 0; current = none; start = 0; end = 0 }
@@ -106,10 +106,10 @@ spots :
     -- a short name of no byte
     × (shortGroup noLetters [] [] (some []) ≡ fault (panic construct361))
     -- a `--` at a place that is not there
-    × (construct 1 0 (some 0) ≡ fault (panic construct390))
+    × (construct 510 0 (some 0) ≡ fault (panic construct390))
     -- a scope past the marks; a present place with nothing remaining
-    × (remove 1 (forged [] 0 0 1) 0 ≡ fault (panic remove431))
-    × (remove 1 (forged (0 ∷ []) 0 0 1) 0 ≡ fault (panic remove433))
+    × (remove 512 (forged [] 0 0 1) 0 ≡ fault (panic remove431))
+    × (remove 512 (forged (0 ∷ []) 0 0 1) 0 ≡ fault (panic remove433))
     -- a scope that starts past the marks of the one state, and of the other
     × (adjacentScope (forged (0 ∷ []) 0 2 2) (forged (0 ∷ 0 ∷ []) 0 0 2) ≡ fault (panic adjacentScope506))
     × (adjacentScope (forged (0 ∷ []) 0 1 1) (forged [] 0 0 0) ≡ fault (panic adjacentScope508))
@@ -121,18 +121,18 @@ spots :
     × (onlyOnce [] 1 ≡ fault (panic onlyOnce282))
     × (before 0 (some 0) ≡ fault (panic onlyOnce288))
     -- a required flag, and an argument, that have no name
-    × (eval 1 [] (Flag 0 noNames false) (forged [] 0 0 0) .outcome ≡ fault (panic parseFlag559))
-    × (eval 1 [] (Argument 0 noNames text false) (forged [] 0 0 0) .outcome ≡ fault (panic takeArgument679))
+    × (eval 512 [] (Flag 0 noNames false) (forged [] 0 0 0) .outcome ≡ fault (panic parseFlag559))
+    × (eval 512 [] (Argument 0 noNames text false) (forged [] 0 0 0) .outcome ≡ fault (panic takeArgument679))
     -- a guard on a flag
-    × (eval 1 flagItem (Guard 1 5 (Flag 0 named-v false)) (forged (0 ∷ []) 1 0 1) .outcome ≡ fault wrongKind)
+    × (eval 512 flagItem (Guard 1 5 (Flag 0 named-v false)) (forged (0 ∷ []) 1 0 1) .outcome ≡ fault wrongKind)
     -- an argument that is to be read as a yes/no
-    × (eval 1 valueItems (Argument 0 named-v yesNo false) fresh .outcome ≡ fault wrongKind)
+    × (eval 512 valueItems (Argument 0 named-v yesNo false) fresh .outcome ≡ fault wrongKind)
     -- an optional of an optional: its value is of no kind
-    × (eval 1 [] (Optional false (Optional false (Flag 0 named-v false))) nothing .outcome ≡ ok (there absent))
+    × (eval 512 [] (Optional false (Optional false (Flag 0 named-v false))) nothing .outcome ≡ ok (there absent))
     × (kindOf (Optional false (Optional false (Flag 0 named-v false))) ≡ none)
     × (ofKind none (there absent) ≡ false)
     -- a repeat with one turn's fuel
-    × (repeat false false 1 none (eval 1 flagItem (Flag 0 named-v true)) (forged (0 ∷ []) 1 0 1) .outcome ≡ fault endless)
+    × (repeat false false 1 none (eval 512 flagItem (Flag 0 named-v true)) (forged (0 ∷ []) 1 0 1) .outcome ≡ fault endless)
 unfolding formats forms splitting states evaluation named-v named-q flagItem twoItems valueItems wordItem fresh after-one
     after-zero after-choice one-word word-used nothing forged noNames noLetters visited gaveYes missingV
 spots = (refl, refl, refl, refl, refl, refl, refl, refl, refl, refl, refl, refl, refl, refl, refl, refl, refl, refl, refl)
@@ -140,21 +140,21 @@ spots = (refl, refl, refl, refl, refl, refl, refl, refl, refl, refl, refl, refl,
 -- ---- states passed through
 passed-through :
     -- the loser of a choice: v, q on `-q` `-v`; the first evaluation is v's, which loses
-    (eval 1 twoItems (Choice (Flag 0 named-v false) (Flag 1 named-q false)) fresh .trace
+    (eval 512 twoItems (Choice (Flag 0 named-v false) (Flag 1 named-q false)) fresh .trace
     ≡ (visited yesNo fresh gaveYes after-one ∷ visited yesNo fresh gaveYes after-zero ∷ visited yesNo fresh gaveYes after-choice ∷ []))
     -- an optional that is put back: its child has used the word
-    × (eval 1 wordItem (Optional true (Positional 0 unrestricted number)) one-word .trace
+    × (eval 512 wordItem (Optional true (Positional 0 unrestricted number)) one-word .trace
     ≡ (visited number one-word (refused (refuse 25 (some 0))) word-used
     ∷ record { kind = some (optional number); given = one-word; outcome = ok absent; left = one-word }
     ∷ []))
     -- a fallback that refuses: its child has used the word, on the copy
-    × (eval 1 wordItem (Fallback (isNumber 9) (Positional 0 unrestricted number)) one-word .trace
+    × (eval 512 wordItem (Fallback (isNumber 9) (Positional 0 unrestricted number)) one-word .trace
     ≡ (visited number one-word (refused (refuse 25 (some 0))) word-used ∷ visited number one-word (refused (refuse 25 (some 0))) one-word ∷ []))
     -- `last` with no value tries its child once more: two evaluations of the child, one of its own
-    × (eval 1 [] (Last (Flag 0 named-v false)) nothing .trace
+    × (eval 512 [] (Last (Flag 0 named-v false)) nothing .trace
     ≡ (visited yesNo nothing missingV nothing ∷ visited yesNo nothing missingV nothing ∷ visited yesNo nothing missingV nothing ∷ []))
     -- a fault is in the trace: a guard on a flag
-    × (eval 1 flagItem (Guard 1 5 (Flag 0 named-v false)) one-word .trace
+    × (eval 512 flagItem (Guard 1 5 (Flag 0 named-v false)) one-word .trace
     ≡ (visited yesNo one-word gaveYes word-used
     ∷ record { kind = none; given = one-word; outcome = fault wrongKind; left = word-used }
     ∷ []))
@@ -165,12 +165,12 @@ passed-through = (refl, refl, refl, refl, refl)
 -- ---- decisions that are easily made otherwise
 decided :
     -- `last` with no value: both tries count
-    (eval 1 [] (Last (Flag 0 named-v false)) nothing .tries ≡ 2)
+    (eval 512 [] (Last (Flag 0 named-v false)) nothing .tries ≡ 2)
     -- a success that used nothing gives way to 22: argument v, or 9 where q is missing, on `-v`
-    × (eval 1 flagItem (Choice (Argument 0 named-v number false) (Fallback (isNumber 9) (Argument 1 named-q number false))) one-word .outcome
+    × (eval 512 flagItem (Choice (Argument 0 named-v number false) (Fallback (isNumber 9) (Argument 1 named-q number false))) one-word .outcome
     ≡ refused (refuse 22 (some 0)))
     -- and so does one on the other side
-    × (eval 1 flagItem (Choice (Fallback (isNumber 9) (Argument 1 named-q number false)) (Argument 0 named-v number false)) one-word .outcome
+    × (eval 512 flagItem (Choice (Fallback (isNumber 9) (Argument 1 named-q number false)) (Argument 0 named-v number false)) one-word .outcome
     ≡ refused (refuse 22 (some 0)))
 unfolding formats forms splitting states evaluation named-v named-q flagItem twoItems valueItems wordItem fresh after-one
     after-zero after-choice one-word word-used nothing forged noNames noLetters visited gaveYes missingV

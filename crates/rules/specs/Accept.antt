@@ -6,7 +6,7 @@ use Prim.Native.Nat.{ℕ, suc}
 use lib.Dec.{leb, eqb}
 use lib.ListN.{length, getElem?}
 use Rattle.utf8.specs.Utf8.{if_then_else_}
-use Rattle.rules.specs.Base.{_>>?_, occurrences, numbers, concatMap, firstFault}
+use Rattle.rules.specs.Base.{_>>?_, contains, occurrences, numbers, concatMap, firstFault}
 use Rattle.rules.specs.Form.{Node, Form, countsGood, formLength, readForm, nameGood}
 use Rattle.rules.specs.Tree.{Tree, namedOf, treeOf}
 
@@ -68,6 +68,22 @@ checkRecords f =
 
 unfoldable pub checkForm : List ℕ → Checked Accepted
 checkForm b = if lengthGood b then checkRecords (readForm b) else refusedAt 1 none
+
+-- The field whose tree has a node: from the node up, each time to the one that has it as a child, and at last to a field's
+unfoldable pub topFrom : ℕ → ℕ → List Node → ℕ
+topFrom m n [] = n
+topFrom m n (x ∷ xs) = topFrom (suc m) (if contains (childrenOf x) n then m else n) xs
+
+unfoldable pub topOf : Form → ℕ → ℕ
+topOf f n = topFrom 0 n (f .nodes)
+
+-- how many stand before the first that is this number
+unfoldable pub indexOf : ℕ → List ℕ → ℕ
+indexOf n [] = 0
+indexOf n (x ∷ xs) = if eqb n x then 0 else suc (indexOf n xs)
+
+unfoldable pub fieldOf : Form → ℕ → ℕ
+fieldOf f n = indexOf (topOf f n) (f .fields)
 
 -- The letters that splitting looks up: the short names of flag nodes and of argument nodes
 pub record Letters : Type 0 where

@@ -11,15 +11,15 @@ use Rattle.rules.specs.Outcome.{Outcome, ok, refused, fault, _>>=_, Miss
 use Rattle.rules.specs.Value.{Kind, Value, words}
 use Rattle.rules.specs.Form.{nameBytes, portable}
 use Rattle.rules.specs.Tree.{Named, Tree, Flag, Argument, Positional, Optional, Many, Some, Count, Last, Choice, Fallback, Guard, zeros, kindOf}
-use Rattle.rules.specs.Accept.{Accepted}
+use Rattle.rules.specs.Accept.{Accepted, fieldOf}
 use Rattle.rules.specs.Split.{Item, Short, Long, ArgWord, Word, PosWord, ItemRecord}
-use Rattle.rules.specs.State.{State, emptyState, parsed, stateGood, get, remove, Conflict, conflict, Picked, pickWinner, saveConflicts, Scope, setScope, adjacentScope}
+use Rattle.rules.specs.State.{State, commandMark, fieldMark, emptyState, stateGood, get, remove, Conflict, conflict, Picked, pickWinner, saveConflicts, Scope, setScope, adjacentScope}
 use Rattle.rules.specs.State.{adjacentlyAvailableFrom, onlyOnce}
 use Rattle.rules.specs.Take.{Took, took, Taken, Operand, matchesArg, textOf, takeFlag, takeArg, takePositionalWord, takeCmd}
 use Rattle.rules.specs.Eval.{Ran, eval}
 use Rattle.rules.specs.Given.{listRoomIn, inputIn}
 unfoldable pub use Rattle.rules.specs.Given.{formIn, sheetIn, sliceIn}
-use Rattle.rules.specs.Run.{padded, parsedMark, Line, split}
+use Rattle.rules.specs.Run.{padded, Line, split}
 use Rattle.rules.specs.Codes.{placeCode, placeOf}
 use Rattle.rules.specs.declared.State.{State as Raw}
 
@@ -108,20 +108,28 @@ toRaw s = record {
   end = s .end;
 }
 
--- 29: a state that is not good, or not over this many items; later marks are 0
-unfoldable pub stateIn : ℕ → Raw → Outcome State
-stateIn n x =
-    if eqb (x .count) n && zeros (drop (x .count) (x .marks)) && stateGood parsed n (fromRaw x)
+-- 29: a state that is not good, or not over this many items; later marks are 0. The fields are those of the form
+unfoldable pub stateIn : (fields n : ℕ) → Raw → Outcome State
+stateIn fields n x =
+    if eqb (x .count) n && zeros (drop (x .count) (x .marks)) && stateGood fields n (fromRaw x)
     then ok (fromRaw x)
     else refused (refuse 29 none)
 
--- 28: no such node or name of the kind asked for, no such place
+-- where a call has no form
+unfoldable pub mostFields : ℕ
+mostFields = 16
+
+-- 28: no such node or name of the kind asked for, no such place or field
 unfoldable pub asked : {A : Type 0} → Option A → Outcome A
 asked none = refused (refuse 28 none)
 asked (some a) = ok a
 
 unfoldable pub placeIn : ℕ → ℕ → Outcome ℕ
 placeIn n i = if ltb i n then ok i else refused (refuse 28 none)
+
+-- a field's number becomes the mark of what it uses
+unfoldable pub markIn : (fields k : ℕ) → Outcome ℕ
+markIn fields k = if ltb k fields then ok (fieldMark k) else refused (refuse 28 none)
 
 -- a scope that falls or leaves the items
 unfoldable pub scopeIn : ℕ → ℕ → ℕ → Outcome Scope
@@ -180,31 +188,32 @@ handed x (refused e) = ok (record { number = e .number; place = e .place; answer
 handed x (fault f) = fault f
 
 -- ---- calls on a state alone
-unfoldable pub callRemove : Raw → ℕ → Outcome (Called Bool)
-callRemove x i = handed x (stateIn (x .count) x >>= λ s. placeIn (x .count) i >>= λ _. remove parsedMark s i >>= took true)
+unfoldable pub callRemove : Raw → (place field : ℕ) → Outcome (Called Bool)
+callRemove x i k = handed x (stateIn mostFields (x .count) x >>= λ s. placeIn (x .count) i >>= λ _. markIn mostFields k >>= λ mark.
+    remove mark s i >>= took true)
 
 unfoldable pub callPickWinner : Raw → Raw → Outcome (Called Picked)
-callPickWinner x y = handed x (stateIn (x .count) x >>= λ s. stateIn (x .count) y >>= λ t. took (pickWinner s t) s)
+callPickWinner x y = handed x (stateIn mostFields (x .count) x >>= λ s. stateIn mostFields (x .count) y >>= λ t. took (pickWinner s t) s)
 
 unfoldable pub callSaveConflicts : Raw → Raw → ℕ → Outcome (Called Bool)
-callSaveConflicts x y w = handed x (stateIn (x .count) x >>= λ s. stateIn (x .count) y >>= λ t.
+callSaveConflicts x y w = handed x (stateIn mostFields (x .count) x >>= λ s. stateIn mostFields (x .count) y >>= λ t.
     placeIn (x .count) w >>= λ _. took true (saveConflicts s t w))
 
 unfoldable pub callSetScope : Raw → ℕ → ℕ → Outcome (Called Bool)
-callSetScope x a b = handed x (stateIn (x .count) x >>= λ s. scopeIn (x .count) a b >>= λ _. setScope s a b >>= took true)
+callSetScope x a b = handed x (stateIn mostFields (x .count) x >>= λ s. scopeIn (x .count) a b >>= λ _. setScope s a b >>= took true)
 
 unfoldable pub callAdjacentScope : Raw → Raw → Outcome (Called (Option Scope))
-callAdjacentScope x y = handed x (stateIn (x .count) x >>= λ s. stateIn (x .count) y >>= λ t.
+callAdjacentScope x y = handed x (stateIn mostFields (x .count) x >>= λ s. stateIn mostFields (x .count) y >>= λ t.
     adjacentScope s t >>= λ c. took c s)
 
 unfoldable pub callAvailableFrom : Raw → ℕ → Outcome (Called Scope)
-callAvailableFrom x a = handed x (stateIn (x .count) x >>= λ s. placeIn (suc (x .count)) a >>= λ _.
+callAvailableFrom x a = handed x (stateIn mostFields (x .count) x >>= λ s. placeIn (suc (x .count)) a >>= λ _.
     took (adjacentlyAvailableFrom s a) s)
 
 -- ---- calls on items and a state: sheet, item slice, state
 unfoldable pub onItems : {A : Type 0} → List ℕ → List ℕ → Raw → (List Item → State → Outcome (Took A)) → Outcome (Called A)
 onItems sheet slice x f = handed x (sheetIn sheet >>= λ area. sliceIn 1792 slice >>= λ l. itemsIn area l >>= λ is.
-    stateIn (length is) x >>= f is)
+    stateIn mostFields (length is) x >>= f is)
 
 unfoldable pub callGet : List ℕ → List ℕ → Raw → ℕ → Outcome (Called (Option Item))
 callGet sheet slice x i = onItems sheet slice x (λ is s. placeIn (length is) i >>= λ _. took (get is s i) s)
@@ -215,8 +224,9 @@ callConflict sheet slice x = onItems sheet slice x (λ is s. conflict is s >>= �
 unfoldable pub operandOr20 : Took (Option Operand) → Outcome (Took Operand)
 operandOr20 t = elim (t .answer) [ none ↦ refused (refuse 20 none) | some o ↦ took o (t .state) ]
 
-unfoldable pub callTakePositional : List ℕ → List ℕ → Raw → Outcome (Called Operand)
-callTakePositional sheet slice x = onItems sheet slice x (λ is s. takePositionalWord parsedMark is s >>= operandOr20)
+unfoldable pub callTakePositional : List ℕ → List ℕ → Raw → (field : ℕ) → Outcome (Called Operand)
+callTakePositional sheet slice x k = onItems sheet slice x (λ is s. markIn mostFields k >>= λ mark.
+    takePositionalWord mark is s >>= operandOr20)
 
 -- `only_once`: sheet, item slice and place, which is handed back in 32 bits; there is no state to hand back
 unfoldable pub callOnlyOnce : List ℕ → List ℕ → ℕ → Outcome (Option ℕ)
@@ -226,24 +236,25 @@ callOnlyOnce sheet slice i = sheetIn sheet >>= λ area. sliceIn 1792 slice >>= �
 -- ---- calls with a form: what the form must have is asked for last
 unfoldable pub onForm : {A : Type 0} → List ℕ → List ℕ → List ℕ → Raw → (Accepted → List Item → State → Outcome (Took A)) → Outcome (Called A)
 onForm form sheet slice x f = handed x (formIn form >>= λ a. sheetIn sheet >>= λ area. sliceIn 1792 slice >>= λ l.
-    itemsIn area l >>= λ is. stateIn (length is) x >>= f a is)
+    itemsIn area l >>= λ is. stateIn (length (a .fields)) (length is) x >>= f a is)
 
 unfoldable pub callMatches : List ℕ → List ℕ → List ℕ → Raw → ℕ → ℕ → Outcome (Called Bool)
 callMatches form sheet slice x k i = onForm form sheet slice x (λ a is s.
     asked (getElem? (a .trees) k >>? keyOf) >>= λ m. asked (getElem? is i) >>= λ y.
     took (matchesArg (m .named) (m .adjacent) y) s)
 
-unfoldable pub callTakeFlag : List ℕ → List ℕ → List ℕ → Raw → ℕ → Outcome (Called Bool)
-callTakeFlag form sheet slice x k = onForm form sheet slice x (λ a is s.
-    asked (getElem? (a .trees) k >>? flagNames) >>= λ m. takeFlag parsedMark is m s)
+unfoldable pub callTakeFlag : List ℕ → List ℕ → List ℕ → Raw → (node field : ℕ) → Outcome (Called Bool)
+callTakeFlag form sheet slice x k j = onForm form sheet slice x (λ a is s.
+    asked (getElem? (a .trees) k >>? flagNames) >>= λ m. markIn (length (a .fields)) j >>= λ mark. takeFlag mark is m s)
 
-unfoldable pub callTakeArg : List ℕ → List ℕ → List ℕ → Raw → ℕ → Outcome (Called (Option Taken))
-callTakeArg form sheet slice x k = onForm form sheet slice x (λ a is s.
-    asked (getElem? (a .trees) k >>? argumentKey) >>= λ m. takeArg parsedMark is (m .named) (m .adjacent) s)
+unfoldable pub callTakeArg : List ℕ → List ℕ → List ℕ → Raw → (node field : ℕ) → Outcome (Called (Option Taken))
+callTakeArg form sheet slice x k j = onForm form sheet slice x (λ a is s.
+    asked (getElem? (a .trees) k >>? argumentKey) >>= λ m. markIn (length (a .fields)) j >>= λ mark.
+    takeArg mark is (m .named) (m .adjacent) s)
 
 unfoldable pub callTakeCmd : List ℕ → List ℕ → List ℕ → Raw → ℕ → Outcome (Called Bool)
 callTakeCmd form sheet slice x k = onForm form sheet slice x (λ a is s.
-    asked (commandName a k) >>= λ w. takeCmd parsedMark is w s)
+    asked (commandName a k) >>= λ w. takeCmd commandMark is w s)
 
 -- the kind of a node, and the portable mark, of a form
 unfoldable pub callKind : List ℕ → ℕ → Outcome Kind
@@ -324,8 +335,9 @@ unchanged x answers list e = record
 
 unfoldable pub evalIn : List ℕ → List ℕ → List ℕ → List ℕ → List ℕ → Raw → ℕ → Outcome (Ran Value)
 evalIn form sheet slice answers list x k = formIn form >>= λ a. sheetIn sheet >>= λ area. sliceIn 1792 slice >>= λ l.
-    sliceIn 8240 answers >>= λ _. listRoomIn (length list) >>= λ _. itemsIn area l >>= λ is. stateIn (length is) x >>= λ s.
-    asked (getElem? (a .trees) k) >>= λ t. ok (eval parsedMark is t s)
+    sliceIn 8240 answers >>= λ _. listRoomIn (length list) >>= λ _. itemsIn area l >>= λ is.
+    stateIn (length (a .fields)) (length is) x >>= λ s. asked (getElem? (a .trees) k) >>= λ t.
+    ok (eval (fieldMark (fieldOf (a .form) k)) is t s)
 
 unfoldable pub callEval : List ℕ → List ℕ → List ℕ → List ℕ → List ℕ → Raw → ℕ → Outcome Evaluated
 callEval form sheet slice answers list x k = elim (evalIn form sheet slice answers list x k) [

@@ -64,7 +64,7 @@ pub record SplitsLine (form sheet : List ℕ) (n : ℕ) (o : Outcome Splitting) 
 -- Each call with its numbers, in the order in which they are tested
 pub record CallsAnswered : Type 0 where
   -- a state
-  pub remove : (x : Raw) (i : ℕ) → Hands (29 ∷ 28 ∷ []) x (callRemove x i)
+  pub remove : (x : Raw) (i k : ℕ) → Hands (29 ∷ 28 ∷ []) x (callRemove x i k)
   pub pickWinner : (x y : Raw) → Hands (29 ∷ []) x (callPickWinner x y)
   pub saveConflicts : (x y : Raw) (w : ℕ) → Hands (29 ∷ 28 ∷ []) x (callSaveConflicts x y w)
   pub setScope : (x : Raw) (a b : ℕ) → Hands (29 ∷ 28 ∷ []) x (callSetScope x a b)
@@ -74,19 +74,19 @@ pub record CallsAnswered : Type 0 where
   pub get : (sheet slice : List ℕ) (x : Raw) (i : ℕ) → Hands (6 ∷ 5 ∷ 7 ∷ 30 ∷ 29 ∷ 28 ∷ []) x (callGet sheet slice x i)
   pub conflict : (sheet slice : List ℕ) (x : Raw) → Hands (6 ∷ 5 ∷ 7 ∷ 30 ∷ 29 ∷ []) x (callConflict sheet slice x)
   pub takePositional :
-      (sheet slice : List ℕ) (x : Raw)
-      → Hands (6 ∷ 5 ∷ 7 ∷ 30 ∷ 29 ∷ 20 ∷ []) x (callTakePositional sheet slice x)
+      (sheet slice : List ℕ) (x : Raw) (k : ℕ)
+      → Hands (6 ∷ 5 ∷ 7 ∷ 30 ∷ 29 ∷ 28 ∷ 20 ∷ []) x (callTakePositional sheet slice x k)
   pub onlyOnce : (sheet slice : List ℕ) (i : ℕ) → Answers (6 ∷ 5 ∷ 7 ∷ 30 ∷ 28 ∷ []) (callOnlyOnce sheet slice i)
   -- form, sheet, items and a state
   pub matchesArg :
       (form sheet slice : List ℕ) (x : Raw) (k i : ℕ)
       → Hands (1 ∷ 2 ∷ 3 ∷ 4 ∷ 6 ∷ 5 ∷ 7 ∷ 30 ∷ 29 ∷ 28 ∷ []) x (callMatches form sheet slice x k i)
   pub takeFlag :
-      (form sheet slice : List ℕ) (x : Raw) (k : ℕ)
-      → Hands (1 ∷ 2 ∷ 3 ∷ 4 ∷ 6 ∷ 5 ∷ 7 ∷ 30 ∷ 29 ∷ 28 ∷ []) x (callTakeFlag form sheet slice x k)
+      (form sheet slice : List ℕ) (x : Raw) (k j : ℕ)
+      → Hands (1 ∷ 2 ∷ 3 ∷ 4 ∷ 6 ∷ 5 ∷ 7 ∷ 30 ∷ 29 ∷ 28 ∷ []) x (callTakeFlag form sheet slice x k j)
   pub takeArg :
-      (form sheet slice : List ℕ) (x : Raw) (k : ℕ)
-      → Hands (1 ∷ 2 ∷ 3 ∷ 4 ∷ 6 ∷ 5 ∷ 7 ∷ 30 ∷ 29 ∷ 28 ∷ 22 ∷ []) x (callTakeArg form sheet slice x k)
+      (form sheet slice : List ℕ) (x : Raw) (k j : ℕ)
+      → Hands (1 ∷ 2 ∷ 3 ∷ 4 ∷ 6 ∷ 5 ∷ 7 ∷ 30 ∷ 29 ∷ 28 ∷ 22 ∷ []) x (callTakeArg form sheet slice x k j)
   pub takeCmd :
       (form sheet slice : List ℕ) (x : Raw) (k : ℕ)
       → Hands (1 ∷ 2 ∷ 3 ∷ 4 ∷ 6 ∷ 5 ∷ 7 ∷ 30 ∷ 29 ∷ 28 ∷ []) x (callTakeCmd form sheet slice x k)

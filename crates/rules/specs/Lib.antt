@@ -26,3 +26,4 @@ pub mod CallsAnswered
 pub mod Portable
 pub mod Clusters
 pub mod Missing
+pub mod Marks

@@ -264,7 +264,7 @@ entries =
       form = letters;
       arguments = (dash ∷ dash ∷ []) ∷ (dash ∷ v ∷ []) ∷ [];
       items = (PosWord (dash ∷ dash ∷ []) ∷ []) ∷ (PosWord (dash ∷ v ∷ []) ∷ []) ∷ [];
-      state = record { marks = 1 ∷ 0 ∷ []; remaining = 1; current = none; start = 0; end = 2 };
+      state = record { marks = 510 ∷ 0 ∷ []; remaining = 1; current = none; start = 0; end = 2 };
       number = 27;
       place = some 1;
       tries = 5;
@@ -297,7 +297,7 @@ entries =
       form = letters;
       arguments = (dash ∷ v ∷ q ∷ []) ∷ [];
       items = (Short v false (dash ∷ v ∷ q ∷ []) ∷ Short q false [] ∷ []) ∷ [];
-      state = record { marks = 1 ∷ 1 ∷ []; remaining = 0; current = some 1; start = 0; end = 2 };
+      state = record { marks = 512 ∷ 513 ∷ []; remaining = 0; current = some 1; start = 0; end = 2 };
       number = 0;
       place = none;
       tries = 5;
@@ -308,7 +308,7 @@ entries =
       form = letters;
       arguments = (dash ∷ v ∷ w ∷ seven ∷ []) ∷ [];
       items = (Short v false (dash ∷ v ∷ w ∷ seven ∷ []) ∷ Short w true (dash ∷ v ∷ w ∷ seven ∷ []) ∷ Word (seven ∷ []) ∷ []) ∷ [];
-      state = record { marks = 1 ∷ 1 ∷ 1 ∷ []; remaining = 0; current = some 2; start = 0; end = 3 };
+      state = record { marks = 512 ∷ 514 ∷ 514 ∷ []; remaining = 0; current = some 2; start = 0; end = 3 };
       number = 0;
       place = none;
       tries = 5;
@@ -319,7 +319,7 @@ entries =
       form = letters;
       arguments = (dash ∷ v ∷ w ∷ []) ∷ [];
       items = (Short v false (dash ∷ v ∷ w ∷ []) ∷ Short w false (dash ∷ v ∷ w ∷ []) ∷ []) ∷ [];
-      state = record { marks = 1 ∷ 0 ∷ []; remaining = 1; current = some 0; start = 0; end = 2 };
+      state = record { marks = 512 ∷ 0 ∷ []; remaining = 1; current = some 0; start = 0; end = 2 };
       number = 22;
       place = some 1;
       tries = 3;
@@ -330,7 +330,7 @@ entries =
       form = letters;
       arguments = (dash ∷ v ∷ w ∷ equals ∷ seven ∷ []) ∷ [];
       items = (Short v true (dash ∷ v ∷ w ∷ equals ∷ seven ∷ []) ∷ ArgWord (w ∷ equals ∷ seven ∷ []) ∷ []) ∷ [];
-      state = record { marks = 1 ∷ 0 ∷ []; remaining = 1; current = some 0; start = 0; end = 2 };
+      state = record { marks = 512 ∷ 0 ∷ []; remaining = 1; current = some 0; start = 0; end = 2 };
       number = 27;
       place = some 1;
       tries = 5;
@@ -352,7 +352,7 @@ entries =
       form = letters;
       arguments = (dash ∷ b ∷ []) ∷ [];
       items = (Short b false (dash ∷ b ∷ []) ∷ []) ∷ [];
-      state = record { marks = 1 ∷ []; remaining = 0; current = some 0; start = 0; end = 1 };
+      state = record { marks = 515 ∷ []; remaining = 0; current = some 0; start = 0; end = 1 };
       number = 0;
       place = none;
       tries = 5;
@@ -396,7 +396,7 @@ entries =
       form = vOrQ;
       arguments = (dash ∷ q ∷ []) ∷ (dash ∷ v ∷ []) ∷ [];
       items = (Short q false (dash ∷ q ∷ []) ∷ []) ∷ (Short v false (dash ∷ v ∷ []) ∷ []) ∷ [];
-      state = record { marks = 1 ∷ 2 ∷ []; remaining = 1; current = some 0; start = 0; end = 2 };
+      state = record { marks = 512 ∷ 2 ∷ []; remaining = 1; current = some 0; start = 0; end = 2 };
       number = 27;
       place = some 1;
       tries = 2;
@@ -407,7 +407,7 @@ entries =
       form = guardedFallback;
       arguments = (a ∷ []) ∷ [];
       items = (Word (a ∷ []) ∷ []) ∷ [];
-      state = record { marks = 1 ∷ []; remaining = 0; current = some 0; start = 0; end = 1 };
+      state = record { marks = 512 ∷ []; remaining = 0; current = some 0; start = 0; end = 1 };
       number = 26;
       place = some 0;
       tries = 2;
@@ -439,7 +439,7 @@ allKinds = record {
       (Short t true (dash ∷ t ∷ u ∷ []) ∷ Word (u ∷ []) ∷ []) ∷
       (PosWord (dash ∷ dash ∷ []) ∷ []) ∷
       (PosWord (s ∷ []) ∷ []) ∷ [];
-  state = record { marks = 1 ∷ 1 ∷ 1 ∷ 1 ∷ 1 ∷ 1 ∷ 1 ∷ 1 ∷ 1 ∷ 1 ∷ 1 ∷ 1 ∷ 1 ∷ 1 ∷ []; remaining = 0; current = some 13; start = 0; end = 14 };
+  state = record { marks = 512 ∷ 515 ∷ 515 ∷ 517 ∷ 514 ∷ 514 ∷ 514 ∷ 514 ∷ 516 ∷ 516 ∷ 513 ∷ 513 ∷ 510 ∷ 519 ∷ []; remaining = 0; current = some 13; start = 0; end = 14 };
   number = 0;
   place = none;
   tries = 15;

@@ -11,9 +11,9 @@ use Rattle.rules.specs.Value.{Value}
 use Rattle.rules.specs.Tree.{Tree, Flag, Argument, Positional, Optional, Many, Some, Count, Last, Choice, Fallback, Guard}
 use Rattle.rules.specs.Accept.{Accepted, accepted, checkForm}
 use Rattle.rules.specs.Split.{Item}
-use Rattle.rules.specs.State.{State}
+use Rattle.rules.specs.State.{State, fieldMark}
 use Rattle.rules.specs.Eval.{eval}
-use Rattle.rules.specs.Run.{Line, Report, markOf, padded, split, runAll}
+use Rattle.rules.specs.Run.{Line, Report, padded, split, runAll}
 use Rattle.rules.specs.Demands.{All}
 use Rattle.rules.specs.Sound.{leaves}
 
@@ -61,7 +61,7 @@ pub record OfField (k : ℕ) (is : List Item) (ts : List Tree) (left : State) (e
   pub field : ℕ
   pub tree : Tree
   pub here : getElem? ts field ≡ some tree
-  pub same : entries ≡ lacking (markOf (k + field)) is tree left
+  pub same : entries ≡ lacking (fieldMark (k + field)) is tree left
 
 pub record FieldLacks (k : ℕ) (is : List Item) (ts : List Tree) (left : State) (e : Refusal) : Type 0 where
   pub only : isMissing e ≡ false → e .missing ≡ []

@@ -12,7 +12,7 @@ use Rattle.rules.specs.Form.{Form}
 use Rattle.rules.specs.Tree.{Tree}
 use Rattle.rules.specs.Accept.{lettersOf}
 use Rattle.rules.specs.Split.{Item, Split, splitFrom, itemsOf, recordsFrom}
-use Rattle.rules.specs.State.{State, Found, construct, emptyState, first}
+use Rattle.rules.specs.State.{State, Found, markerMark, fieldMark, construct, emptyState, first}
 use Rattle.rules.specs.Eval.{Ran, ended, _then_, eval}
 use Rattle.rules.specs.Given.{roomIn, listRoomIn, inputIn}
 
@@ -23,10 +23,6 @@ pub record Line : Type 0 where
   pub items : List Item
   pub records : List ℕ
   pub state : State
-
--- the mark of a used place
-unfoldable pub parsedMark : ℕ
-parsedMark = 1
 
 -- 8: more than 256 items
 unfoldable pub tooMany : Line
@@ -41,7 +37,7 @@ unfoldable pub lineOf : List (List ℕ) → Split → Outcome Line
 lineOf args x =
     if ltb 256 (length (itemsOf x))
     then ok tooMany
-    else (construct parsedMark (length (itemsOf x)) (x .marker) >>= λ s. ok (record {
+    else (construct markerMark (length (itemsOf x)) (x .marker) >>= λ s. ok (record {
       refusal = ambiguity (x .ambiguous);
       items = itemsOf x;
       records = recordsFrom 0 args (x .groups);
@@ -51,15 +47,11 @@ lineOf args x =
 unfoldable pub split : Form → List ℕ → Outcome Line
 split f s = splitFrom (lettersOf f) 0 (arguments s) >>= lineOf (arguments s)
 
--- the mark of what field k uses: every field has the same
-unfoldable pub markOf : ℕ → ℕ
-markOf k = parsedMark
-
 -- ---- fields in order on one state, of which the first has number k, `current` carried on, stopping at the first refusal
 unfoldable pub runFields : ℕ → List Item → List Tree → State → Ran (List Value)
 runFields k is [] s = ended (ok []) s
 runFields k is (t ∷ ts) s =
-    eval (markOf k) is t s then λ v u. runFields (suc k) is ts u then λ vs w. ended (ok (v ∷ vs)) w
+    eval (fieldMark k) is t s then λ v u. runFields (suc k) is ts u then λ vs w. ended (ok (v ∷ vs)) w
 
 -- then 27 if a present place is left in scope
 unfoldable pub leftOver : List Value → Option Found → Outcome (List Value)

@@ -11,8 +11,9 @@ use Rattle.rules.specs.State.{State, parsed, markGood, currentGood}
 use Rattle.rules.specs.Demands.{Counted}
 
 -- ---- states
--- a state that refusal 29 lets through, over n items
+-- a state that refusal 29 lets through, over n items, whatever the number of fields
 pub record Good (n : ℕ) (s : State) : Type 0 where
+  pub small : n ≤ 256
   pub long : length (s .marks) ≡ n
   pub order : s .start ≤ s .end
   pub inside : s .end ≤ n

@@ -19,15 +19,25 @@ pub record State : Type 0 where
   pub start : ℕ
   pub end : ℕ
 
--- Marks: 0 unparsed, 1 parsed, 2 + w conflict with winner w (still present)
+-- Marks: 0 unparsed, 2 + w conflict with winner w (still present); parsed are 510, the opening `--`, 511, a command word, and
+-- 512 + k, what field k used
+unfoldable pub markerMark : ℕ
+markerMark = 510
+
+unfoldable pub commandMark : ℕ
+commandMark = 511
+
+unfoldable pub fieldMark : ℕ → ℕ
+fieldMark k = 512 + k
+
 unfoldable pub parsed : ℕ → Bool
-parsed m = eqb m 1
+parsed m = leb markerMark m
 
 unfoldable pub present : ℕ → Bool
 present m = not (parsed m)
 
 unfoldable pub winner : ℕ → Option ℕ
-winner m = minus m 2
+winner m = if parsed m then none else minus m 2
 
 -- after `construct`: all unparsed but for the first `--`, whose mark is told
 unfoldable pub construct : ℕ → ℕ → Option ℕ → Outcome State
@@ -218,19 +228,23 @@ onlyOnce items i =
     else (at onlyOnce282 (slice 0 i items) >>= λ earlier.
     before i (getElem? items i >>? λ x. sameName x (reverse earlier)))
 
--- ---- 29: what a state must keep. `parsedMarks` are the marks that count as parsed
+-- ---- 29: what a state must keep. Of the parsed marks there are 510, 511, and 512 plus a field below their number
+unfoldable pub usedBelow : ℕ → ℕ → Bool
+usedBelow fields m = parsed m && ltb m (fieldMark fields)
+
+-- `used` are the marks that count as parsed
 unfoldable pub markGood : (ℕ → Bool) → ℕ → ℕ → Bool
-markGood parsedMark n m = if eqb m 0 then true else (if parsedMark m then true else (leb 2 m && ltb (m - 2) n))
+markGood used n m = if eqb m 0 then true else (if used m then true else (leb 2 m && ltb (m - 2) n))
 
 unfoldable pub currentGood : ℕ → Option ℕ → Bool
 currentGood n none = true
 currentGood n (some i) = ltb i n
 
-unfoldable pub stateGood : (ℕ → Bool) → ℕ → State → Bool
-stateGood parsedMark n s =
+unfoldable pub stateGood : (fields n : ℕ) → State → Bool
+stateGood fields n s =
     eqb (length (s .marks)) n
     && leb n 256
     && (leb (s .start) (s .end) && leb (s .end) n)
-    && all (markGood parsedMark n) (s .marks)
+    && all (markGood (usedBelow fields) n) (s .marks)
     && currentGood n (s .current)
     && eqb (s .remaining) (length (unused s))

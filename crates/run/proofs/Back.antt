@@ -16,8 +16,8 @@ use Rattle.rules.specs.Sheet.{sheetArea, sheetFault, arguments}
 use Rattle.rules.specs.Form.{Form}
 use Rattle.rules.specs.Accept.{lettersOf}
 use Rattle.rules.specs.Split.{Item, Short, Long, ArgWord, Word, PosWord, itemWords, recordsFrom, Split, splitFrom, itemsOf}
-use Rattle.rules.specs.State.{construct}
-use Rattle.rules.specs.Run.{Line, split, lineOf, tooMany, parsedMark, padded}
+use Rattle.rules.specs.State.{markerMark, construct}
+use Rattle.rules.specs.Run.{Line, split, lineOf, tooMany, padded}
 use Rattle.rules.specs.Calls.{partIn, itemFrom}
 use Rattle.rules.specs.Demands.{All}
 use Rattle.rules.proofs.Formats.{arguments-area}
@@ -179,7 +179,7 @@ line-splits f s l e z =
     go : (x : Split) → splitFrom (lettersOf f) 0 (arguments s) ≡ ok x → (t : Bool) → ltb 256 (length (itemsOf x)) ≡ t → lineOf (arguments s) x ≡ ok l → Splits f s l
     go x p true h q = absurd (some≢none (ap (λ (y : Line). y .refusal) (ok-injective (rw h at q)) ∙ z))
     go x p false h q =
-        let (u, a, b) = bind-ok (construct parsedMark (length (itemsOf x)) (x .marker)) _ (rw h at q) in
+        let (u, a, b) = bind-ok (construct markerMark (length (itemsOf x)) (x .marker)) _ (rw h at q) in
         let same = ok-injective b in
         record { whole = x; same = p; items = sym (ap (λ (y : Line). y .items) same); records = sym (ap (λ (y : Line). y .records) same) }
 

@@ -17,14 +17,15 @@ use Rattle.rules.specs.Sheet.{sheetArea, sheetFault, arguments}
 use Rattle.rules.specs.Tree.{Tree}
 use Rattle.rules.specs.Accept.{Checked as Tested, accepted, refusedAt, Accepted, checkForm, lengthGood, lettersOf}
 use Rattle.rules.specs.Split.{Item}
-use Rattle.rules.specs.State.{State, parsed, emptyState}
+use Rattle.rules.specs.State.{State, fieldMark, emptyState}
 use Rattle.rules.specs.Eval.{Ran as Run}
 use Rattle.rules.specs.Eval as eval
-use Rattle.rules.specs.Run.{Line, split, padded, refusedInput, reportWith, report, run, runAll, runLine, markOf}
+use Rattle.rules.specs.Run.{Line, split, padded, refusedInput, reportWith, report, run, runAll, runLine}
 use Rattle.rules.specs.Missing.{lacking}
 use Rattle.rules.specs.Calls.{toRaw}
 use Rattle.rules.specs.declared.State.{State as Raw}
 use Rattle.rules.specs.declared.Refused.{Refused}
+use Rattle.rules.proofs.Fields.{field-parsed}
 use Rattle.rules.proofs.Acceptance.{accepted-form, accepted-length, accepted-passed, good-no-fault}
 use Rattle.rules.proofs.SplitLaws.{LineGood, line-accepted, line-refusal}
 use Rattle.state_marks.specs.declared.Numbers.{Numbers}
@@ -34,7 +35,6 @@ use Rattle.rules.proofs.GivenLaws.{run-form, run-sheet, run-short, run-cramped,
 use Rattle.rules.proofs.InputFaults.{list-length, no-entries-listed, line-plain}
 use Rattle.rules.proofs.MissingLaws.{missing-told}
 use Rattle.state_marks.proofs.Laws.{raw-back}
-use Rattle.state_marks.proofs.Mark.{field-parsed, field-told}
 use Rattle.form_codes.specs.Codes.{CodedNames}
 use Rattle.take_search.specs.Items.{Table}
 use Rattle.take_table.specs.Known.{Matchable, Known}
@@ -306,7 +306,7 @@ module _ (form sheet i a k : List ℕ) (c : CheckedInput form sheet i a k) (a′
       accepts = c .ready .accepts;
       coded = h;
       made = c .ready .checked;
-      state = record { items = w .line .items; table = table; same = count; fine = fine; told = subst (λ (z : ℕ). parsed z ≡ true) field-told field-parsed };
+      state = record { items = w .line .items; table = table; same = count; fine = fine; told = field-parsed 0 };
       small = omega arith;
       room = omega (arith, c .space, ap length cleared ∙ length-replicate {A = ℕ} (length a) 0);
       zeros = λ j. ap (λ (l : List ℕ). getD l j 0) cleared ∙ zero-at (length a) j;
@@ -406,10 +406,10 @@ module _ (b codes s words m : List ℕ) (p : Numbers) (first : ℕ) (o l : List 
       pub list-inside : r .field < fieldCount b
       list-inside = refused-inside _ _ _ _ _ _ _ _ (items-start known k) (g .result) (g .accepts) _ _ _ _ (ran (g .result) (g .accepts)) z
 
-      pub list-number : first + r .field < 18446744073709551616
+      pub list-number : 512 + (first + r .field) < 65536
       list-number = refused-number _ _ _ _ _ _ _ _ (items-start known k) (g .result) (g .accepts) _ _ _ _ (ran (g .result) (g .accepts)) z
 
-      module _ (node : ℕ) (h : getElem? (readForm b .fields) (r .field) ≡ some node) (mark : ℕ) (em : mark ≡ markOf (first + r .field)) where
+      module _ (node : ℕ) (h : getElem? (readForm b .fields) (r .field) ≡ some node) (mark : ℕ) (em : mark ≡ fieldMark (first + r .field)) where
         pub list-begins : Listing b known s words m′ (r .numbers) mark node l
         list-begins = record {
           stands = refused-marked _ _ _ _ _ _ _ _ (items-start known k) (g .result) (g .accepts) _ _ _ _ (ran (g .result) (g .accepts)) z node h mark em;

@@ -11,7 +11,8 @@ use Rattle.rules.specs.Sheet.{sheetArea, sheetFault}
 use Rattle.rules.specs.Tree.{Tree}
 use Rattle.rules.specs.Accept.{Accepted, accepted, checkForm}
 use Rattle.rules.specs.Split.{Item}
-use Rattle.rules.specs.Run.{Report, parsedMark, runAll, refusedInput, run}
+use Rattle.rules.specs.State.{fieldMark}
+use Rattle.rules.specs.Run.{Report, runAll, refusedInput, run}
 use Rattle.rules.specs.Calls.{toRaw}
 use Rattle.rules.specs.declared.Refused.{Refused}
 use Rattle.state_marks.specs.declared.Numbers.{Numbers}
@@ -79,7 +80,7 @@ pub record ItemsBegin (b codes s words m : List ℕ) (p : Numbers) (first : ℕ)
   pub accepts : checkForm b ≡ accepted result
   pub coded : CodedNames b codes
   pub made : sheetFault s ≡ 0
-  pub state : states.CanTake (sheetArea s) words m p parsedMark
+  pub state : states.CanTake (sheetArea s) words m p (fieldMark first)
   pub small : first ≤ 4096
   pub room : 8240 ≤ length o
   pub zeros : (k : ℕ) → getD o k 0 ≡ 0

@@ -76,7 +76,7 @@ pub fn run_items(
     let all = run_fields::run_fields(form, &known, sheet, items, marks, p, first, answers);
     if all.number == MISSING {
         let node = form_layout::field_at(form, all.field);
-        let mark = run_fields::field_mark(first + all.field);
+        let mark = state_marks::field_mark(first + all.field);
         let left = all.numbers;
         eval_missing::list_missing(form, &known, sheet, items, marks, left, node, list, mark);
     }

@@ -11,8 +11,7 @@ use Rattle.rules.specs.Form.{Node, Form, nodeCount, fieldCount, readForm}
 use Rattle.rules.specs.Tree.{Tree, kindOf}
 use Rattle.rules.specs.Accept.{Accepted, accepted, checkForm, lengthGood, treesAt}
 use Rattle.rules.specs.Split.{Item}
-use Rattle.rules.specs.State.{State}
-use Rattle.rules.specs.Run.{markOf}
+use Rattle.rules.specs.State.{State, fieldMark}
 use Rattle.rules.specs.Missing.{lacking}
 use Rattle.rules.specs.Sound.{Sound, leaves}
 use Rattle.rules.proofs.Acceptance.{All-at, fields-step, accepted-passed, accepted-length, accepted-form, accepted-sound, accepted-fields}
@@ -180,7 +179,7 @@ pub lacking-here :
     (first : ℕ) (is : List Item) (fields : List Tree) (k : ℕ) (t : Tree)
     → getElem? fields k ≡ some t
     → (s : State)
-    → lackingField first is fields k s ≡ lacking (markOf (first + k)) is t s
+    → lackingField first is fields k s ≡ lacking (fieldMark (first + k)) is t s
 unfolding lackingField
 lacking-here first is fields k t here s = rw (here, lackingField) refl
 
@@ -191,7 +190,7 @@ module _ (b known s words m : List ℕ) (p : Numbers) (first : ℕ) (o : List �
       → LeftState m p m′ q
       → (k n : ℕ)
       → getElem? (readForm b .fields) k ≡ some n
-      → Standing b known s words m′ q (markOf (first + k)) n
+      → Standing b known s words m′ q (fieldMark (first + k)) n
   field-stands m′ q l k n h =
       let mine = field b (start .result) (start .accepts) k n h in
       record {

@@ -19,9 +19,9 @@ use Rattle.rules.specs.Sheet.{sheetArea}
 use Rattle.rules.specs.Tree.{Tree}
 use Rattle.rules.specs.Accept.{Accepted, accepted, checkForm, lengthGood}
 use Rattle.rules.specs.Split.{Item}
-use Rattle.rules.specs.State.{State}
+use Rattle.rules.specs.State.{State, fieldMark}
 use Rattle.rules.specs.Eval.{Ran as Run, ended, after, _then_, eval}
-use Rattle.rules.specs.Run.{markOf, runFields}
+use Rattle.rules.specs.Run.{runFields}
 use Rattle.rules.specs.Missing.{lacking, Lacks}
 use Rattle.rules.specs.Sound.{Good, leaves}
 use Rattle.rules.proofs.Acceptance.{accepted-same, accepted-length}
@@ -128,13 +128,13 @@ module _ (r : Run Value) where
 module _ (first : ℕ) (is : List Item) (fields : List Tree) (k : ℕ) (t : Tree) (here : getElem? fields k ≡ some t) where
   field-lacks :
       (s left : State) (e : Refusal)
-      → Lacks (lacking (markOf (first + k)) is t s) s left e
+      → Lacks (lacking (fieldMark (first + k)) is t s) s left e
       → e .missing ≡ (if isMissing e then lackingField first is fields k left else [])
   unfolding if_then_else_
   field-lacks s left e l = go (isMissing e) refl
     where
       go : (b : Bool) → isMissing e ≡ b → e .missing ≡ (if b then lackingField first is fields k left else [])
-      go true q = l .listed q ∙ ap (lacking (markOf (first + k)) is t) (sym (l .unchanged q)) ∙ sym (lacking-here first is fields k t here left)
+      go true q = l .listed q ∙ ap (lacking (fieldMark (first + k)) is t) (sym (l .unchanged q)) ∙ sym (lacking-here first is fields k t here left)
       go false q = l .only q
 
 -- a refusal has no words
@@ -226,8 +226,12 @@ module _ (b known s words m₀ : List ℕ) (p₀ : Numbers) (first : ℕ) (o₀ 
     going-step l = omega (arith, few-fields b a e)
 
     -- the number of field k
-    pub going-number : k < n → first + k < 18446744073709551616
+    -- the mark of a field fits in 16 bits
+    pub going-number : k < n → 512 + (first + k) < 65536
     going-number l = omega (arith, start .small, few-fields b a e)
+
+    pub going-sum : k < n → first + k < 18446744073709551616
+    going-sum l = omega (arith, going-number l)
 
     pub going-long : length o ≡ length o₀
     going-long = ap length (g .put) ∙ length-sets o₀ 0 (g .values)
@@ -266,9 +270,9 @@ module _ (b known s words m₀ : List ℕ) (p₀ : Numbers) (first : ℕ) (o₀ 
           inside = λ z. omega arith;
         }))
 
-    module _ (l : k < n) (node : ℕ) (h : getElem? (readForm b .fields) k ≡ some node) (u : ℕ) (eu : u ≡ markOf (first + k)) where
+    module _ (l : k < n) (node : ℕ) (h : getElem? (readForm b .fields) k ≡ some node) (u : ℕ) (eu : u ≡ fieldMark (first + k)) where
       abbrev mark : ℕ
-      mark = markOf (first + k)
+      mark = fieldMark (first + k)
 
       abbrev mine : FieldAt b (a .fields) k node
       mine = field b a e k node h

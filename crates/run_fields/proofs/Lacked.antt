@@ -14,8 +14,8 @@ use Rattle.rules.specs.Value.{Value}
 use Rattle.rules.specs.Accept.{Accepted, accepted, checkForm, lengthGood}
 use Rattle.rules.specs.Split.{Item}
 use Rattle.rules.specs.Eval.{Ran as Run}
-use Rattle.rules.specs.Run.{markOf}
 use Rattle.rules.specs.Missing.{lacking}
+use Rattle.rules.specs.State.{fieldMark}
 use Rattle.rules.proofs.Acceptance.{accepted-length}
 use Rattle.state_marks.specs.declared.Numbers.{Numbers}
 use Rattle.state_marks.specs.Lent.{stateOf}
@@ -44,16 +44,16 @@ module _ (b known s words m : List ℕ) (p : Numbers) (first : ℕ) (o : List �
       pub refused-inside : r .field < fieldCount b
       refused-inside = omega (arith, t .inside z, field-count b a e)
 
-      -- the number of the field
-      pub refused-number : first + r .field < 18446744073709551616
+      -- the mark of the field fits in 16 bits
+      pub refused-number : 512 + (first + r .field) < 65536
       refused-number = omega (arith, start .small, refused-inside, few-fields b a e)
 
       module _ (n : ℕ) (h : getElem? (readForm b .fields) (r .field) ≡ some n) where
-        pub refused-stands : Standing b known s words m′ (r .numbers) (markOf (first + r .field)) n
+        pub refused-stands : Standing b known s words m′ (r .numbers) (fieldMark (first + r .field)) n
         refused-stands = field-stands b known s words m p first o start m′ (r .numbers) (t .left) (r .field) n h
 
         -- with the mark that the field's number has
-        pub refused-marked : (u : ℕ) → u ≡ markOf (first + r .field) → Standing b known s words m′ (r .numbers) u n
+        pub refused-marked : (u : ℕ) → u ≡ fieldMark (first + r .field) → Standing b known s words m′ (r .numbers) u n
         refused-marked u eu = rw eu refused-stands
 
         -- its tree
@@ -62,7 +62,7 @@ module _ (b known s words m : List ℕ) (p : Numbers) (first : ℕ) (o : List �
 
         -- what was missing is what the tree lacks in the state that is left
         pub refused-missing : (is : List Item) → Items (sheetArea s) words p is
-            → missingOf (run is) ≡ lacking (markOf (first + r .field)) is (refused-field .tree) (stateOf m′ (r .numbers))
+            → missingOf (run is) ≡ lacking (fieldMark (first + r .field)) is (refused-field .tree) (stateOf m′ (r .numbers))
         unfolding if_then_else_
         refused-missing is i =
             t .lacks is i ∙ rw (eq-eqb (r .number) 20 z) (lacking-here first is (a .fields) (r .field) (refused-field .tree) (refused-field .here) (stateOf m′ (r .numbers)))

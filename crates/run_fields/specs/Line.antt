@@ -14,9 +14,9 @@ use Rattle.rules.specs.Sheet.{sheetArea, sheetFault}
 use Rattle.rules.specs.Tree.{Tree}
 use Rattle.rules.specs.Accept.{Accepted, accepted, checkForm}
 use Rattle.rules.specs.Split.{Item}
-use Rattle.rules.specs.State.{State}
+use Rattle.rules.specs.State.{State, fieldMark}
 use Rattle.rules.specs.Eval.{Ran as Run}
-use Rattle.rules.specs.Run.{parsedMark, markOf, runFields, runAll}
+use Rattle.rules.specs.Run.{runFields, runAll}
 use Rattle.rules.specs.Missing.{lacking}
 use Rattle.state_marks.specs.declared.Numbers.{Numbers}
 use Rattle.state_marks.specs.Lent.{stateOf}
@@ -38,7 +38,7 @@ pub record Starts (b known s words m : List ℕ) (p : Numbers) (first : ℕ) (o 
   pub result : Accepted
   pub accepts : checkForm b ≡ accepted result
   pub made : sheetFault s ≡ 0
-  pub state : states.CanTake (sheetArea s) words m p parsedMark
+  pub state : states.CanTake (sheetArea s) words m p (fieldMark first)
   pub knows : Known b (sheetArea s) words (length (state .items)) known
   pub small : first ≤ 4096
   pub room : 8240 ≤ length o
@@ -70,7 +70,7 @@ missingOf r = elim (r .outcome) [ ok vs ↦ [] | refused e ↦ e .missing | faul
 -- what field k lacks in a state, where the first has number `first`
 unfoldable pub lackingField : ℕ → List Item → List Tree → ℕ → State → List MissingItem
 lackingField first is fields k s =
-    elim (getElem? fields k) [ none ↦ [] | some t ↦ lacking (markOf (first + k)) is t s ]
+    elim (getElem? fields k) [ none ↦ [] | some t ↦ lacking (fieldMark (first + k)) is t s ]
 
 abbrev pub reachedWith : Reached → List ℕ → List ℕ → Told
 reachedWith r m w = record {

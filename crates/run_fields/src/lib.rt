@@ -4,7 +4,6 @@ ghost use Prim.Native.Nat.{_+_, _≤_};
 ghost use lib.ListN.{length, replicate};
 ghost use Rattle.rules.specs.Accept.{Accepted, accepted, checkForm};
 ghost use Rattle.rules.specs.Sheet.{sheetArea};
-ghost use Rattle.rules.specs.Run.{markOf};
 ghost use Rattle.run_fields.specs.Line.{Starts, FieldReady, PutValue, RunsFields, RunsAll, refusedWith, valuesOf};
 ghost use Rattle.eval_list.specs.Lists.{WritesField, withMark};
 use eval_list::Field;
@@ -130,14 +129,6 @@ pub fn nothing_known() -> [u64; TABLE_WORDS]
     [0u64; TABLE_WORDS]
 }
 
-// The mark of what field `number` uses. Every field has the same: this is the one place where the number tells.
-pub fn field_mark(number: usize) -> u16
-    ensures { λ r. ⌜ r ≡ markOf number ⌝ }
-{
-    let _ = number;
-    state_marks::FIELD
-}
-
 // The fields in order, up to the first that is refused. Each is run on the state that the last one left.
 fn each_field(
     form: &[u8],
@@ -159,7 +150,7 @@ fn each_field(
     let mut k = 0;
     while k < n {
         let node = form_layout::field_at(form, k);
-        let mark = field_mark(first + k);
+        let mark = state_marks::field_mark(first + k);
         let field = Field { node, at };
         let ran = run_field(form, known, sheet, items, marks, s, field, out, mark);
         let left = ran.numbers;

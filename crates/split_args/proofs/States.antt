@@ -12,11 +12,11 @@ use Rattle.utf8.specs.Utf8.{if_then_else_}
 use Rattle.rules.specs.Base.{minus, write}
 use Rattle.rules.specs.Outcome.{ok, _>>=_, at}
 use Rattle.rules.specs.Accept.{Letters}
-use Rattle.rules.specs.State.{State, construct, emptyState}
-use Rattle.rules.specs.Run.{parsedMark, padded}
+use Rattle.rules.specs.State.{State, markerMark, construct, emptyState}
+use Rattle.rules.specs.Run.{padded}
 use Rattle.rules.specs.Calls.{toRaw}
 use Rattle.rules.specs.declared.State.{State as Raw}
-use Rattle.state_marks.specs.Written.{markerMark}
+use Rattle.state_marks.specs.Written.{markerNumber}
 use Rattle.state_marks.proofs.Mark.{marker-told}
 use Rattle.split_args.specs.declared.Ended.{Ended}
 use Rattle.split_args.specs.Construct.{startingState, Unmarked, SheetAndRoom, SheetAndZeros, SplitEnds}
@@ -48,21 +48,21 @@ marked-by mark n j h =
     )
 
 abbrev started : ℕ → ℕ → State
-started n j = record { marks = set (replicate n 0) j markerMark; remaining = n - 1; current = none; start = 0; end = n }
+started n j = record { marks = set (replicate n 0) j markerNumber; remaining = n - 1; current = none; start = 0; end = n }
 
-marked : (n j : ℕ) → j < n → construct parsedMark n (some j) ≡ ok (started n j)
-marked n j h = subst (λ (k : ℕ). construct k n (some j) ≡ ok (started n j)) marker-told (marked-by markerMark n j h)
+marked : (n j : ℕ) → j < n → construct markerMark n (some j) ≡ ok (started n j)
+marked n j h = subst (λ (k : ℕ). construct k n (some j) ≡ ok (started n j)) marker-told (marked-by markerNumber n j h)
 
-one-padded : (n j : ℕ) → n ≤ 256 → j < n → padded 256 (set (replicate n 0) j markerMark) ≡ set (replicate 256 0) j markerMark
+one-padded : (n j : ℕ) → n ≤ 256 → j < n → padded 256 (set (replicate n 0) j markerNumber) ≡ set (replicate 256 0) j markerNumber
 unfolding padded
 one-padded n j h l =
-    rw (length-set {A = ℕ} (replicate n 0) j markerMark)
-    (sym (set-append-left (replicate n 0) _ j markerMark (omega (arith, length-replicate {A = ℕ} n 0)))
-    ∙ ap (λ (z : List ℕ). set z j markerMark) (zeros-padded n h))
+    rw (length-set {A = ℕ} (replicate n 0) j markerNumber)
+    (sym (set-append-left (replicate n 0) _ j markerNumber (omega (arith, length-replicate {A = ℕ} n 0)))
+    ∙ ap (λ (z : List ℕ). set z j markerNumber) (zeros-padded n h))
 
 pub record StartState (n m : ℕ) : Type 0 where
   pub state : State
-  pub same : construct parsedMark n (markerOf m) ≡ ok state
+  pub same : construct markerMark n (markerOf m) ≡ ok state
   pub raw : startingState n m ≡ toRaw state
 
 pub starts : (n m : ℕ) → n ≤ 256 → m ≤ n → StartState n m
@@ -84,7 +84,7 @@ starts n (suc j) h l = record {
   same = marked n j l;
   raw = λ i. record {
     marks = sym (one-padded n j h l) i;
-    count = sym (length-set {A = ℕ} (replicate n 0) j markerMark ∙ length-replicate {A = ℕ} n 0) i;
+    count = sym (length-set {A = ℕ} (replicate n 0) j markerNumber ∙ length-replicate {A = ℕ} n 0) i;
     remaining = n - 1;
     current = 0;
     start = 0;
@@ -149,11 +149,11 @@ module _ (n m : ℕ) (marks : List ℕ) (u : Unmarked marks) where
 
   pub one-marker :
       (m ≡ 0 → ⊥)
-      → _≡_ {A = Raw} (record { marks = set marks (m - 1) markerMark; count = n; remaining = n - 1; current = 0; start = 0; end = n }) (startingState n m)
+      → _≡_ {A = Raw} (record { marks = set marks (m - 1) markerNumber; count = n; remaining = n - 1; current = 0; start = 0; end = n }) (startingState n m)
   unfolding startingState
   one-marker h = go m h
     where
-      go : (m : ℕ) → (m ≡ 0 → ⊥) → _≡_ {A = Raw} (record { marks = set marks (m - 1) markerMark; count = n; remaining = n - 1; current = 0; start = 0; end = n }) (startingState n m)
+      go : (m : ℕ) → (m ≡ 0 → ⊥) → _≡_ {A = Raw} (record { marks = set marks (m - 1) markerNumber; count = n; remaining = n - 1; current = 0; start = 0; end = n }) (startingState n m)
       go zero h = absurd (h refl)
       go (suc i) h = let back : suc i - 1 ≡ i = omega arith in rw (u .zeros, back)
 

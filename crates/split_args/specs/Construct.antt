@@ -15,7 +15,7 @@ use Rattle.rules.specs.Run.{Line, lineOf, padded}
 use Rattle.rules.specs.Calls.{toRaw}
 use Rattle.rules.specs.Codes.{placeCode}
 use Rattle.rules.specs.declared.State.{State}
-use Rattle.state_marks.specs.Written.{markerMark}
+use Rattle.state_marks.specs.Written.{markerNumber}
 use Rattle.split_args.specs.declared.Ended.{Ended}
 
 -- the group of an argument, where the first `--` was seen at a place (plus 1) or not
@@ -36,7 +36,7 @@ plainArgument (a ∷ b ∷ c ∷ s) = not (eqb a dash) || eqb b dash
 -- the state of n items, all unparsed but for the first `--`
 unfoldable pub startingState : ℕ → ℕ → State
 startingState n zero = record { marks = replicate 256 0; count = n; remaining = n; current = 0; start = 0; end = n }
-startingState n (suc i) = record { marks = set (replicate 256 0) i markerMark; count = n; remaining = n - 1; current = 0; start = 0; end = n }
+startingState n (suc i) = record { marks = set (replicate 256 0) i markerNumber; count = n; remaining = n - 1; current = 0; start = 0; end = n }
 
 -- the place of the first `--` is one of the items
 pub record MarkerWithin (n marker : ℕ) : Type 0 where

@@ -14,7 +14,7 @@ use Rattle.utf8.specs.Utf8.{if_then_else_}
 use Rattle.rules.specs.Base.{all}
 use Rattle.rules.specs.Outcome.{ok, refused, refuse, _>>=_, at}
 use Rattle.rules.specs.Tree.{zeros}
-use Rattle.rules.specs.State.{State, parsed, presentAt, presentFrom, unused, inScope, remove, withCurrent, conflicts, saveConflicts, countPresent, markGood, currentGood, stateGood}
+use Rattle.rules.specs.State.{State, parsed, presentAt, presentFrom, unused, inScope, remove, withCurrent, conflicts, saveConflicts, countPresent, usedBelow, markGood, currentGood, stateGood}
 use Rattle.rules.specs.Calls.{fromRaw, toRaw, stateIn}
 use Rattle.rules.specs.Run.{padded}
 use Rattle.rules.specs.Codes.{placeOf}
@@ -22,7 +22,7 @@ use Rattle.rules.specs.Sound.{Good}
 use Rattle.rules.specs.declared.State.{State as Raw}
 use Rattle.rules.proofs.Places.{left, right, from-same, count-from, conflicts-length, conflicts-present, conflicts-good}
 use Rattle.rules.proofs.CodeLaws.{code-place, place-next}
-use Rattle.rules.proofs.StepLaws.{Free, removed, removed-good, removed-left, remove-free, test-good, good-test}
+use Rattle.rules.proofs.StepLaws.{Free, removed, removed-good, removed-left, remove-free, all-used, test-good, good-test}
 use Rattle.state_marks.specs.Lent.{rawOf, numbersOf, stateOf, Fine, Removed}
 use Rattle.state_marks.specs.declared.Numbers.{Numbers}
 use Rattle.state_marks.proofs.Mark.{present-of, used-of}
@@ -132,13 +132,15 @@ module _ (m l : List ℕ) (p q : Numbers) (w : ℕ) (f : Fine m p) (e : q .count
   saved-good h =
       let a : List ℕ = stateOf m p .marks in
       let b : List ℕ = stateOf l q .marks in
+      let low : w < 256 = omega (arith, f .small) in
       record {
+        small = f .small;
         long = conflicts-length w a b ∙ f .good .long;
         order = f .good .order;
         inside = f .good .inside;
         marks = conflicts-good (p .count) w a b h (f .good .marks);
         current = f .good .current;
-        counted = f .good .counted ∙ ap length (sym (from-same _ a _ _ (λ j _. conflicts-present w a b j)));
+        counted = f .good .counted ∙ ap length (sym (from-same _ a _ _ (λ j _. conflicts-present w low a b j)));
       }
 
   pub marked-fine : w < p .count → Fine (marked w (p .count) m l) p
@@ -152,7 +154,7 @@ module _ (m l : List ℕ) (p q : Numbers) (w : ℕ) (f : Fine m p) (e : q .count
 
 -- ---- the test of a state
 
-pub record StateKept (n : ℕ) (x : Raw) : Type 0 where
+pub record StateKept (fields n : ℕ) (x : Raw) : Type 0 where
   pub count : x .count ≡ n
   pub small : n ≤ 256
   pub order : x .start ≤ x .end
@@ -160,14 +162,10 @@ pub record StateKept (n : ℕ) (x : Raw) : Type 0 where
   pub current : x .current ≤ n
   pub rest : zeros (drop (x .count) (x .marks)) ≡ true
   pub good : Good n (fromRaw x)
+  pub marks : all (markGood (usedBelow fields) n) (fromRaw x .marks) ≡ true
 
-unfoldable test : ℕ → Raw → Bool
-test n x = eqb (x .count) n && zeros (drop (x .count) (x .marks)) && stateGood parsed n (fromRaw x)
-
-small-test : (a b c d e f : Bool) → a && b && c && d && e && f ≡ true → b ≡ true
-small-test true true c d e f h = refl
-small-test true false c d e f h = absurd (false≢true h)
-small-test false b c d e f h = absurd (false≢true h)
+unfoldable test : ℕ → ℕ → Raw → Bool
+test fields n x = eqb (x .count) n && zeros (drop (x .count) (x .marks)) && stateGood fields n (fromRaw x)
 
 current-test : (n c : ℕ) → c ≤ n → currentGood n (placeOf c) ≡ true
 unfolding currentGood placeOf
@@ -179,57 +177,58 @@ unfolding currentGood placeOf
 test-current n zero h = omega arith
 test-current n (suc i) h = omega (arith, ltb-true i n h)
 
-module _ (n : ℕ) (x : Raw) where
-  test-kept : test n x ≡ true → StateKept n x
+module _ (fields n : ℕ) (x : Raw) where
+  test-kept : test fields n x ≡ true → StateKept fields n x
   unfolding test stateGood fromRaw
   test-kept h =
       let a : Bool = eqb (x .count) n in
       let b : Bool = zeros (drop (x .count) (x .marks)) in
-      let g : Bool = stateGood parsed n (fromRaw x) in
-      let good : Good n (fromRaw x) = test-good n (fromRaw x) (right (a && b) g h) in
+      let g : Bool = stateGood fields n (fromRaw x) in
+      let (good, marks) = test-good fields n (fromRaw x) (right (a && b) g h) in
       record {
         count = eqb-true _ _ (left a b (left (a && b) g h));
-        small = leb-true _ _ (small-test (eqb (length (take (x .count) (x .marks))) n) (leb n 256) _ _ _ _ (right (a && b) g h));
+        small = good .small;
         order = good .order;
         inside = good .inside;
         current = test-current n (x .current) (good .current);
         rest = right a b (left (a && b) g h);
         good = good;
+        marks = marks;
       }
 
-  kept-test : StateKept n x → test n x ≡ true
+  kept-test : StateKept fields n x → test fields n x ≡ true
   unfolding test
-  kept-test k = rw (eq-eqb _ _ (k .count), k .rest, good-test n (fromRaw x) (k .small) (k .good))
+  kept-test k = rw (eq-eqb _ _ (k .count), k .rest, good-test fields n (fromRaw x) (k .good) (k .marks))
 
-  pub accepted : StateKept n x → stateIn n x ≡ ok (fromRaw x)
+  pub accepted : StateKept fields n x → stateIn fields n x ≡ ok (fromRaw x)
   unfolding stateIn test if_then_else_
   accepted k = rw (kept-test k)
 
-  not-in : test n x ≡ false → stateIn n x ≡ refused (refuse 29 none)
+  not-in : test fields n x ≡ false → stateIn fields n x ≡ refused (refuse 29 none)
   unfolding stateIn test if_then_else_
   not-in e = rw e
 
-  pub not-kept : (StateKept n x → ⊥) → stateIn n x ≡ refused (refuse 29 none)
-  not-kept h = go (test n x) refl
+  pub not-kept : (StateKept fields n x → ⊥) → stateIn fields n x ≡ refused (refuse 29 none)
+  not-kept h = go (test fields n x) refl
     where
-      go : (b : Bool) → test n x ≡ b → stateIn n x ≡ refused (refuse 29 none)
+      go : (b : Bool) → test fields n x ≡ b → stateIn fields n x ≡ refused (refuse 29 none)
       go true e = absurd (h (test-kept e))
       go false e = not-in e
 
-  pub in-kept : stateIn n x ≡ ok (fromRaw x) → StateKept n x
-  in-kept h = go (test n x) refl
+  pub in-kept : stateIn fields n x ≡ ok (fromRaw x) → StateKept fields n x
+  in-kept h = go (test fields n x) refl
     where
-      go : (b : Bool) → test n x ≡ b → StateKept n x
+      go : (b : Bool) → test fields n x ≡ b → StateKept fields n x
       go true e = test-kept e
       go false e = let z : refused (refuse 29 none) ≡ ok (fromRaw x) = sym (not-in e) ∙ h in
           absurd (let o : _≡_ {A = ℕ} 0 1 = cc in omega arith)
 
-  pub refusing : (StateKept n x → ⊥) → stateIn n x ≡ (if false then ok (fromRaw x) else refused (refuse 29 none))
+  pub refusing : (StateKept fields n x → ⊥) → stateIn fields n x ≡ (if false then ok (fromRaw x) else refused (refuse 29 none))
   unfolding if_then_else_
   refusing h = not-kept h
 
 -- the code's last test decides; a and b are the scope's ends, as the code holds them
-module _ (n : ℕ) (x : Raw) (a b : ℕ) (start : a ≡ x .start) (end : b ≡ x .end)
+module _ (fields n : ℕ) (x : Raw) (a b : ℕ) (start : a ≡ x .start) (end : b ≡ x .end)
     (long : length (x .marks) ≡ 256) (same : x .count ≡ n) (small : n ≤ 256) (order : a ≤ b) (inside : b ≤ n) where
   unused-count : countPresent (take (b - a) (drop a (x .marks))) ≡ length (unused (fromRaw x))
   unfolding unused fromRaw
@@ -237,17 +236,17 @@ module _ (n : ℕ) (x : Raw) (a b : ℕ) (start : a ≡ x .start) (end : b ≡ x
       count-from (x .marks) (b - a) a (omega arith)
       ∙ rw (start, end) (ap length (sym (unused-part (x .marks) (x .count) (x .start) (x .end) (omega arith) (omega arith))))
 
-  pub deciding : x .current ≤ n → all (markGood parsed n) (take n (x .marks)) ≡ true → zeros (drop n (x .marks)) ≡ true
+  pub deciding : x .current ≤ n → all (markGood (usedBelow fields) n) (take n (x .marks)) ≡ true → zeros (drop n (x .marks)) ≡ true
       → (c : ℕ) → c ≡ countPresent (take (b - a) (drop a (x .marks)))
-      → stateIn n x ≡ (if eqb c (x .remaining) then ok (fromRaw x) else refused (refuse 29 none))
+      → stateIn fields n x ≡ (if eqb c (x .remaining) then ok (fromRaw x) else refused (refuse 29 none))
   unfolding if_then_else_ fromRaw
   deciding current marks rest c e = go (eqb c (x .remaining)) refl
     where
       counted : c ≡ length (unused (fromRaw x))
       counted = e ∙ unused-count
 
-      go : (t : Bool) → eqb c (x .remaining) ≡ t → stateIn n x ≡ (if t then ok (fromRaw x) else refused (refuse 29 none))
-      go true t = accepted n x (record {
+      go : (t : Bool) → eqb c (x .remaining) ≡ t → stateIn fields n x ≡ (if t then ok (fromRaw x) else refused (refuse 29 none))
+      go true t = accepted fields n x (record {
         count = same;
         small = small;
         order = omega arith;
@@ -255,23 +254,25 @@ module _ (n : ℕ) (x : Raw) (a b : ℕ) (start : a ≡ x .start) (end : b ≡ x
         current = current;
         rest = rw same rest;
         good = record {
+          small = small;
           long = length-take-le (x .count) (x .marks) (omega arith) ∙ same;
           order = omega arith;
           inside = omega arith;
-          marks = rw same marks;
+          marks = all-used fields n _ (rw same marks);
           current = current-test n (x .current) current;
           counted = sym (eqb-true c (x .remaining) t) ∙ counted;
         };
+        marks = rw same marks;
       })
-      go false t = not-kept n x (λ k. eqb-false c (x .remaining) t (counted ∙ sym (k .good .counted)))
+      go false t = not-kept fields n x (λ k. eqb-false c (x .remaining) t (counted ∙ sym (k .good .counted)))
 
 -- marks that are refused
-module _ (n : ℕ) (x : Raw) (k : StateKept n x) where
-  pub marks-kept : (b : Bool) → b ≡ all (markGood parsed n) (take n (x .marks)) → not b ≡ true → ⊥
+module _ (fields n : ℕ) (x : Raw) (k : StateKept fields n x) where
+  pub marks-kept : (b : Bool) → b ≡ all (markGood (usedBelow fields) n) (take n (x .marks)) → not b ≡ true → ⊥
   unfolding fromRaw
   marks-kept b e t =
       let z = k .count in
-      let g : all (markGood parsed n) (take n (x .marks)) ≡ true = rw z at (k .good .marks) in
+      let g : all (markGood (usedBelow fields) n) (take n (x .marks)) ≡ true = rw z at (k .marks) in
       false≢true (sym (not-true b t) ∙ e ∙ g)
 
   pub rest-kept : (b : Bool) → b ≡ zeros (drop n (x .marks)) → not b ≡ true → ⊥
@@ -290,9 +291,10 @@ zeros-all (x ∷ l) h =
     rw (← z) (ap (λ (k : List ℕ). 0 ∷ k) (zeros-all l (right (eqb 0 x) (all (eqb 0) l) h)))
 
 module _ (m : List ℕ) (p : Numbers) (f : Fine m p) where
-  pub fine-in : stateIn (p .count) (rawOf m p) ≡ ok (stateOf m p)
+  pub fine-in : (fields : ℕ) → all (markGood (usedBelow fields) (p .count)) (stateOf m p .marks) ≡ true
+      → stateIn fields (p .count) (rawOf m p) ≡ ok (stateOf m p)
   unfolding stateOf fromRaw
-  fine-in = accepted (p .count) (rawOf m p) (record {
+  fine-in fields marks = accepted fields (p .count) (rawOf m p) (record {
     count = refl;
     small = f .small;
     order = f .order;
@@ -300,6 +302,7 @@ module _ (m : List ℕ) (p : Numbers) (f : Fine m p) where
     current = test-current (p .count) (p .current) (f .good .current);
     rest = f .rest;
     good = f .good;
+    marks = marks;
   })
 
   pub raw-back : length m ≡ 256 → toRaw (stateOf m p) ≡ rawOf m p
@@ -310,9 +313,9 @@ module _ (m : List ℕ) (p : Numbers) (f : Fine m p) where
       let z : replicate (256 - p .count) 0 ≡ drop (p .count) m = sym (zeros-all (drop (p .count) m) (f .rest) ∙ rw d) in
       rw (l, z, take-append-drop (p .count) m, code-place (p .current))
 
-pub kept-fine : (n : ℕ) (x : Raw) → StateKept n x → Fine (x .marks) (numbersOf x)
+pub kept-fine : (fields n : ℕ) (x : Raw) → StateKept fields n x → Fine (x .marks) (numbersOf x)
 unfolding stateOf
-kept-fine n x k =
+kept-fine fields n x k =
     let z : n ≡ x .count = sym (k .count) in
     record {
       order = k .order;
@@ -339,6 +342,7 @@ module _ (m : List ℕ) (p : Numbers) (c : ℕ) where
     small = f .small;
     rest = f .rest;
     good = record {
+      small = f .small;
       long = f .good .long;
       order = f .order;
       inside = f .inside;

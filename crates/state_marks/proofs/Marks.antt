@@ -4,12 +4,12 @@ use mathlib.Core.Bool.{Bool, true, false, not, xor, _&&_}
 use mathlib.Core.List.{List, [], _∷_, _++_, append-assoc}
 use mathlib.Core.Option.{some, none}
 use mathlib.Core.Logic.{_⊎_, inl, inr, ⊎-elim}
-use Prim.Native.Nat.{ℕ, zero, suc, _+_, _-_, _≤_, _<_}
+use Prim.Native.Nat.{ℕ, zero, suc, _+_, _-_, _≤_, _<_, suc-le-suc}
 use native.Mathlib.Nat.{not-suc-le-zero, le-of-suc-le-suc, eq-or-lt-of-le}
 use native.Mathlib.Numerals.{add-one}
 use native.Mathlib.Omega.{arith}
 use lib.Dec.{ltb, eqb}
-use lib.ListN.{length, getD, take, drop, set, drop-of-length-le}
+use lib.ListN.{length, getD, take, drop, set, drop-of-length-le, take-append-drop}
 use lib.Seq.{drop-cons, getD-take, length-take-le, set-at, getD-at}
 use borrow.Author.Tests.{eq-eqb, ne-eqb, eqb-true, ltb-true, ltb-false, le-leb, not-true, not-false}
 use Rattle.utf8.specs.Utf8.{if_then_else_}
@@ -285,9 +285,32 @@ pub record Saving (m₀ l : List ℕ) (w count : ℕ) (m : List ℕ) (i : ℕ) :
   pub room : count ≤ length m₀
   pub same : m ≡ conflicts w (take i m₀) (take i l) ++ drop i m₀
 
-pub saving-first : (m l : List ℕ) (w count : ℕ) → count ≤ length m → Saving m l w count m 0
-unfolding conflicts
-saving-first m l w count h = record { within = omega arith; room = h; same = refl }
+-- no mark is both present and parsed
+not-both : (x : ℕ) → present x && parsed x ≡ false
+unfolding present
+not-both x = go (parsed x)
+  where
+    go : (b : Bool) → not b && b ≡ false
+    go true = refl
+    go false = refl
+
+-- where the marks are the same nothing is in conflict
+alike-kept : (w : ℕ) (m l : List ℕ) (i : ℕ) → i ≤ length m → i ≤ length l → Alike m l 0 i → conflicts w (take i m) (take i l) ≡ take i m
+unfolding conflicts if_then_else_
+alike-kept w m l zero h k f = refl
+alike-kept w [] l (suc i) h k f = absurd (not-suc-le-zero h)
+alike-kept w (x ∷ m) [] (suc i) h k f = absurd (not-suc-le-zero k)
+alike-kept w (x ∷ m) (y ∷ l) (suc i) h k f =
+    let same : x ≡ y = f 0 (omega arith) (omega arith) in
+    let rest = alike-kept w m l i (le-of-suc-le-suc h) (le-of-suc-le-suc k) (λ j a b. f (suc j) (omega arith) (suc-le-suc b)) in
+    rw (← same, not-both x, rest)
+
+pub saving-from : (m l : List ℕ) (w count i : ℕ) → count ≤ length m → count ≤ length l → i ≤ count → Alike m l 0 i → Saving m l w count m i
+saving-from m l w count i h k b f = record {
+  within = b;
+  room = h;
+  same = sym (ap (λ (z : List ℕ). z ++ drop i m) (alike-kept w m l i (omega arith) (omega arith) f) ∙ take-append-drop i m);
+}
 
 conflicts-more : (w : ℕ) (m l : List ℕ) (i : ℕ) → i < length m → i < length l
     → conflicts w (take (suc i) m) (take (suc i) l) ≡ conflicts w (take i m) (take i l) ++ (conflictMark w (getD m i 0) (getD l i 0) ∷ [])

@@ -46,6 +46,10 @@ pub record Fine (m : List ℕ) (p : Numbers) : Type 0 where
   pub rest : zeros (drop (p .count) m) ≡ true
   pub good : Good (p .count) (stateOf m p)
 
+-- a whole state, whatever the number of fields
+abbrev pub FineState : Raw → Type 0
+FineState x = Fine (x .marks) (numbersOf x)
+
 -- what `remove` leaves: the state that the rules say, and later marks 0 as before
 pub record Removed (mark : ℕ) (m : List ℕ) (p : Numbers) (i : ℕ) (m′ : List ℕ) (r : Numbers) : Type 0 where
   pub same : remove mark (stateOf m p) i ≡ ok (stateOf m′ r)

@@ -1,14 +1,10 @@
--- The marks that are written, as the code names them.
+-- The marks that are written, as the code has them.
 use Prim.Native.Nat.{ℕ}
 
 -- at the first `--`
-abbrev pub markerMark : ℕ
-markerMark = 1
+abbrev pub markerNumber : ℕ
+markerNumber = 510
 
 -- at a word that `take_cmd` takes
-abbrev pub commandMark : ℕ
-commandMark = 1
-
--- at what the first field uses
-abbrev pub fieldMark : ℕ
-fieldMark = 1
+abbrev pub commandNumber : ℕ
+commandNumber = 511

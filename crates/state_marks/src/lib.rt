@@ -10,7 +10,7 @@ ghost use Rattle.utf8.specs.Utf8.{if_then_else_};
 ghost use Rattle.rules.specs.Base.{all};
 ghost use Rattle.rules.specs.Outcome.{ok, refused, refuse};
 ghost use Rattle.rules.specs.Tree.{zeros};
-ghost use Rattle.rules.specs.State.{parsed, present, winner, presentFrom, countPresent, pickFrom, conflicts, markGood};
+ghost use Rattle.rules.specs.State.{fieldMark, parsed, present, winner, presentFrom, countPresent, pickFrom, conflicts, usedBelow, markGood};
 ghost use Rattle.rules.specs.Calls.{fromRaw, stateIn};
 ghost use Rattle.rules.specs.Codes.{placeOf};
 ghost use Rattle.state_marks.specs.Lent.{rawOf, numbersOf, Fine, Removed, firstOr, pickOf, conflictMark, Alike};
@@ -18,11 +18,14 @@ use rules::State;
 use wire::wide;
 
 // The marks that are written: at the first `--`, at a word that `take_cmd` takes, and at what the first field uses.
-pub const MARKER: u16 = 1;
+pub const MARKER: u16 = 510;
 
-pub const COMMAND: u16 = 1;
+pub const COMMAND: u16 = 511;
 
-pub const FIELD: u16 = 1;
+pub const FIELD: u16 = 512;
+
+// The number of fields that a state may speak of where a call has no form.
+pub const MOST_FIELDS: usize = 16;
 
 // A state without its marks. The current place is itself plus 1, or 0 for none.
 pub struct Numbers {
@@ -69,7 +72,7 @@ pub fn joined(marks: [u16; 256], p: Numbers) -> State
 pub fn is_parsed(mark: u16) -> bool
     ensures { λ r. ⌜ r ≡ parsed mark ⌝ }
 {
-    mark == 1
+    MARKER <= mark
 }
 
 pub fn is_present(mark: u16) -> bool
@@ -82,10 +85,21 @@ pub fn is_present(mark: u16) -> bool
 pub fn winner_of(mark: u16) -> u32
     ensures { λ r. ⌜ placeOf r ≡ winner mark ⌝ }
 {
+    if is_parsed(mark) {
+        return 0;
+    }
     if mark < 2 {
         return 0;
     }
     mark as u32 - 1
+}
+
+// The mark of what a field uses.
+pub fn field_mark(number: usize) -> u16
+    requires { ⌜ 512 + number < 65536 ⌝ }
+    ensures { λ r. ⌜ r ≡ fieldMark number ⌝ }
+{
+    FIELD + number as u16
 }
 
 // The first unused place from `from` on; `end` if there is none below it.
@@ -225,26 +239,39 @@ fn conflict_mark(mark: u16, loser: u16, w: u16) -> u16
     mark
 }
 
-// What the loser used and the winner did not is in conflict with place `w`.
+// What the loser used and the winner did not is in conflict with place `w`: nothing where their marks are the same.
 pub fn save_conflicts(marks: &mut [u16; 256], loser: &[u16], count: usize, w: usize)
     requires { ⌜ (count ≤ length (now marks)) × (count ≤ length (now loser)) × (count ≤ 256) × (w < 256) ⌝ }
     ensures { λ _. ⌜ now (marks .exit) ≡ conflicts w (take count (now (marks .entry))) (take count (now (loser .entry))) ++ drop count (now (marks .entry)) ⌝ }
 {
     let win = w as u16;
-    let mut i = 0;
+    let mut i = same_blocks(marks, loser, count);
     while i < count {
         marks[i] = conflict_mark(marks[i], loser[i], win);
         i += 1;
     }
 }
 
-fn mark_good(mark: u16, count: usize) -> bool
-    ensures { λ r. ⌜ r ≡ markGood parsed count mark ⌝ }
+// Whether it is the mark of something used, by a field below `fields` if by one.
+fn used_below(mark: u16, fields: usize) -> bool
+    ensures { λ r. ⌜ r ≡ usedBelow fields mark ⌝ }
+{
+    if mark < MARKER {
+        return false;
+    }
+    if mark < FIELD {
+        return true;
+    }
+    ((mark - FIELD) as usize) < fields
+}
+
+fn mark_good(mark: u16, count: usize, fields: usize) -> bool
+    ensures { λ r. ⌜ r ≡ markGood (usedBelow fields) count mark ⌝ }
 {
     if mark == 0 {
         return true;
     }
-    if is_parsed(mark) {
+    if used_below(mark, fields) {
         return true;
     }
     if mark < 2 {
@@ -254,13 +281,13 @@ fn mark_good(mark: u16, count: usize) -> bool
 }
 
 // Whether the first `count` marks may stand in a state of so many items.
-fn marks_good(marks: &[u16], count: usize) -> bool
+fn marks_good(marks: &[u16], count: usize, fields: usize) -> bool
     requires { ⌜ count ≤ length (now marks) ⌝ }
-    ensures { λ r. ⌜ r ≡ all (markGood parsed count) (take count (now (marks .entry))) ⌝ }
+    ensures { λ r. ⌜ r ≡ all (markGood (usedBelow fields) count) (take count (now (marks .entry))) ⌝ }
 {
     let mut i = 0;
     while i < count {
-        if !mark_good(marks[i], count) {
+        if !mark_good(marks[i], count, fields) {
             return false;
         }
         i += 1;
@@ -281,9 +308,9 @@ fn zeros_from(marks: &[u16], from: usize) -> bool
     true
 }
 
-// Refusal 29: whether the state is one over `n` items.
-pub fn good(s: State, n: usize) -> bool
-    ensures { λ r. ⌜ stateIn n s ≡ (if r then ok (fromRaw s) else refused (refuse 29 none)) ⌝ }
+// Refusal 29: whether the state is one over `n` items, used by fields below `fields`.
+pub fn good(s: State, n: usize, fields: usize) -> bool
+    ensures { λ r. ⌜ stateIn fields n s ≡ (if r then ok (fromRaw s) else refused (refuse 29 none)) ⌝ }
 {
     let start = wide(s.start);
     let end = wide(s.end);
@@ -293,7 +320,7 @@ pub fn good(s: State, n: usize) -> bool
     if end < start || n < end || n < wide(s.current) {
         return false;
     }
-    if !marks_good(&s.marks, n) || !zeros_from(&s.marks, n) {
+    if !marks_good(&s.marks, n, fields) || !zeros_from(&s.marks, n) {
         return false;
     }
     count_present(&s.marks, start, end) == s.remaining

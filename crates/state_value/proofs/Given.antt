@@ -14,7 +14,6 @@ use Rattle.rules.specs.Outcome.{Outcome, ok, _>>=_, at}
 use Rattle.rules.specs.Split.{Item}
 use Rattle.rules.specs.State.{State, parsed, presentFrom, countPresent, unused, winner, findIn, find, first, remove, pickFrom, pickWinner, saveConflicts, conflicts, conflictAt}
 use Rattle.rules.specs.State.{conflict, setScope, untilPresent, proposed, adjacentScope, adjacentlyAvailableFrom}
-use Rattle.rules.specs.Run.{parsedMark}
 use Rattle.rules.specs.Calls.{fromRaw, toRaw, stateIn}
 use Rattle.rules.specs.Sound.{Good}
 use Rattle.rules.specs.declared.State.{State as Raw}
@@ -22,11 +21,9 @@ use Rattle.rules.specs.Codes.{placeOf}
 use Rattle.rules.proofs.Places.{at-below, slice-below, count-from}
 use Rattle.rules.proofs.StepLaws.{set-scope-good}
 use Rattle.rules.proofs.CodeLaws.{place-some}
-use Rattle.state_marks.specs.Lent.{rawOf, numbersOf, stateOf, pickOf, firstOr, Fine, Removed}
+use Rattle.state_marks.specs.Lent.{rawOf, numbersOf, stateOf, pickOf, firstOr, Fine, FineState, Removed}
 use Rattle.state_marks.specs.declared.Numbers.{Numbers}
 use Rattle.state_marks.specs.declared.Picked.{Picked}
-use Rattle.state_marks.specs.Written.{fieldMark}
-use Rattle.state_marks.proofs.Mark.{field-parsed, field-told}
 use Rattle.state_marks.proofs.Marks.{from-take, first-hit, first-within, first-none}
 use Rattle.state_marks.proofs.Laws.{in-kept, kept-fine, fine-long, fine-unused, mark-at, raw-back, marked, marked-is, marked-fine, marked-whole}
 use Rattle.state_value.specs.Options.{handedOver, rangeOf, placeBelow, Until, SpanEnd}
@@ -46,11 +43,12 @@ ok-handed (Outcome.fault x) r e = absurd (let z : _≡_ {A = ℕ} 0 1 = cc in om
 ok-same : (a b : State) → _≡_ {A = Outcome State} (ok a) (ok b) → a ≡ b
 ok-same a b e = cc
 
-pub given-fine : (n : ℕ) (x : Raw) → stateIn n x ≡ ok (fromRaw x) → Fine (x .marks) (numbersOf x)
-given-fine n x g = kept-fine n x (in-kept n x g)
+-- for callers: what refusal 29 lets through
+pub given-fine : (fields n : ℕ) (x : Raw) → stateIn fields n x ≡ ok (fromRaw x) → FineState x
+given-fine fields n x g = kept-fine fields n x (in-kept fields n x g)
 
-pub given-count : (n : ℕ) (x : Raw) → stateIn n x ≡ ok (fromRaw x) → x .count ≡ n
-given-count n x g = in-kept n x g .count
+pub given-count : (fields n : ℕ) (x : Raw) → stateIn fields n x ≡ ok (fromRaw x) → x .count ≡ n
+given-count fields n x g = in-kept fields n x g .count
 
 null-nil : (m : List ℕ) → null m ≡ true → m ≡ []
 unfolding null
@@ -75,35 +73,28 @@ adjacent-plain s t h l = go (null (s .marks)) refl
     go true e = rw (e, gone (null-nil (s .marks) e))
     go false e = rw (e, le-leb _ _ h, le-leb _ _ l)
 
-module _ (x : Raw) (g : stateIn (x .count) x ≡ ok (fromRaw x)) where
-  fine : Fine (x .marks) (numbersOf x)
-  fine = given-fine (x .count) x g
-
+module _ (x : Raw) (fine : FineState x) where
   -- ---- `remove`
 
-  pub remove-ready : (p : Numbers) → p ≡ numbersOf x → Fine (x .marks) p × (parsed fieldMark ≡ true)
-  remove-ready p e = (rw e fine, field-parsed)
+  pub remove-ready : (mark : ℕ) → parsed mark ≡ true → (p : Numbers) → p ≡ numbersOf x → Fine (x .marks) p × (parsed mark ≡ true)
+  remove-ready mark told p e = (rw e fine, told)
 
-  pub removed-over : (p : Numbers) (i : ℕ) (m : List ℕ) (q : Numbers) (r : Raw)
-      → length (x .marks) ≡ 256 → p ≡ numbersOf x → Removed fieldMark (x .marks) p i m q → r ≡ rawOf m q
-      → handedOver (remove parsedMark (fromRaw x) i) ≡ ok r
+  pub removed-over : (mark : ℕ) (p : Numbers) (i : ℕ) (m : List ℕ) (q : Numbers) (r : Raw)
+      → length (x .marks) ≡ 256 → p ≡ numbersOf x → Removed mark (x .marks) p i m q → r ≡ rawOf m q
+      → handedOver (remove mark (fromRaw x) i) ≡ ok r
   unfolding stateOf
-  removed-over p i m q r long e d f =
-      let s : remove fieldMark (fromRaw x) i ≡ ok (stateOf m q) = rw e at (d .same) in
-      let h = handed-ok _ (stateOf m q) r s (raw-back m q (d .fine) (d .long ∙ long) ∙ sym f) in
-      subst (λ (k : ℕ). handedOver (remove k (fromRaw x) i) ≡ ok r) field-told h
+  removed-over mark p i m q r long e d f =
+      let s : remove mark (fromRaw x) i ≡ ok (stateOf m q) = rw e at (d .same) in
+      handed-ok _ (stateOf m q) r s (raw-back m q (d .fine) (d .long ∙ long) ∙ sym f)
 
   -- ---- two states
 
-  module _ (y : Raw) (h : stateIn (x .count) y ≡ ok (fromRaw y)) where
-    same-count : y .count ≡ x .count
-    same-count = given-count (x .count) y h
-
+  module _ (y : Raw) (other : FineState y) (same-count : y .count ≡ x .count) where
     pub both-ready : (n : ℕ) → n ≡ x .count → (n ≤ length (x .marks)) × (n ≤ length (y .marks)) × (n ≤ 256)
     both-ready n e =
         let z = same-count in
         let a = fine-long (x .marks) (numbersOf x) fine in
-        let b = fine-long (y .marks) (numbersOf y) (given-fine (x .count) y h) in
+        let b = fine-long (y .marks) (numbersOf y) other in
         let c = fine .small in
         (omega arith, omega arith, omega arith)
 

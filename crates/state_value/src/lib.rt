@@ -1,18 +1,17 @@
 // The calls on a state by value, for states that refusal 29 lets through.
 ghost use mathlib.Core.Path.{_≡_};
+ghost use mathlib.Core.Bool.{true};
 ghost use mathlib.Core.List.{List};
 ghost use Prim.Native.Nat.{_≤_, _<_};
 ghost use lib.ListN.{length};
 ghost use Rattle.rules.specs.Outcome.{ok};
 ghost use Rattle.rules.specs.Split.{Item};
 ghost use Rattle.rules.specs.State.{pickWinner, saveConflicts, setScope, adjacentScope, adjacentlyAvailableFrom};
-ghost use Rattle.rules.specs.State.{remove as removal, conflict as firstConflict};
-ghost use Rattle.rules.specs.Run.{parsedMark};
-ghost use Rattle.rules.specs.Calls.{fromRaw, toRaw, stateIn};
-ghost use Rattle.state_marks.specs.Lent.{pickOf};
+ghost use Rattle.rules.specs.State.{parsed, remove as removal, conflict as firstConflict};
+ghost use Rattle.rules.specs.Calls.{fromRaw, toRaw};
+ghost use Rattle.state_marks.specs.Lent.{FineState, pickOf};
 ghost use Rattle.state_value.specs.Options.{handedOver, rangeOf, scopeOf, conflictOf, Until, SpanEnd};
 use rules::State;
-use state_marks::FIELD;
 use state_marks::Picked;
 use state_marks::is_parsed;
 use state_marks::is_present;
@@ -38,24 +37,24 @@ pub enum ConflictOption {
     None,
 }
 
-pub fn remove(s: State, i: usize) -> State
-    requires { ⌜ stateIn (s .count) s ≡ ok (fromRaw s) ⌝ }
-    ensures { λ r. ⌜ handedOver (removal parsedMark (fromRaw s) i) ≡ ok r ⌝ }
+pub fn remove(s: State, i: usize, mark: u16) -> State
+    requires { ⌜ FineState s × (parsed mark ≡ true) ⌝ }
+    ensures { λ r. ⌜ handedOver (removal mark (fromRaw s) i) ≡ ok r ⌝ }
 {
     let mut marks = s.marks;
-    let p = state_marks::remove(&mut marks, numbers_of(s), i, FIELD);
+    let p = state_marks::remove(&mut marks, numbers_of(s), i, mark);
     joined(marks, p)
 }
 
 pub fn pick_winner(s: State, t: State) -> Picked
-    requires { ⌜ (stateIn (s .count) s ≡ ok (fromRaw s)) × (stateIn (s .count) t ≡ ok (fromRaw t)) ⌝ }
+    requires { ⌜ FineState s × FineState t × (t .count ≡ s .count) ⌝ }
     ensures { λ r. ⌜ pickOf r ≡ pickWinner (fromRaw s) (fromRaw t) ⌝ }
 {
     state_marks::pick_winner(&s.marks, &t.marks, wide(s.count))
 }
 
 pub fn save_conflicts(s: State, loser: State, w: usize) -> State
-    requires { ⌜ (stateIn (s .count) s ≡ ok (fromRaw s)) × (stateIn (s .count) loser ≡ ok (fromRaw loser)) × (w < s .count) ⌝ }
+    requires { ⌜ FineState s × FineState loser × (loser .count ≡ s .count) × (w < s .count) ⌝ }
     ensures { λ r. ⌜ r ≡ toRaw (saveConflicts (fromRaw s) (fromRaw loser) w) ⌝ }
 {
     let mut marks = s.marks;
@@ -65,7 +64,7 @@ pub fn save_conflicts(s: State, loser: State, w: usize) -> State
 
 // The places from..to become the scope.
 pub fn set_scope(s: State, from: usize, to: usize) -> State
-    requires { ⌜ (stateIn (s .count) s ≡ ok (fromRaw s)) × (from ≤ to) × (to ≤ s .count) ⌝ }
+    requires { ⌜ FineState s × (from ≤ to) × (to ≤ s .count) ⌝ }
     ensures { λ r. ⌜ handedOver (setScope (fromRaw s) from to) ≡ ok r ⌝ }
 {
     let marks = s.marks;
@@ -99,7 +98,7 @@ fn until_present(a: &[u16], b: &[u16], from: usize, count: usize) -> usize
 
 // From the scope's start up to the first place that is present here and in the original.
 pub fn adjacent_scope(s: State, original: State) -> ScopeOption
-    requires { ⌜ (stateIn (s .count) s ≡ ok (fromRaw s)) × (stateIn (s .count) original ≡ ok (fromRaw original)) ⌝ }
+    requires { ⌜ FineState s × FineState original × (original .count ≡ s .count) ⌝ }
     ensures { λ r. ⌜ adjacentScope (fromRaw s) (fromRaw original) ≡ ok (scopeOf r) ⌝ }
 {
     let count = wide(s.count);
@@ -131,7 +130,7 @@ fn span_end(marks: &[u16], from: usize, count: usize) -> usize
 
 // The present places from `from` on, up to the first that is used.
 pub fn adjacently_available_from(s: State, from: usize) -> Scope
-    requires { ⌜ (stateIn (s .count) s ≡ ok (fromRaw s)) × (from ≤ s .count) ⌝ }
+    requires { ⌜ FineState s × (from ≤ s .count) ⌝ }
     ensures { λ r. ⌜ rangeOf r ≡ adjacentlyAvailableFrom (fromRaw s) from ⌝ }
 {
     let end = span_end(&s.marks, from, wide(s.count));
@@ -143,7 +142,7 @@ pub fn adjacently_available_from(s: State, from: usize) -> Scope
 
 // The first present place in scope and its winner, if it is in conflict. Of the items only their number matters.
 pub fn conflict(s: State) -> ConflictOption
-    requires { ⌜ stateIn (s .count) s ≡ ok (fromRaw s) ⌝ }
+    requires { ⌜ FineState s ⌝ }
     ensures { λ r. ⌜ ((items : List Item) → length items ≡ s .count → firstConflict items (fromRaw s) ≡ ok (conflictOf r)) ⌝ }
 {
     let end = wide(s.end);

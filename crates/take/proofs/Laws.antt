@@ -107,6 +107,7 @@ module _ (m : List ℕ) (p : Numbers) (f : Fine m p) where
     small = f .small;
     rest = f .rest;
     good = record {
+      small = f .small;
       long = f .good .long;
       order = f .good .order;
       inside = f .good .inside;

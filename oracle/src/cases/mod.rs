@@ -2,6 +2,7 @@
 //!
 //! The same seed gives the same bytes on every machine: the only source of choice is `Rng`.
 
+mod contested;
 mod damaged;
 mod forms;
 mod limits;
@@ -11,6 +12,7 @@ mod short_lines;
 mod tests;
 mod wanting;
 
+pub use contested::contested;
 pub use damaged::damaged;
 pub use limits::{chain, limits, shared};
 pub use short_lines::{sample_forms, short_lines};

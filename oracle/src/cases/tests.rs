@@ -278,6 +278,23 @@ fn wanting_cases_ask_for_much() {
 }
 
 #[test]
+fn contested_cases_have_many_fields() {
+    let mut rng = Rng::new(1);
+    let (mut fields, mut kinds, mut dashes) = (BTreeSet::new(), BTreeSet::new(), 0);
+    for _ in 0..CASES {
+        let case = contested(&mut rng);
+        let form = Form::check(&case.form).expect("an accepted form");
+        let sheet = Sheet::check(&case.sheet).expect("a sheet");
+        fields.insert(form.fields.len());
+        kinds.extend(form.nodes.iter().map(|n| n.kind));
+        dashes += usize::from(sheet.arguments.iter().any(|a| a == b"--"));
+    }
+    assert_eq!(fields, (2..=FIELDS).collect());
+    assert_eq!(kinds, (FLAG..=GUARD).filter(|k| *k != COUNT).collect());
+    assert!((CASES / 10..CASES / 2).contains(&dashes), "{dashes}");
+}
+
+#[test]
 fn short_lines_are_all_lines() {
     for (letters, arguments, bytes) in [(2, 2, 2), (3, 1, 4), (1, 4, 1), (2, 3, 1), (0, 3, 2), (4, 0, 3)] {
         let words: usize = (0..=bytes).map(|length| usize::pow(letters, length)).sum();

@@ -3,12 +3,13 @@
 use line::cases::{self, Rng};
 use line::forged::{self, Call, Lent, State};
 use line::format::*;
+use line::marks;
 use proved::{Answer, StateAnswer};
 
 use super::Compared;
 use crate::lists::hex;
 #[cfg(live)]
-use super::split::raw;
+use super::{split::raw, Goal};
 #[cfg(live)]
 use bpaf::doc::harness::{self, Held};
 #[cfg(live)]
@@ -34,7 +35,7 @@ pub fn ours(lent: &Lent, call: &Call) -> Said {
     let read = |answer: Answer| Said::new(answer, s);
     let changed = |a: StateAnswer| Said::new(a.answer, a.state);
     match *call {
-        Call::Remove(place) => changed(proved::remove(s, place)),
+        Call::Remove(place, field) => changed(proved::remove(s, place, field)),
         Call::PickWinner(t) => read(proved::pick_winner(s, t)),
         Call::SaveConflicts(t, winner) => changed(proved::save_conflicts(s, t, winner)),
         Call::SetScope(from, to) => changed(proved::set_scope(s, from, to)),
@@ -47,11 +48,11 @@ pub fn ours(lent: &Lent, call: &Call) -> Said {
             Said { answer, state: s, record: got.item }
         }
         Call::Conflict => read(proved::conflict(lent)),
-        Call::TakePositional => changed(proved::take_positional_word(lent)),
+        Call::TakePositional(field) => changed(proved::take_positional_word(lent, field)),
         Call::OnlyOnce(place) => read(proved::only_once(lent, place)),
         Call::Matches(node, place) => read(proved::matches_arg(lent, node, place)),
-        Call::TakeFlag(node) => changed(proved::take_flag(lent, node)),
-        Call::TakeArg(node) => changed(proved::take_arg(lent, node)),
+        Call::TakeFlag(node, field) => changed(proved::take_flag(lent, node, field)),
+        Call::TakeArg(node, field) => changed(proved::take_arg(lent, node, field)),
         Call::TakeCmd(record) => changed(proved::take_cmd(lent, record)),
         Call::Eval(..) | Call::Text(_) => unreachable!("not among the calls on used places"),
     }
@@ -70,7 +71,7 @@ fn pair(first: usize, second: usize) -> Answer {
 #[cfg(live)]
 fn change(held: &mut Held, second: &Held, call: &Call) -> Answer {
     match *call {
-        Call::Remove(place) => held.remove(place),
+        Call::Remove(place, field) => held.remove(place, field),
         Call::SaveConflicts(_, winner) => held.save_conflicts(second, winner),
         Call::SetScope(from, to) => held.set_scope(from..to),
         _ => unreachable!("a call that says something"),
@@ -83,7 +84,7 @@ fn change(held: &mut Held, second: &Held, call: &Call) -> Answer {
 fn theirs(held: &mut Held, second: &Held, form: &Form, records: &[[u32; 7]], call: &Call) -> Said {
     let mut record = [0; 7];
     let answer = match *call {
-        Call::Remove(_) | Call::SaveConflicts(..) | Call::SetScope(..) => change(held, second, call),
+        Call::Remove(..) | Call::SaveConflicts(..) | Call::SetScope(..) => change(held, second, call),
         Call::PickWinner(_) => {
             let (first, place) = held.pick_winner(second);
             Answer { first: code(place), ..yes(first) }
@@ -101,25 +102,50 @@ fn theirs(held: &mut Held, second: &Held, form: &Form, records: &[[u32; 7]], cal
             yes(found)
         }
         Call::Conflict => held.conflict().map_or(yes(false), |(place, winner)| pair(place, winner)),
-        Call::TakePositional => {
-            held.take_positional_word().map_or_else(Answer::from, |(place, strict)| pair(place, usize::from(strict)))
+        Call::TakePositional(field) => {
+            let took = held.take_positional_word(field);
+            took.map_or_else(Answer::from, |(place, strict)| pair(place, usize::from(strict)))
         }
         Call::OnlyOnce(place) => held.only_once(place).map_or(yes(false), |p| pair(p, 0)),
         Call::Matches(node, place) => yes(held.matches_arg(form, node, place).expect("a place that is there")),
-        Call::TakeFlag(node) => yes(held.take_flag(form, node)),
-        Call::TakeArg(node) => held.take_arg(form, node).map_or_else(Answer::from, |v| v.map_or(yes(false), |p| pair(p, 0))),
+        Call::TakeFlag(node, field) => yes(held.take_flag(form, node, field)),
+        Call::TakeArg(node, field) => {
+            let took = held.take_arg(form, node, field);
+            took.map_or_else(Answer::from, |v| v.map_or(yes(false), |p| pair(p, 0)))
+        }
         Call::TakeCmd(record) => yes(held.take_cmd(form, record)),
         Call::Eval(..) | Call::Text(_) => unreachable!("not among the calls on used places"),
     };
     Said { answer, state: raw(held), record }
 }
 
-/// A call with numbers drawn from what there is, or a little beyond it.
+/// Field numbers about the last of so many fields and of all, and such that 512 and the number are 2^16, 2^32 or 2^64.
+pub fn edge_fields(fields: usize) -> Vec<usize> {
+    let wrapped = [(1 << 16) - 512, (1 << 32) - 512, usize::MAX - 511];
+    [&[0, fields - 1, fields, fields + 1, 15, 16, 17, 1 << 16, 1 << 32, usize::MAX], &wrapped[..]].concat()
+}
+
+/// A field number: mostly one of so many, else one of the edges.
+pub fn some_field(rng: &mut Rng, fields: usize) -> usize {
+    if rng.chance(4, 5) { rng.below(fields) } else { *rng.pick(&edge_fields(fields)) }
+}
+
+/// Any mark of a used place, under so many fields.
+pub fn some_use(rng: &mut Rng, fields: usize) -> u16 {
+    match rng.below(8) {
+        0 => marks::MARKER,
+        1 => marks::COMMAND,
+        _ => marks::mark_of(rng.below(fields)),
+    }
+}
+
+/// A call with numbers drawn from what there is, or a little beyond it. The calls without a form are told fields of any form.
 fn random_call(rng: &mut Rng, form: &Form, count: usize, second: State, beyond: usize) -> Call {
     let place = rng.below(count + beyond);
     let node = rng.below(form.nodes.len() + beyond);
+    let (field, any) = (some_field(rng, form.fields.len()), some_field(rng, FIELDS));
     match rng.below(16) {
-        0 | 1 => Call::Remove(place),
+        0 | 1 => Call::Remove(place, any),
         2 => Call::PickWinner(second),
         3 | 4 => Call::SaveConflicts(second, place),
         5 => Call::SetScope(place, place + rng.below(count + 1 - place.min(count)) + rng.below(beyond + 1)),
@@ -127,11 +153,11 @@ fn random_call(rng: &mut Rng, form: &Form, count: usize, second: State, beyond: 
         7 => Call::AvailableFrom(place + rng.below(2)),
         8 => Call::Get(place),
         9 => Call::Conflict,
-        10 => Call::TakePositional,
+        10 => Call::TakePositional(any),
         11 => Call::OnlyOnce(place),
         12 => Call::Matches(node, place),
-        13 => Call::TakeFlag(node),
-        14 => Call::TakeArg(node),
+        13 => Call::TakeFlag(node, field),
+        14 => Call::TakeArg(node, field),
         _ => Call::TakeCmd(rng.below(form.names.len() + beyond)),
     }
 }
@@ -139,10 +165,25 @@ fn random_call(rng: &mut Rng, form: &Form, count: usize, second: State, beyond: 
 /// The bytes of a form and of a sheet, its items and the state after the split.
 pub type Start = (Vec<u8>, Vec<u8>, Vec<u32>, State);
 
-/// A well-made case of at most 40 arguments, split by the proved code.
+/// The line with a name of the form before it, if the form has one: a word that `take_cmd` takes, if it is no option.
+fn with_command(rng: &mut Rng, case: cases::Case) -> cases::Case {
+    let form = Form::check(&case.form).expect("a well-made form");
+    let mut sheet = Sheet::check(&case.sheet).expect("a well-made sheet");
+    let names: Vec<usize> = (0..form.names.len()).filter(|k| form.names[*k].ty <= LONG).collect();
+    if names.is_empty() || sheet.arguments.len() == ARGUMENTS {
+        return case;
+    }
+    sheet.arguments.insert(0, form.name(*rng.pick(&names)).to_vec());
+    cases::Case { sheet: sheet.write(), ..case }
+}
+
+/// A well-made case of at most 40 arguments, split by the proved code; one in four begins with a command word.
 pub fn start(rng: &mut Rng, spare: usize) -> Start {
     loop {
-        let case = cases::well_made(rng);
+        let mut case = cases::well_made(rng);
+        if rng.chance(1, 4) {
+            case = with_command(rng, case);
+        }
         let small = Sheet::check(&case.sheet).is_ok_and(|s| s.arguments.len() <= 40);
         let (ended, started) = split_case(case, spare);
         if small && ended == 0 {
@@ -159,8 +200,9 @@ pub fn split_case(case: cases::Case, spare: usize) -> (u32, Start) {
 }
 
 impl Compared {
-    fn call(&mut self, lent: &Lent, call: &Call, ours: &Said, theirs: &Said) {
+    pub fn call(&mut self, lent: &Lent, call: &Call, ours: &Said, theirs: &Said) {
         self.cases += 1;
+        self.commands += u64::from(matches!(call, Call::TakeCmd(_)) && theirs.answer.found == 1);
         self.answered(ours.answer.number);
         let input = || format!("{call:?} on {} {} {:?}", hex(lent.form), hex(lent.sheet), lent.state);
         self.same("call", &input, ours, theirs);
@@ -205,26 +247,36 @@ impl Walk {
         self.held.set_scope(scope);
     }
 
-    /// One call, here and there, unless the call would be refused for what it names.
+    /// One call, here and there; refused for what it is told or for a field that the form has not, it changes nothing.
     fn call(&mut self, rng: &mut Rng, compared: &mut Compared) {
         let second = self.kept[rng.below(self.kept.len())].clone();
         let call = random_call(rng, &self.form, self.records.len(), raw(&second), 1);
         let given = self.state();
         let lent = Lent { form: &self.form_bytes, sheet: &self.sheet_bytes, items: &self.items, state: &given };
-        if forged::refusal(&lent, &call).is_some() {
-            return;
-        }
-        let said = theirs(&mut self.held, &second, &self.form, &self.records, &call);
+        let said = match forged::refusal(&lent, &call) {
+            Some(r) => Said::new(Answer::from(r), given),
+            None => theirs(&mut self.held, &second, &self.form, &self.records, &call),
+        };
         compared.call(&lent, &call, &ours(&lent, &call), &said);
-        match rng.below(6) {
+        match rng.below(7) {
             0 => self.kept.push(self.held.clone()),
             1 => self.held = self.kept[rng.below(self.kept.len())].clone(),
+            2 => self.held.relabel(|_| some_use(rng, FIELDS)),
+            3 | 4 => self.within_form(rng),
             _ => {}
         }
     }
 
+    /// Marks of fields that the form has not, which a call without a form may leave, become others.
+    fn within_form(&mut self, rng: &mut Rng) {
+        let fields = self.form.fields.len();
+        self.held.relabel(|mark| if marks::mark_good(mark, 0, fields) { mark } else { some_use(rng, fields) });
+    }
+
+    /// One call that is not compared; the state that it leaves is one for calls with the form.
     pub fn step(&mut self, rng: &mut Rng) {
         self.call(rng, &mut Compared::default());
+        self.within_form(rng);
     }
 
     /// The first place that `get` gives and whose item has one of the node's names.
@@ -252,6 +304,7 @@ pub fn compare(seed: u64, count: u64) -> Compared {
             walk.call(&mut rng, &mut compared);
         }
     }
+    compared.goals = vec![Goal { what: "command words taken", met: compared.commands, least: count / 1000 }];
     compared
 }
 
@@ -278,6 +331,12 @@ fn on_refusals() -> Compared {
     compared
 }
 
+/// Marks about the limits of refusal 29, over so many items and so many fields.
+pub fn edge_marks(items: usize, fields: usize) -> Vec<u16> {
+    let ends = [1 + items, 2 + items, 3 + items, 511 + fields, 512 + fields, 513 + fields].map(|m| m as u16);
+    [&[0, 1, 2, 257, 258, 259, 300, 508, 509, 510, 511, 512, 527, 528, 1024, 1 << 15, u16::MAX], &ends[..]].concat()
+}
+
 /// One thing changed in a state, so that it may no longer be one.
 fn damage_state(rng: &mut Rng, s: &mut State) {
     let count = s.count as usize;
@@ -289,7 +348,10 @@ fn damage_state(rng: &mut Rng, s: &mut State) {
         3 => s.start = near(rng, s.start),
         4 => s.end = near(rng, s.end),
         5 => s.marks[rng.below(256)] = rng.below(count + 4) as u16,
-        6 => s.marks[rng.below(count + 1).min(255)] = rng.below(5) as u16,
+        6 => {
+            let edges = edge_marks(count, 1 + rng.below(FIELDS));
+            s.marks[rng.below(count + 1).min(255)] = *rng.pick(&edges);
+        }
         7 => {
             let wild = [u32::MAX, 257, 256, 1 << 31];
             *[&mut s.count, &mut s.remaining, &mut s.current, &mut s.start, &mut s.end][rng.below(5)] = *rng.pick(&wild);
@@ -332,6 +394,7 @@ pub struct Forgery {
     good: Form,
     count: usize,
     pub nodes: usize,
+    pub fields: usize,
 }
 
 impl Forgery {
@@ -339,8 +402,8 @@ impl Forgery {
         let spare = rng.below(3) * 5;
         let (form, sheet, items, state) = start(rng, spare);
         let good = Form::check(&form).expect("a form");
-        let (count, nodes) = (state.count as usize, good.nodes.len());
-        let mut made = Forgery { form, sheet, items, state, second: state, good, count, nodes };
+        let (count, nodes, fields) = (state.count as usize, good.nodes.len(), good.fields.len());
+        let mut made = Forgery { form, sheet, items, state, second: state, good, count, nodes, fields };
         for _ in 0..rng.below(4) {
             let call = made.call(rng, 1);
             made.state = ours(&made.lent(), &call).state;
@@ -366,22 +429,68 @@ impl Forgery {
     }
 }
 
-/// Forged states and item tables, damaged forms and sheets, numbers past what there is: the refusal, and that nothing changed.
+/// A state whose used places are all used by the first field.
+pub fn plain(state: &State) -> State {
+    State { marks: state.marks.map(|m| if marks::used(m) { marks::FIELD } else { m }), ..*state }
+}
+
+/// The call with plain states, told the first field.
+fn plain_call(call: &Call) -> Call {
+    match *call {
+        Call::Remove(place, _) => Call::Remove(place, 0),
+        Call::TakePositional(_) => Call::TakePositional(0),
+        Call::TakeFlag(node, _) => Call::TakeFlag(node, 0),
+        Call::TakeArg(node, _) => Call::TakeArg(node, 0),
+        Call::PickWinner(t) => Call::PickWinner(plain(&t)),
+        Call::SaveConflicts(t, winner) => Call::SaveConflicts(plain(&t), winner),
+        Call::AdjacentScope(t) => Call::AdjacentScope(plain(&t)),
+        _ => call.clone(),
+    }
+}
+
+/// The state that is left where used places have marks of their own: these stay, and what becomes used has the mark.
+pub fn renumbered(given: &State, left: &State, mark: u16) -> State {
+    let marks = std::array::from_fn(|k| match (marks::used(given.marks[k]), marks::used(left.marks[k])) {
+        (true, true) => given.marks[k],
+        (false, true) => mark,
+        _ => left.marks[k],
+    });
+    State { marks, ..*left }
+}
+
+/// What a call must say that is not refused for what it is lent: it looks only at used or not, so all but the marks is as on plain
+/// states.
+fn by_plain_marks(lent: &Lent, call: &Call) -> Said {
+    let said = ours(&Lent { state: &plain(lent.state), ..*lent }, &plain_call(call));
+    if ![0, 20, 22].contains(&said.answer.number) {
+        return Said::new(yes(true), *lent.state);
+    }
+    // of the calls that are told no field only `take_cmd` uses a place
+    let mark = call.field().map_or(marks::COMMAND, marks::mark_of);
+    Said { state: renumbered(lent.state, &said.state, mark), ..said }
+}
+
+/// The second reading: the refusal, and nothing changed; else what is said where all used places look alike.
+pub fn forged_said(lent: &Lent, call: &Call) -> Said {
+    match forged::refusal(lent, call) {
+        Some(r) => Said::new(Answer::from(r), *lent.state),
+        None => by_plain_marks(lent, call),
+    }
+}
+
+/// Forged marks and field numbers one by one; then `count` random ones: forged states and item tables, damaged forms and sheets,
+/// numbers past what there is. The refusal, and that nothing changed.
 pub fn compare_forged(seed: u64, count: u64) -> Compared {
     let mut rng = Rng::new(seed);
     let mut compared = Compared::default();
+    compared.forged_marks();
+    let count = compared.cases + count;
     while compared.cases < count {
         let forgery = Forgery::new(&mut rng);
         let lent = forgery.lent();
         for _ in 0..8 {
             let call = forgery.call(&mut rng, 3);
-            let said = ours(&lent, &call);
-            let expected = match forged::refusal(&lent, &call) {
-                Some(r) => Said::new(Answer::from(r), *lent.state),
-                None if [0, 20, 22].contains(&said.answer.number) => said.clone(),
-                None => Said::new(yes(true), *lent.state),
-            };
-            compared.call(&lent, &call, &said, &expected);
+            compared.call(&lent, &call, &ours(&lent, &call), &forged_said(&lent, &call));
         }
     }
     compared

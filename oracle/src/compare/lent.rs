@@ -5,15 +5,15 @@ use line::forged::{self, records, Call, Lent, State};
 use line::format::*;
 use proved::Answer;
 
-use super::{calls, Compared};
+use super::{calls, calls::some_field, Compared};
 use crate::lists::hex;
 
 /// `remove` or `take_flag` on a copy of the state that is lent: the answer, and the state that it left.
 fn in_place(lent: &Lent, call: &Call) -> (Answer, State) {
     let mut state = *lent.state;
     let answer = match *call {
-        Call::Remove(place) => proved::remove_in_place(&mut state, place),
-        Call::TakeFlag(node) => proved::take_flag_in_place(&mut state, lent, node),
+        Call::Remove(place, field) => proved::remove_in_place(&mut state, place, field),
+        Call::TakeFlag(node, field) => proved::take_flag_in_place(&mut state, lent, node, field),
         _ => unreachable!("not on a lent state"),
     };
     (answer, state)
@@ -46,8 +46,10 @@ pub fn compare_forged(seed: u64, count: u64) -> Compared {
     while compared.cases < count {
         let forgery = calls::Forgery::new(&mut rng);
         let lent = forgery.lent();
-        compared.lent(&lent, &Call::Remove(rng.below(lent.state.count.min(300) as usize + 2)));
-        compared.lent(&lent, &Call::TakeFlag(rng.below(forgery.nodes + 2)));
+        let place = rng.below(lent.state.count.min(300) as usize + 2);
+        compared.lent(&lent, &Call::Remove(place, some_field(&mut rng, FIELDS)));
+        let node = rng.below(forgery.nodes + 2);
+        compared.lent(&lent, &Call::TakeFlag(node, some_field(&mut rng, forgery.fields)));
         let (mut items, node) = (records(lent.items), rng.below(forgery.nodes + 2));
         items.resize(items.len() + rng.below(2) * rng.below(4), [0; 7]);
         let theirs = sought(&lent, &items, node);
@@ -96,10 +98,10 @@ pub fn compare(seed: u64, count: u64) -> Compared {
             let items = records(&walk.items);
             let node = rng.below(walk.form.nodes.len());
             if !items.is_empty() {
-                compared.lent(&lent, &Call::Remove(rng.below(items.len())));
+                compared.lent(&lent, &Call::Remove(rng.below(items.len()), some_field(&mut rng, FIELDS)));
             }
             if walk.form.nodes[node].kind == FLAG {
-                compared.lent(&lent, &Call::TakeFlag(node));
+                compared.lent(&lent, &Call::TakeFlag(node, some_field(&mut rng, walk.form.fields.len())));
             }
             if walk.form.nodes[node].kind <= ARGUMENT {
                 let place = walk.first_match(node);

@@ -3,7 +3,7 @@
 
 use bpaf::doc::harness::Run;
 use line::forged::{ANSWER_WORDS, LIST_WORDS};
-use line::{cases, cases::Rng, format::*};
+use line::{cases, cases::Rng, format::*, marks::beneath};
 
 use super::calls::{self, Walk};
 use super::{run::LEAST, Compared, Goal};
@@ -46,11 +46,6 @@ impl Seen {
 fn crossed(form: &Form, ran: &Run) -> bool {
     let leaves: Vec<usize> = ran.missing.iter().map(|entry| entry[0] as usize - 1).collect();
     ran.crossed.iter().any(|k| leaves.iter().any(|leaf| beneath(form, form.nodes[*k].q as usize, *leaf)))
-}
-
-/// Whether a node is another one or stands beneath it.
-fn beneath(form: &Form, upper: usize, node: usize) -> bool {
-    upper == node || form.nodes[upper].children().any(|child| beneath(form, child, node))
 }
 
 impl Compared {

@@ -2,7 +2,10 @@
 
 mod calls;
 mod checks;
+mod forged_marks;
 mod lent;
+#[cfg(live)]
+mod marks;
 #[cfg(live)]
 mod missing;
 mod replay;
@@ -14,6 +17,8 @@ mod tables;
 mod utf8;
 
 pub use replay::replay;
+#[cfg(live)]
+pub use replay::{call_of, state_of};
 pub use run::show as show_run;
 pub use split::show as show_split;
 pub use utf8::show_arguments;
@@ -25,6 +30,8 @@ pub struct Compared {
     pub differ: u64,
     /// how often each number was answered, where a layer counts them
     pub numbers: std::collections::BTreeMap<u32, u64>,
+    /// single calls of `take_cmd` that took a word
+    commands: u64,
     /// what the cases must have met, where a layer says so
     pub goals: Vec<Goal>,
 }
@@ -76,7 +83,7 @@ pub fn compare(layer: &str, seed: u64, count: Option<u64>) -> Option<Compared> {
         "forged-eval" => run::compare_forged(seed, count.unwrap_or(100_000)),
         "forged-tables" => tables::compare(seed, count.unwrap_or(200_000)),
         #[cfg(live)]
-        "calls" => calls::compare(seed, count.unwrap_or(200_000)),
+        "calls" => calls::compare(seed, count.unwrap_or(300_000)),
         #[cfg(live)]
         "lent" => lent::compare(seed, count.unwrap_or(300_000)),
         #[cfg(live)]
@@ -85,6 +92,8 @@ pub fn compare(layer: &str, seed: u64, count: Option<u64>) -> Option<Compared> {
         "run" => run::compare(seed, count.unwrap_or(300_000)),
         #[cfg(live)]
         "missing" => missing::compare(seed, count.unwrap_or(1_000_000)),
+        #[cfg(live)]
+        "marks" => marks::compare(seed, count.unwrap_or(1_000_000)),
         #[cfg(live)]
         "split" => split::compare(seed, count.unwrap_or(300_000)),
         _ => return None,

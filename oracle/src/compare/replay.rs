@@ -6,7 +6,7 @@ use super::{calls, run, utf8};
 use crate::list_form::{self, bytes, Case};
 
 /// A state by its words: count, remaining, current, scope and marks.
-fn state_of(words: &[u32]) -> State {
+pub fn state_of(words: &[u32]) -> State {
     let word = |k: usize| words.get(k).copied().unwrap_or(0);
     let marks = std::array::from_fn(|k| word(5 + k) as u16);
     State { marks, count: word(0), remaining: word(1), current: word(2), start: word(3), end: word(4) }
@@ -74,23 +74,24 @@ fn on_items(case: &Case, items: &[u32], answers: &mut [u32], list: &mut [u32]) -
     }
 }
 
-fn call_of(name: &str, case: &Case) -> Call {
+/// The call of a case: a field stands behind the place or the node.
+pub fn call_of(name: &str, case: &Case) -> Call {
     let (m, n) = (case.told(1) as usize, case.told(2) as usize);
     let other = state_of(&case.second);
     match name {
         "get" => Call::Get(m),
-        "remove" => Call::Remove(m),
+        "remove" => Call::Remove(m, n),
         "pick_winner" => Call::PickWinner(other),
         "save_conflicts" => Call::SaveConflicts(other, m),
         "set_scope" => Call::SetScope(m, n),
         "adjacent_scope" => Call::AdjacentScope(other),
         "adjacently_available_from" => Call::AvailableFrom(m),
         "conflict" => Call::Conflict,
-        "take_positional_word" => Call::TakePositional,
+        "take_positional_word" => Call::TakePositional(m),
         "only_once" => Call::OnlyOnce(m),
         "matches_arg" => Call::Matches(m, n),
-        "take_flag" => Call::TakeFlag(m),
-        "take_arg" => Call::TakeArg(m),
+        "take_flag" => Call::TakeFlag(m, n),
+        "take_arg" => Call::TakeArg(m, n),
         "take_cmd" => Call::TakeCmd(m),
         _ => panic!("no such call: {name}"),
     }

@@ -3,6 +3,7 @@
 use line::cases::Rng;
 use line::forged::{self, records, Call, Lent, State, ANSWER_WORDS, ITEM_WORDS, LIST_WORDS};
 use line::format::*;
+use line::marks;
 use proved::{code, Refused, RunAnswer};
 
 use super::{calls, pattern, split, Compared};
@@ -107,7 +108,9 @@ pub const LEAST: Lengths = [ITEM_WORDS, ANSWER_WORDS, LIST_WORDS];
 fn expected(case: &Case, [items, answers, list]: Lengths) -> Run {
     match accepted(case, forged::too_short(items, answers, list)) {
         Err(r) => harness::refused_run(r),
-        Ok((form, sheet)) => harness::run(&form, &sheet, Wanted { items: true, sides: true, ..Wanted::default() }),
+        Ok((form, sheet)) => {
+            harness::run(&form, &sheet, Wanted { items: true, sides: true, put_back: true, ..Wanted::default() })
+        }
     }
 }
 
@@ -221,9 +224,21 @@ pub fn text_of(lent: &Lent, word: u32) -> Vec<u8> {
     area[record[5] as usize..][..record[6] as usize].to_vec()
 }
 
+/// `eval` where all used places look alike, with the marks that must be left: those that were there, and the mark of the field
+/// whose tree has the node. And what it writes.
+fn plain_eval(lent: &Lent, node: usize, lengths: [usize; 2]) -> (RunAnswer, [Vec<u32>; 2]) {
+    let mut written = lengths.map(pattern);
+    let [answers, list] = &mut written;
+    let ended = proved::eval(&Lent { state: &calls::plain(lent.state), ..*lent }, answers, list, node);
+    let form = Form::check(lent.form).expect("a form");
+    let mark = marks::mark_of(marks::field_of(&form, node));
+    let state = calls::renumbered(lent.state, &ended.state, mark);
+    (RunAnswer { state, ..ended }, written)
+}
+
 impl Compared {
-    /// `eval` on what may be forged: refused by the second reading, nothing changes; else a list comes only with 20. The number
-    /// that it ends with.
+    /// `eval` on what may be forged: refused by the second reading, nothing changes; else all but the marks is as on plain states,
+    /// and a list comes only with 20. The number that it ends with.
     pub fn forged_eval(&mut self, lent: &Lent, node: usize, lengths: [usize; 2]) -> u32 {
         let mut left = lengths.map(pattern);
         let [answers, list] = &mut left;
@@ -237,6 +252,10 @@ impl Compared {
                 self.words("eval list", &input, &left[1], &pattern(lengths[1]));
             }
             None => {
+                let (plain, written) = plain_eval(lent, node, lengths);
+                self.same("eval", &input, ours, plain);
+                self.words("eval answers", &input, &left[0], &written[0]);
+                self.words("eval list", &input, &left[1], &written[1]);
                 self.same("eval", &input, ours.number == 0 || (20..27).contains(&ours.number), true);
                 self.same("eval list", &input, left[1].iter().any(|w| *w != 0), ours.number == 20);
             }

@@ -73,7 +73,7 @@ pub fn raw(held: &Held) -> State {
 #[cfg(live)]
 pub fn raw_view(view: &View) -> State {
     let mut marks = [0; 256];
-    view.marks.iter().enumerate().for_each(|(k, m)| marks[k] = *m as u16);
+    marks[..view.marks.len()].copy_from_slice(&view.marks);
     State {
         marks,
         count: view.marks.len() as u32,

@@ -4,9 +4,10 @@
 use line::cases::Rng;
 use line::forged::{self, records, Call, Lent, State, ANSWER_WORDS, ITEM_WORDS, LIST_WORDS};
 use line::format::*;
+use line::marks;
 use proved::Answer;
 
-use super::calls::{self, Said};
+use super::calls::{self, some_field, some_use, Said};
 use super::{lent, run, Compared};
 use crate::lists::hex;
 
@@ -58,16 +59,16 @@ fn words(rng: &mut Rng, table: &[[u32; 7]]) -> Vec<u32> {
     words
 }
 
-/// A state over that many items, as far as there is one.
-fn state(rng: &mut Rng, items: usize) -> State {
+/// A state over that many items, as far as there is one, and so many fields.
+fn state(rng: &mut Rng, items: usize, fields: usize) -> State {
     let n = items.min(256);
     let mut marks = [0; 256];
     for mark in &mut marks[..n] {
-        *mark = [0, 0, 1, 2 + rng.below(n)][rng.below(4)] as u16;
+        *mark = [0, 0, some_use(rng, fields), 2 + rng.below(n) as u16][rng.below(4)];
     }
     let (a, b) = if rng.chance(1, 3) { (rng.below(n + 1), rng.below(n + 1)) } else { (0, n) };
     let (start, end) = (a.min(b), a.max(b));
-    let remaining = marks[start..end].iter().filter(|m| **m != 1).count() as u32;
+    let remaining = marks[start..end].iter().filter(|m| !marks::used(**m)).count() as u32;
     let count = if items > n && rng.chance(1, 2) { items } else { n } as u32;
     State { marks, count, remaining, current: rng.below(n + 1) as u32, start: start as u32, end: end as u32 }
 }
@@ -77,14 +78,15 @@ fn call(rng: &mut Rng, form: &Form, count: usize) -> Call {
     let near = count.saturating_sub(3) + rng.below(6);
     let place = [rng.below(count + 2), near, 254 + rng.below(4), 1 << 32][rng.below(4).min(rng.below(4))];
     let node = rng.below(form.nodes.len() + 1);
+    let field = some_field(rng, form.fields.len());
     match rng.below(12) {
         0 => Call::Get(place),
         1 => Call::Conflict,
-        2 => Call::TakePositional,
+        2 => Call::TakePositional(some_field(rng, FIELDS)),
         3..=5 => Call::OnlyOnce(place),
         6 => Call::Matches(node, place),
-        7 => Call::TakeFlag(node),
-        8 => Call::TakeArg(node),
+        7 => Call::TakeFlag(node, field),
+        8 => Call::TakeArg(node, field),
         9 => Call::TakeCmd(rng.below(form.names.len() + 1)),
         10 => Call::Eval(node, ANSWER_WORDS - rng.below(8) / 7, LIST_WORDS - rng.below(8) / 7),
         _ => Call::Text(if rng.chance(1, 4) { 256 + rng.below(form.names.len() + 2) } else { place } as u32),
@@ -174,7 +176,8 @@ pub fn compare(seed: u64, count: u64) -> Compared {
         }
         let items = words(&mut rng, &table);
         let held = records(&items).len();
-        let state = state(&mut rng, held);
+        let fields = if rng.chance(1, 8) { FIELDS } else { good.fields.len() };
+        let state = state(&mut rng, held, fields);
         let lent = Lent { form: &form, sheet: &sheet, items: &items, state: &state };
         for _ in 0..6 {
             let call = call(&mut rng, &good, held);
@@ -185,7 +188,7 @@ pub fn compare(seed: u64, count: u64) -> Compared {
             compared.same("table", &input, said, theirs(&lent, &call));
         }
         let node = rng.below(good.nodes.len() + 1);
-        compared.lent(&lent, &Call::TakeFlag(node));
+        compared.lent(&lent, &Call::TakeFlag(node, some_field(&mut rng, good.fields.len())));
         let structs: Vec<[u32; 7]> = items.chunks_exact(7).map(|r| r.try_into().expect("seven words")).collect();
         compared.found(&lent, &structs, node, lent::sought(&lent, &structs, node));
     }

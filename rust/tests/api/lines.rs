@@ -1,9 +1,9 @@
-//! Untyped values, items, marks and tries.
+//! Untyped values, items and tries.
 
 use std::ffi::{OsStr, OsString};
 use std::os::unix::ffi::{OsStrExt, OsStringExt};
 
-use silverpoise::{long, short, Form, Item, ItemKind, Mark, Node, Reader, Takes, Value};
+use silverpoise::{long, short, Form, Item, Node, Reader, Takes, Value};
 
 fn text() -> Node {
     Node::positional(Takes::Text)
@@ -43,7 +43,10 @@ fn all_kinds_of_nodes() {
     let expected = [yes(), optional(Some(word("u"))), numbers, two, word("z"), yes(), Value::Number(9), texts];
     assert_eq!(line.values()[..], expected);
     assert_eq!((line.tries(), line.items().len()), (15, 14));
-    assert!(line.items().iter().all(|item| item.mark == Mark::Used));
+    let fields = [Some(0), Some(3), Some(3), Some(5), Some(2), Some(2), Some(2), Some(2), Some(4), Some(4), Some(1), Some(1)];
+    let used_by: Vec<Option<usize>> = line.items().iter().map(|item| item.mark.field()).collect();
+    assert_eq!(used_by, [&fields[..], &[None, Some(7)]].concat());
+    assert!(line.items().iter().all(|item| item.mark.is_used()));
 }
 
 /// The two kinds of values that the line above does not have.
@@ -94,26 +97,26 @@ fn the_items_of_a_line() {
     .unwrap();
     let args = ["", "-é", "-v-éw7", "-v=7", "-w=", "--weight=", "--é=8", "---", "-vx", "--", "", "--"];
     let expected = [
-        "Word false \"\" 0 0..0 Used",
-        "Short('é') false \"-é\" 1 0..3 Used",
+        "Word false \"\" 0 0..0 Used(Field(2))",
+        "Short('é') false \"-é\" 1 0..3 Used(Field(0))",
         "Short('v') false \"-v-éw7\" 2 1..2 Unused",
         "Short('-') false \"\" 2 2..3 Unused",
         "Short('é') false \"\" 2 3..5 Unused",
-        "Short('w') true \"-v-éw7\" 2 5..6 Used",
-        "Word false \"7\" 2 6..7 Used",
+        "Short('w') true \"-v-éw7\" 2 5..6 Used(Field(1))",
+        "Word false \"7\" 2 6..7 Used(Field(1))",
         "Short('v') true \"-v=7\" 3 0..2 Unused",
         "ArgWord false \"7\" 3 3..4 Unused",
-        "Short('w') true \"-w=\" 4 0..2 Used",
-        "ArgWord false \"\" 4 3..3 Used",
-        "Long(\"weight\") true \"--weight=\" 5 0..8 Used",
-        "ArgWord false \"\" 5 9..9 Used",
+        "Short('w') true \"-w=\" 4 0..2 Used(Field(1))",
+        "ArgWord false \"\" 4 3..3 Used(Field(1))",
+        "Long(\"weight\") true \"--weight=\" 5 0..8 Used(Field(1))",
+        "ArgWord false \"\" 5 9..9 Used(Field(1))",
         "Long(\"é\") true \"--é=8\" 6 0..4 Unused",
         "ArgWord false \"8\" 6 5..6 Unused",
         "Long(\"-\") false \"---\" 7 0..3 Unused",
-        "Word false \"-vx\" 8 0..3 Used",
-        "PosWord false \"--\" 9 0..2 Used",
-        "PosWord false \"\" 10 0..0 Used",
-        "PosWord false \"--\" 11 0..2 Used",
+        "Word false \"-vx\" 8 0..3 Used(Field(2))",
+        "PosWord false \"--\" 9 0..2 Used(Marker)",
+        "PosWord false \"\" 10 0..0 Used(Field(2))",
+        "PosWord false \"--\" 11 0..2 Used(Field(2))",
     ];
     let error = form.read_values(&args).unwrap_err();
     assert_eq!((error.number(), error.place(), error.tries()), (27, Some(2), 10));
@@ -125,19 +128,12 @@ fn the_items_of_a_line() {
 fn the_letter_equals() {
     let form = Form::of([Node::switch(short('=')), Node::switch(short('v'))]).unwrap();
     let line = form.read_values(&["-=v"]).map(|line| items(line.items())).unwrap();
-    assert_eq!(line, ["Short('=') false \"-=v\" 0 1..2 Used", "Short('v') false \"\" 0 2..3 Used"]);
+    assert_eq!(line, ["Short('=') false \"-=v\" 0 1..2 Used(Field(0))", "Short('v') false \"\" 0 2..3 Used(Field(1))"]);
     let error = form.read_values(&["-=v=="]).unwrap_err();
-    assert_eq!(items(&error.items()), ["Short('=') true \"-=v==\" 0 0..2 Used", "ArgWord false \"v==\" 0 2..5 Unused"]);
-}
-
-#[test]
-fn conflicts_are_marked() {
-    let form = Form::of([Node::flag(short('v')).or(Node::flag(short('q')))]).unwrap();
-    let error = form.read_values(&["-q", "-v"]).unwrap_err();
-    assert_eq!((error.number(), error.place(), error.tries()), (27, Some(1), 2));
-    let marks: Vec<Mark> = error.items().iter().map(|item| item.mark).collect();
-    assert_eq!(marks, [Mark::Used, Mark::Conflict(0)]);
-    assert_eq!(error.items()[1].kind, ItemKind::Short('v'));
+    assert_eq!(
+        items(&error.items()),
+        ["Short('=') true \"-=v==\" 0 0..2 Used(Field(0))", "ArgWord false \"v==\" 0 2..5 Unused"]
+    );
 }
 
 /// What a read leaves in the buffers does not show in the next one.

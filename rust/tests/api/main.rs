@@ -4,5 +4,6 @@ mod errors;
 mod forms;
 mod help;
 mod lines;
+mod marks;
 mod typed;
 mod wrong_use;

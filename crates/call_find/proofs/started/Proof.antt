@@ -4,7 +4,7 @@ use mathlib.Core.Logic.{inl}
 use mathlib.Core.Path.{refl}
 use Rattle.rules.proofs.GivenLaws.{check-accepted}
 use Rattle.call_table.proofs.Laws.{start-small, start-within}
-use Rattle.call_find.proofs.Ends.{start-form, start-checked, start-sheet, start-made, start-ready}
+use Rattle.call_find.proofs.Ends.{start-form, start-eight, start-checked, start-sheet, start-made, start-ready}
 use Rattle.call_find.proofs.started.Statement.{statement}
 use Rattle.call_find.proofs.started.Tie as tie
 
@@ -26,9 +26,12 @@ stopped-requires-2 c κs = search needs
 returns-2 : tie.Need-returns-2
 returns-2 c = search start-sheet
 
+field-count-requires : tie.Need-field-count-requires
+field-count-requires c κs = search start-eight
+
 key-at-requires : tie.Need-key-at-requires
 key-at-requires c κs =
-    let by-if1 = c .before .before in
+    let by-if1 = c .before .before .before in
     let if1 = by-if1 .if1 in
     let check = by-if1 .before .before .check in
     check-accepted _ _ (check .ensures) (if1 .left)
@@ -58,6 +61,7 @@ started-spec =
     check-requires-2
     stopped-requires-2
     returns-2
+    field-count-requires
     key-at-requires
     codes-of-requires
     count-requires

@@ -2,9 +2,14 @@
 use borrow.Author.Needs.{needs}
 use mathlib.Core.Path.{_≡_}
 use lib.ListN.{length}
-use Rattle.call_form.proofs.Takes.{given-names, has-names, sheet-made, field-ready, flag-hands}
+use Rattle.call_form.proofs.Takes.{given-names, has-names, sheet-made, ready, flag-hands}
+use Rattle.call_form.proofs.flag_taken.Lts as lts
+use Rattle.call_form.proofs.flag_taken.Reads as reads
 use Rattle.call_form.proofs.flag_taken.Statement.{statement}
 use Rattle.call_form.proofs.flag_taken.Tie as tie
+
+marks-long : (k : lts.Claims) (c : lts.Start k reads.Pre reads.Post) → length (c .args .s .marks) ≡ 256
+marks-long k c = search (needs, c .good)
 
 codes-of-requires : tie.Need-codes-of-requires
 codes-of-requires c κs = search given-names
@@ -16,7 +21,7 @@ numbers-of-requires : tie.Need-numbers-of-requires
 numbers-of-requires c κs = search needs
 
 take-flag-requires : tie.Need-take-flag-requires
-take-flag-requires c κs = (search has-names, search sheet-made, search field-ready)
+take-flag-requires c κs = (search has-names, search sheet-made, search ready)
 
 yes-no-requires : tie.Need-yes-no-requires
 yes-no-requires c κs = search needs
@@ -29,10 +34,17 @@ changed-requires c κs = search needs
 
 returns : tie.Need-returns
 returns c =
-    let long : length (c .before .before .before .before .before .before .before .before .before .before .before .before .before .args .s .marks) ≡
-    256 = search (needs, c .before .before .before .before .before .before .before .before .before .before .before .before .before .good) in
-    flag-hands _ _ _ _ (c .before .before .before .before .before .numbers-of .ensures) long _ _ _ (c .before .joined .ensures) _
-    (c .before .before .yes-no .ensures) _ (c .changed .ensures) _ (c .before .before .before .before .take-flag .ensures)
+    let by-joined = c .before in
+    let joined = by-joined .joined in
+    let by-yes-no = by-joined .before in
+    let yes-no = by-yes-no .yes-no in
+    let by-take-flag = by-yes-no .before .before in
+    let take-flag = by-take-flag .take-flag in
+    let by-numbers-of = by-take-flag .before in
+    let numbers-of = by-numbers-of .numbers-of in
+    let start = by-numbers-of .before .before .before .before .before .before .before .before in
+    flag-hands _ _ _ _ (numbers-of .ensures) (marks-long _ start) _ _ _ (joined .ensures) _ (yes-no .ensures) _ (c .changed .ensures)
+    (start .args .mark) _ (take-flag .ensures)
 
 pub flag-taken-spec : {M : Type 1} → statement M
 flag-taken-spec =

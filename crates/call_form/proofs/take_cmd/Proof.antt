@@ -26,7 +26,11 @@ name-bytes-requires : tie.Need-name-bytes-requires
 name-bytes-requires c κs = search cmd-name
 
 cmd-taken-requires : tie.Need-cmd-taken-requires
-cmd-taken-requires c κs = search tests-state
+cmd-taken-requires c κs =
+    let by-if1 = c .before .before .before in
+    let if1 = by-if1 .if1 in
+    let given = by-if1 .before .before .given in
+    (_, tests-state _ _ _ _ _ (given .ensures) (if1 .left))
 
 returns-3 : tie.Need-returns-3
 returns-3 c = search cmd-some

@@ -80,14 +80,14 @@ abbrev valR : StateAnswer → Val
 valR h = LL.tuple-val TT.the-type TT′.the-laws (TT.the-type .to h)
 
 abbrev Arg : Type 0
-Arg = RefT State × (ℕ × Unit {0})
+Arg = RefT State × (ℕ × (ℕ × Unit {0}))
 
 abbrev stayed : Stays (in-place.ended .signature .params) (in-place.ended .kept)
-stayed = (stay-ref (0 ∷ []) tt (plain (λ _. S)), (stay-none (λ _. usize) yes, tt))
+stayed = (stay-ref (0 ∷ []) tt (plain (λ _. S)), (stay-none (λ _. usize) yes, (stay-none (λ _. usize) yes, tt)))
 
 -- what `call_state::remove` says of its answer
-abbrev Removed : State → ℕ → StateAnswer → Type 0
-Removed h n r = stateAnswerOf yesCode (callRemove h n) ≡ only-some r
+abbrev Removed : State → ℕ → ℕ → StateAnswer → Type 0
+Removed h n k r = stateAnswerOf yesCode (callRemove h n k) ≡ only-some r
 
 module _ {M : Type 1} (𝓤 : URA M) (H : Heap 𝓤) (A : Atoms 𝓤) (at-mem : Memory → SProp 𝓤) (run : Routine → Fun 𝓤) where
   -- the contracts that the proof cites
@@ -98,39 +98,42 @@ module _ {M : Type 1} (𝓤 : URA M) (H : Heap 𝓤) (A : Atoms 𝓤) (at-mem : 
   Part = tripleOf 𝓤 H A part.signature (part.spec 𝓤 H A at-mem run)
 
   -- of what a callee ensures, the clause alone
-  removed-of : (h : State) (n : ℕ) (r : StateAnswer) → ent 𝓤 (ensured 𝓤 H A remove.ended (remove.clauses 𝓤 H A at-mem run) tt (h, (n, tt)) tt r) (fact 𝓤 (Removed h n r))
-  removed-of h n r = exE 𝓤 _ (λ ws. snd∗ 𝓤 (sem 𝓤 H A (lasts remove.ended tt (h, (n, tt)) ws)) (fact 𝓤 (Removed h n r)))
+  removed-of : (h : State) (n k : ℕ) (r : StateAnswer) → ent 𝓤 (ensured 𝓤 H A remove.ended (remove.clauses 𝓤 H A at-mem run) tt (h, (n, (k, tt))) tt r)
+      (fact 𝓤 (Removed h n k r))
+  removed-of h n k r = exE 𝓤 _ (λ ws. snd∗ 𝓤 (sem 𝓤 H A (lasts remove.ended tt (h, (n, (k, tt))) ws)) (fact 𝓤 (Removed h n k r)))
 
   part-of : (r : StateAnswer) (a : Answer) → ent 𝓤 (ensured 𝓤 H A part.ended (part.clauses 𝓤 H A at-mem run) tt (r, tt) tt a) (fact 𝓤 (a ≡ answerPart r))
   part-of r a = exE 𝓤 _ (λ ws. snd∗ 𝓤 (sem 𝓤 H A (lasts part.ended tt (r, tt) ws)) (fact 𝓤 (a ≡ answerPart r)))
 
 module _ {M : Type 1} (𝓤 : URA M) (H : Heap 𝓤) (A : Atoms 𝓤) (W : Given 𝓤 H A) (at-mem : Memory → SProp 𝓤) (run : Routine → Fun 𝓤) (κ : Lft)
-    (q : Share) (b o : ℕ) (γ : GName) (h : State) (n : ℕ) (gn : n < 2 ^ 64) where
+    (q : Share) (b o : ℕ) (γ : GName) (h : State) (n k : ℕ) (gn : n < 2 ^ 64) (gk : k < 2 ^ 64) where
   abbrev x : Arg
-  x = (record { ptr = (b, o); name = γ; now = h }, (n, tt))
+  x = (record { ptr = (b, o); name = γ; now = h }, (n, (k, tt)))
 
   abbrev at : Vals in-place.signature (κ, tt)
-  at = (vptr b o ∷ [], (vint w64 n ∷ [], tt))
+  at = (vptr b o ∷ [], (vint w64 n ∷ [], (vint w64 k ∷ [], tt)))
 
   abbrev Post : Val → SProp 𝓤
   Post = walkOf 𝓤 H A in-place.ended stayed (in-place.clauses 𝓤 H A at-mem run) .post (((κ, tt), (q, tt), tt, x, at), tt)
 
-  exits : (r : StateAnswer) (a : Answer) (v : Val) → Removed h n r → a ≡ answerPart r → Is TA.the-row a (v ∷ []) → ent 𝓤
+  exits : (r : StateAnswer) (a : Answer) (v : Val) → Removed h n k r → a ≡ answerPart r → Is TA.the-row a (v ∷ []) → ent 𝓤
       (⋆ 𝓤 H A (‵ (fobs γ (S .coded .code (r .state))) ∷ ‵ (fbor κ (Body (mem S) b o γ)) ∷ ‵ (flft κ q) ∷ [])) (Post v)
   exits r a v e d is =
       qed W (‵ (fobs γ (S .coded .code (r .state))) ∷ ‵ (fbor κ (Body (mem S) b o γ)) ∷ ‵ (flft κ q) ∷ []) ∵
-      suffices ! _ (ends-at 𝓤 H A in-place.ended stayed (in-place.clauses 𝓤 H A at-mem run) W (((κ, tt), (q, tt), tt, x, at), tt) v a (r .state, (tt, tt)) (tt, (tt, tt))) $
+      suffices ! _ (ends-at 𝓤 H A in-place.ended stayed (in-place.clauses 𝓤 H A at-mem run) W (((κ, tt), (q, tt), tt, x, at), tt) v a
+      (r .state, (tt, (tt, tt))) (tt, (tt, (tt, tt)))) $
       says ! (e ∙ ap (λ (t : Answer). only-some (joined t (r .state))) (sym d)) $ nothing ! $ move ! (3 ∷ 0 ∷ []) $ join ! $
-      frame ! $ feqI ! (List Val) (vptr b o ∷ []) (vptr b o ∷ []) refl $ fjoin3 ! $ nothing ! $ owned ! usize (Is usize) (uint-makes 𝓤 H A W w64) n _
-      (refl, gn) $ fjoin ! $ move ! (1 ∷ 0 ∷ []) $ fjoin ! $
+      frame ! $ feqI ! (List Val) (vptr b o ∷ []) (vptr b o ∷ []) refl $ fjoin3 ! $ nothing ! $ owned ! usize (Is usize) (uint-makes 𝓤 H A W w64) k _
+      (refl, gk) $ fjoin ! $ owned ! usize (Is usize) (uint-makes 𝓤 H A W w64) n _ (refl, gn) $ fjoin ! $ move ! (1 ∷ 0 ∷ []) $ fjoin ! $
       owned ! TA.the-row (Is TA.the-row) (LL.makes TA.the-type TA′.the-plain 𝓤 H A) a _ is $ move ! (1 ∷ 0 ∷ []) $ done !
 
   abbrev to-remove : Remove 𝓤 H A at-mem run .Ghost
-  to-remove = ((tt, tt, tt, (h, (n, tt)), (valS h ∷ [], (vint w64 n ∷ [], tt))), tt)
+  to-remove = ((tt, tt, tt, (h, (n, (k, tt))), (valS h ∷ [], (vint w64 n ∷ [], (vint w64 k ∷ [], tt)))), tt)
 
   goes-remove : Is S h (valS h ∷ []) → ent 𝓤 (sem 𝓤 H A ftrue) (Remove 𝓤 H A at-mem run .pre to-remove)
   goes-remove g =
-      qed W (‵ ftrue ∷ []) ∵ owned ! usize (Is usize) (uint-makes 𝓤 H A W w64) n _ (refl, gn) $ fjoin ! $ owned ! S (Is S)
+      qed W (‵ ftrue ∷ []) ∵ owned ! usize (Is usize) (uint-makes 𝓤 H A W w64) k _ (refl, gk) $ fjoin ! $
+      owned ! usize (Is usize) (uint-makes 𝓤 H A W w64) n _ (refl, gn) $ fjoin ! $ owned ! S (Is S)
       (LL.makes TS.the-type TS′.the-plain 𝓤 H A) h _ g $ fjoin ! $ nothing ! $ join ! $ frame ! $ done !
 
   abbrev to-part : StateAnswer → Part 𝓤 H A at-mem run .Ghost
@@ -148,9 +151,10 @@ module _ {M : Type 1} (𝓤 : URA M) (H : Heap 𝓤) (A : Atoms 𝓤) (W : Given
 
   module _ (C : Calls 𝓤 H) (Λ : Loops 𝓤 H) (fm : FmC 𝓤 H (W .laws) C) (known : Triple 𝓤 (C #call-state·remove) (Remove 𝓤 H A at-mem run))
       (known-part : Triple 𝓤 (C #call-lent·answer-of) (Part 𝓤 H A at-mem run)) where
-    walk : ent 𝓤 (onEntry 𝓤 H A in-place.signature (κ, tt) (q, tt) x at) (WpFn 𝓤 H C Λ code.function (vptr b o ∷ vint w64 n ∷ []) Post)
+    walk : ent 𝓤 (onEntry 𝓤 H A in-place.signature (κ, tt) (q, tt) x at) (WpFn 𝓤 H C Λ code.function (vptr b o ∷ vint w64 n ∷ vint w64 k ∷ []) Post)
     walk =
-        qed W ((‵ (flft κ q) ⊛ ‵ ftrue) ∷ ‵ (owns (MutRef (named 0) κ S ∷ usize ∷ []) x at) ∷ []) ∵ enter ! C Λ code.function (vptr b o ∷ vint w64 n ∷ []) _ $
+        qed W ((‵ (flft κ q) ⊛ ‵ ftrue) ∷ ‵ (owns (MutRef (named 0) κ S ∷ usize ∷ usize ∷ []) x at) ∷ []) ∵
+        enter ! C Λ code.function (vptr b o ∷ vint w64 n ∷ vint w64 k ∷ []) _ $
         alloc1
         !
         (λ
@@ -167,30 +171,32 @@ module _ {M : Type 1} (𝓤 : URA M) (H : Heap 𝓤) (A : Atoms 𝓤) (W : Given
         !
         (λ
         l₃.
-        alloc1 ! (λ l₄. alloc0 ! $ params1 ! $ pass1 ! (init ! 6 refl (tt, tt)) $ pass1 ! (init ! 4 refl (tt, record { fits = gn })) $ pass0 ! $
-        move ! (11 ∷ []) $ fsplit ! $ fsplit3 ! $ drop ! $ move ! (13 ∷ []) $ split ! $ move ! (1 ∷ 4 ∷ []) $ drop ! $ drop ! $
-        -- [the token; obs; the borrow; room for _4; …; room for _3; …; _2; …; _1; …; room for _0; …]
+        alloc1 ! (λ l₄. alloc1 ! (λ l₅. alloc0 ! $ params1 ! $ pass1 ! (init ! 8 refl (tt, tt)) $ pass1 ! (init ! 6 refl (tt, record { fits = gn })) $
+        pass1 ! (init ! 4 refl (tt, record { fits = gk })) $ pass0 ! $
+        move ! (13 ∷ []) $ fsplit ! $ fsplit3 ! $ drop ! $ move ! (15 ∷ []) $ split ! $ move ! (1 ∷ 4 ∷ []) $ drop ! $ drop ! $
+        -- [the token; obs; the borrow; room for _5; …; room for _4; …; _3; …; _2; …; _1; …; room for _0; …]
         move ! (1 ∷ 2 ∷ 0 ∷ []) $ opens ! tt S {h = h} b o (λ vs. spelt ! S (Is S) (shows 𝓤 H A S) (LL.vals TS.the-type TS′.the-laws) (LL.tells TS.the-type TS′.the-laws) fullShare h vs b o $
         move ! (1 ∷ []) $ peeks ! S (Is S) (shows 𝓤 H A S) h (valS h ∷ []) (λ g. drop ! $
-        -- [the state's cell; the open borrow; obs; auth; room for _4; …; room for _3; …; _2; …; _1; …; room for _0; …]
-        assigns ! (of-opd ! (load ! (from ! (hop ! (look ! 10 refl) (stop !))) (look-raw ! 0 refl))) (from ! (stop !))
+        -- [the state's cell; the open borrow; obs; auth; room for _5; …; room for _4; …; _3; …; _2; …; _1; …; room for _0; …]
+        assigns ! (of-opd ! (load ! (from ! (hop ! (look ! 12 refl) (stop !))) (look-raw ! 0 refl))) (from ! (stop !))
         (init ! 4 refl (LL.lawful TS.the-type TS′.the-laws 𝓤 H A W .typed h _ g .0)) $
         nothing ! $ use1 W (raw (Remove 𝓤 H A at-mem run .pre to-remove)) (goes-remove g) $
         calls-at ! fm (Remove 𝓤 H A at-mem run) known to-remove
-        (and-then ! (load ! (from ! (stop !)) (look ! 5 refl)) (and-then ! (load ! (from ! (stop !)) (look ! 9 refl)) (no-more !))) (λ v.
+        (and-then ! (load ! (from ! (stop !)) (look ! 5 refl))
+        (and-then ! (load ! (from ! (stop !)) (look ! 11 refl)) (and-then ! (load ! (from ! (stop !)) (look ! 9 refl)) (no-more !)))) (λ v.
         use1
         W
         (later
         (some
         (λ (r : StateAnswer). (‵ ftrue ⊛ ‵ (R .own r (v ∷ []))) ⊛ raw
-        (ensured 𝓤 H A remove.ended (remove.clauses 𝓤 H A at-mem run) tt (h, (n, tt)) tt r)))) (id⊢ 𝓤 _) $ await ! tt $ pick ! (λ r.
-        split ! $ move ! (1 ∷ []) $ use1 W (raw (fact 𝓤 (Removed h n r))) (removed-of 𝓤 H A at-mem run h n r) $ heard ! (Removed h n r) (λ e. split ! $ drop ! $
+        (ensured 𝓤 H A remove.ended (remove.clauses 𝓤 H A at-mem run) tt (h, (n, (k, tt))) tt r)))) (id⊢ 𝓤 _) $ await ! tt $ pick ! (λ r.
+        split ! $ move ! (1 ∷ []) $ use1 W (raw (fact 𝓤 (Removed h n k r))) (removed-of 𝓤 H A at-mem run h n k r) $ heard ! (Removed h n k r) (λ e. split ! $ drop ! $
         peeks ! R (Is R) (shows 𝓤 H A R) r (v ∷ []) (λ is. drop ! $
-        -- [the cell; the open borrow; obs; auth; _4; …; room for _3; …; _2; …; _1; …; room for _0; …]
+        -- [the cell; the open borrow; obs; auth; _5; …; room for _4; …; _3; …; _2; …; _1; …; room for _0; …]
         land ! (from ! (stop !)) (init ! 6 refl (LL.lawful TT.the-type TT′.the-laws 𝓤 H A W .typed r _ is .0)) $
-        rewrite ! 6 (λ (u : Val). ‵ (fat fullShare TT′.mir l₃ 0 u)) (ap only (LL.tells TT.the-type TT′.the-laws r _ is)) refl $
+        rewrite ! 6 (λ (u : Val). ‵ (fat fullShare TT′.mir l₄ 0 u)) (ap only (LL.tells TT.the-type TT′.the-laws r _ is)) refl $
         assigns ! (of-opd ! (load ! (from ! (fld ! refl (stop !))) (look-in ! 6 (sub ! 5 refl (whole !)))))
-        (from ! (hop ! (look ! 10 refl) (stop !)))
+        (from ! (hop ! (look ! 12 refl) (stop !)))
         (store-raw ! 0 refl (LL.lawful TS.the-type TS′.the-laws 𝓤 H A W .typed (r .state) _ (state-is r v is) .0)) $
         nothing ! $ use1 W (raw (Part 𝓤 H A at-mem run .pre (to-part r))) (goes-part r (answer-is r v is)) $
         calls-at ! fm (Part 𝓤 H A at-mem run) known-part (to-part r) (and-then ! (load ! (from ! (stop !)) (look ! 7 refl)) (no-more !)) (λ u.
@@ -202,24 +208,26 @@ module _ {M : Type 1} (𝓤 : URA M) (H : Heap 𝓤) (A : Atoms 𝓤) (W : Given
         (ensured 𝓤 H A part.ended (part.clauses 𝓤 H A at-mem run) tt (r, tt) tt a)))) (id⊢ 𝓤 _) $ await ! tt $ pick ! (λ a.
         split ! $ move ! (1 ∷ []) $ use1 W (raw (fact 𝓤 (a ≡ answerPart r))) (part-of 𝓤 H A at-mem run r a) $ heard ! (a ≡ answerPart r) (λ d. split ! $ drop ! $
         peeks ! TA.the-row (Is TA.the-row) (shows 𝓤 H A TA.the-row) a (u ∷ []) (λ ia. drop ! $
-        land ! (from ! (stop !)) (init ! 12 refl (LL.lawful TA.the-type TA′.the-laws 𝓤 H A W .typed a _ ia .0)) $
+        land ! (from ! (stop !)) (init ! 14 refl (LL.lawful TA.the-type TA′.the-laws 𝓤 H A W .typed a _ ia .0)) $
         owned ! S (Is S) (LL.makes TS.the-type TS′.the-plain 𝓤 H A) (r .state) _ (state-is r v is) $ move ! (1 ∷ 0 ∷ []) $ closes ! tt S (r .state) (valS (r .state) ∷ []) b o $
-        -- [obs; the borrow; the token; _4; …; _3; …; _2; …; _1; …; _0; …]
-        returns ! (look ! 11 refl) $ forget ! 3 refl $ forget ! 5 refl $ forget ! 7 refl $ forget ! 9 refl $ forget ! 11 refl $
+        -- [obs; the borrow; the token; _5; …; _4; …; _3; …; _2; …; _1; …; _0; …]
+        returns ! (look ! 13 refl) $ forget ! 3 refl $ forget ! 5 refl $ forget ! 7 refl $ forget ! 9 refl $ forget ! 11 refl $ forget ! 13 refl $
+        move ! (13 ∷ 14 ∷ []) $ free1 ! $
         move ! (11 ∷ 12 ∷ []) $ free1 ! $ move ! (9 ∷ 10 ∷ []) $ free1 ! $ move ! (7 ∷ 8 ∷ []) $ free1 ! $ move ! (5 ∷ 6 ∷ []) $ free1 ! $ move ! (3 ∷ 4 ∷ []) $ free1 ! $ free0 ! $
-        keep ! (0 ∷ 1 ∷ 2 ∷ []) $ by ! (exits r a u e d ia))))))))))))))))
+        keep ! (0 ∷ 1 ∷ 2 ∷ []) $ by ! (exits r a u e d ia)))))))))))))))))
 
 module _ {M : Type 1} (𝓤 : URA M) (H : Heap 𝓤) (A : Atoms 𝓤) (W : Given 𝓤 H A) (at-mem : Memory → SProp 𝓤) (run : Routine → Fun 𝓤) where
   in-place-walks : (C : Calls 𝓤 H) (Λ : Loops 𝓤 H) → FmC 𝓤 H (W .laws) C → Triple 𝓤 (C #call-state·remove) (Remove 𝓤 H A at-mem run) → Triple 𝓤
       (C #call-lent·answer-of) (Part 𝓤 H A at-mem run)
       → Walks 𝓤 H A in-place.ended stayed (WpFn 𝓤 H C Λ code.function) (in-place.clauses 𝓤 H A at-mem run)
   in-place-walks C Λ fm known known-part = walked 𝓤 H A in-place.ended stayed (in-place.clauses 𝓤 H A at-mem run) (WpFn 𝓤 H C Λ code.function)
-      (λ κs. (ptr-vals, (uint-vals w64, tt))) (λ κs. (mut-tells (named 0) (κs .0) S, (uint-tells w64, tt)))
+      (λ κs. (ptr-vals, (uint-vals w64, (uint-vals w64, tt)))) (λ κs. (mut-tells (named 0) (κs .0) S, (uint-tells w64, (uint-tells w64, tt))))
       (λ κs qs bounds a _ are. via 𝓤 _ (fst∗ 𝓤 _ (emp 𝓤))
-      (walk 𝓤 H A W at-mem run (κs .0) (qs .0) (a .0 .ptr .0) (a .0 .ptr .1) (a .0 .name) (a .0 .now) (a .1 .0) (are .1 .0 .1) C Λ fm known known-part))
+      (walk 𝓤 H A W at-mem run (κs .0) (qs .0) (a .0 .ptr .0) (a .0 .ptr .1) (a .0 .name) (a .0 .now) (a .1 .0) (a .1 .1 .0)
+      (are .1 .0 .1) (are .1 .1 .0 .1) C Λ fm known known-part))
 
   goes : AllGo 𝓤 H A W 1 (in-place.signature .params) (in-place.ended .kept) stayed
-  goes = (goes-ref 𝓤 H A W 1 0 tt (plain (λ _. S)), (goes-none 𝓤 H A W 1 (λ _. usize) yes (λ κs x f. refl), tt))
+  goes = (goes-ref 𝓤 H A W 1 0 tt (plain (λ _. S)), (goes-none 𝓤 H A W 1 (λ _. usize) yes (λ κs x f. refl), (goes-none 𝓤 H A W 1 (λ _. usize) yes (λ κs x f. refl), tt)))
 
 in-place-meets : {M : Type 1} (𝓤 : URA M) (H : Heap 𝓤) (A : Atoms 𝓤) (W : Given 𝓤 H A) (at-mem : Memory → SProp 𝓤) (run : Routine → Fun 𝓤)
     (𝓣 : Tables 𝓤 H) → Triple 𝓤 (𝓣 .C #call-state·remove) (Remove 𝓤 H A at-mem run)

@@ -45,6 +45,9 @@ refused-requires-5 c κs = search needs
 returns-6 : tie.Need-returns-6
 returns-6 c = search items-refused
 
+field-count-requires : tie.Need-field-count-requires
+field-count-requires c κs = search check-eight
+
 good-requires : tie.Need-good-requires
 good-requires c κs = search needs
 
@@ -87,6 +90,7 @@ admit-spec =
     check-requires-3
     refused-requires-5
     returns-6
+    field-count-requires
     good-requires
     refused-requires-6
     returns-7

@@ -1,7 +1,7 @@
 use mathlib.Core.Path.{_≡_}
 use lib.ListN.{length}
 use borrow.Author.Needs.{needs}
-use Rattle.call_node.proofs.Answers.{cleared-checked, cleared-made, cleared-holds, cleared-few, node-stands, node-runs, missing-stands, missing-runs}
+use Rattle.call_node.proofs.Answers.{cleared-checked, cleared-made, cleared-holds, cleared-few, cleared-long, node-stands, node-runs, missing-stands, missing-runs}
 use Rattle.call_node.proofs.run_admitted.Statement.{statement}
 use Rattle.call_node.proofs.run_admitted.Tie as tie
 use Rattle.call_node.proofs.run_admitted.Reads as reads
@@ -16,6 +16,9 @@ known-of-requires c κs = (search cleared-checked, search (cleared-made, needs),
 numbers-of-requires : tie.Need-numbers-of-requires
 numbers-of-requires c κs = search needs
 
+node-mark-requires : tie.Need-node-mark-requires
+node-mark-requires c κs = search cleared-long
+
 slice-aggregate-run-value : tie.Need-slice-aggregate-run-value
 slice-aggregate-run-value c = search needs
 
@@ -28,14 +31,16 @@ list-missing-requires c κs =
     let if1 = by-if1 .if1 in
     let by-run-value = by-if1 .before .before .before .before in
     let run-value = by-run-value .run-value in
-    let by-numbers-of = by-run-value .before .before .before .before in
+    let by-node-mark = by-run-value .before .before .before .before in
+    let node-mark = by-node-mark .node-mark in
+    let by-numbers-of = by-node-mark .before in
     let numbers-of = by-numbers-of .numbers-of in
     let by-known-of = by-numbers-of .before .before in
     let known-of = by-known-of .known-of in
     let by-wide = by-known-of .before in
     let wide = by-wide .wide in
     let pre = by-wide .before .before .before .before .before .before .pre in
-    missing-stands _ _ _ _ _ _ _ pre _ (numbers-of .ensures) _ _ _ (run-value .ensures) (if1 .taken) _ (wide .ensures) _ (known-of .ensures)
+    missing-stands _ _ _ _ _ _ _ pre _ (numbers-of .ensures) _ (node-mark .ensures) _ _ _ (run-value .ensures) (if1 .taken) _ (wide .ensures) _ (known-of .ensures)
 
 answered-requires : tie.Need-answered-requires
 answered-requires c κs = search needs
@@ -57,12 +62,14 @@ returns c =
     let if1 = by-if1 .if1 in
     let by-run-value = by-if1 .before .before .before .before in
     let run-value = by-run-value .run-value in
-    let by-numbers-of = by-run-value .before .before .before .before in
+    let by-node-mark = by-run-value .before .before .before .before in
+    let node-mark = by-node-mark .node-mark in
+    let by-numbers-of = by-node-mark .before in
     let numbers-of = by-numbers-of .numbers-of in
     let by-before = by-numbers-of .before .before .before .before .before .before .before .before in
     let before = by-before .before in
     let pre = by-before .before .pre in
-    missing-runs _ _ _ _ _ _ _ pre _ (numbers-of .ensures) _ _ _ (run-value .ensures) (if1 .taken) (marks-long _ before) _ _ (list-missing .ensures)
+    missing-runs _ _ _ _ _ _ _ pre _ (numbers-of .ensures) _ (node-mark .ensures) _ _ _ (run-value .ensures) (if1 .taken) (marks-long _ before) _ _ (list-missing .ensures)
     _ (c .answered .ensures)
 
 answered-requires-2 : tie.Need-answered-requires-2
@@ -77,12 +84,14 @@ returns-2 c =
     let if1 = by-if1 .if1 in
     let by-run-value = by-if1 .before .before .before .before in
     let run-value = by-run-value .run-value in
-    let by-numbers-of = by-run-value .before .before .before .before in
+    let by-node-mark = by-run-value .before .before .before .before in
+    let node-mark = by-node-mark .node-mark in
+    let by-numbers-of = by-node-mark .before in
     let numbers-of = by-numbers-of .numbers-of in
     let by-before = by-numbers-of .before .before .before .before .before .before .before .before in
     let before = by-before .before in
     let pre = by-before .before .pre in
-    node-runs _ _ _ _ _ _ _ pre _ (numbers-of .ensures) _ _ _ (run-value .ensures) (marks-long _ before) _ (if1 .left) (c .answered2 .ensures)
+    node-runs _ _ _ _ _ _ _ pre _ (numbers-of .ensures) _ (node-mark .ensures) _ _ _ (run-value .ensures) (marks-long _ before) _ (if1 .left) (c .answered2 .ensures)
 
 pub run-admitted-spec : {M : Type 1} → statement M
 run-admitted-spec =
@@ -91,6 +100,7 @@ run-admitted-spec =
     wide-requires
     known-of-requires
     numbers-of-requires
+    node-mark-requires
     slice-aggregate-run-value
     run-value-requires
     list-missing-requires

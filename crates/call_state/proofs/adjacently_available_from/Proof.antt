@@ -1,6 +1,6 @@
 -- By the laws of the calls on one state. Assumes nothing.
 use borrow.Author.Needs.{needs}
-use Rattle.call_state.proofs.Entries.{in-good, available-bad, available-past, available-done}
+use Rattle.call_state.proofs.Entries.{in-fine, available-bad, available-past, available-done}
 use Rattle.call_state.proofs.adjacently_available_from.Statement.{statement}
 use Rattle.call_state.proofs.adjacently_available_from.Tie as tie
 
@@ -23,7 +23,7 @@ returns-2 : tie.Need-returns-2
 returns-2 c = search available-past
 
 adjacently-available-from-requires : tie.Need-adjacently-available-from-requires
-adjacently-available-from-requires c κs = (search in-good, search needs)
+adjacently-available-from-requires c κs = (search in-fine, search needs)
 
 answered-requires : tie.Need-answered-requires
 answered-requires c κs = search needs

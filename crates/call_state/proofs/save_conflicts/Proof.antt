@@ -23,7 +23,7 @@ returns-2 : tie.Need-returns-2
 returns-2 c = search conflicts-past
 
 save-conflicts-requires : tie.Need-save-conflicts-requires
-save-conflicts-requires c κs = let r = both-fine _ _ _ (c .before .before .before .both-good .ensures) (c .before .before .if1 .left) in (r .0, r .1, search needs)
+save-conflicts-requires c κs = let r = both-fine _ _ _ (c .before .before .before .both-good .ensures) (c .before .before .if1 .left) in (r .0, r .1, r .2, search needs)
 
 changed-requires : tie.Need-changed-requires
 changed-requires c κs = search needs

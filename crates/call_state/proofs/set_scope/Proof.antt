@@ -4,7 +4,7 @@ use mathlib.Core.Logic.{⊎-elim}
 use native.Mathlib.Omega.{arith}
 use borrow.Author.Needs.{needs}
 use borrow.Author.Tests.{ltb-false}
-use Rattle.call_state.proofs.Entries.{in-good, scope-bad, falling, leaving, scope-done}
+use Rattle.call_state.proofs.Entries.{in-fine, scope-bad, falling, leaving, scope-done}
 use Rattle.call_state.proofs.set_scope.Statement.{statement}
 use Rattle.call_state.proofs.set_scope.Tie as tie
 
@@ -29,7 +29,7 @@ returns-2 c = ⊎-elim (λ w. search falling) (λ w. search leaving) (c .before 
 set-scope-requires : tie.Need-set-scope-requires
 set-scope-requires c κs =
     let c4 = c .before .before .before .before in
-    (search in-good, search needs, omega (arith, ltb-false (c4 .wide .result) (c4 .before .args .to) (c .if3 .left), c4 .wide .ensures))
+    (search in-fine, search needs, omega (arith, ltb-false (c4 .wide .result) (c4 .before .args .to) (c .if3 .left), c4 .wide .ensures))
 
 changed-requires : tie.Need-changed-requires
 changed-requires c κs = search needs

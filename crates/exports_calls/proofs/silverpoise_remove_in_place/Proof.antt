@@ -56,29 +56,29 @@ abbrev S : RattleType
 S = TS.the-row
 
 abbrev Arg : Type 0
-Arg = RefT State × (ℕ × Unit {0})
+Arg = RefT State × (ℕ × (ℕ × Unit {0}))
 
 abbrev stayed : Stays (exported.ended .signature .params) (exported.ended .kept)
-stayed = (gave-ref (0 ∷ []) tt (plain (λ _. S)), (stay-none (λ _. usize) yes, tt))
+stayed = (gave-ref (0 ∷ []) tt (plain (λ _. S)), (stay-none (λ _. usize) yes, (stay-none (λ _. usize) yes, tt)))
 
 -- what the callee says of its answer and of the state that it leaves
-abbrev Done : State → ℕ → Answer → State → Type 0
-Done h n a w = stateAnswerOf yesCode (callRemove h n) ≡ only-some (joined a w)
+abbrev Done : State → ℕ → ℕ → Answer → State → Type 0
+Done h n k a w = stateAnswerOf yesCode (callRemove h n k) ≡ only-some (joined a w)
 
 module _ {M : Type 1} (𝓤 : URA M) (H : Heap 𝓤) (A : Atoms 𝓤) (at-mem : Memory → SProp 𝓤) (run : Routine → Fun 𝓤) where
   abbrev Callee : Contract 𝓤
   Callee = tripleOf 𝓤 H A callee.signature (callee.spec 𝓤 H A at-mem run)
 
 module _ {M : Type 1} (𝓤 : URA M) (H : Heap 𝓤) (A : Atoms 𝓤) (W : Given 𝓤 H A) (at-mem : Memory → SProp 𝓤) (run : Routine → Fun 𝓤) (κ : Lft)
-    (q : Share) (b o : ℕ) (γ : GName) (h : State) (n : ℕ) (gn : n < 2 ^ 64) where
+    (q : Share) (b o : ℕ) (γ : GName) (h : State) (n k : ℕ) (gn : n < 2 ^ 64) (gk : k < 2 ^ 64) where
   abbrev l : RefT State
   l = record { ptr = (b, o); name = γ; now = h }
 
   abbrev x : Arg
-  x = (l, (n, tt))
+  x = (l, (n, (k, tt)))
 
   abbrev at : Vals exported.signature (κ, tt)
-  at = (vptr b o ∷ [], (vint w64 n ∷ [], tt))
+  at = (vptr b o ∷ [], (vint w64 n ∷ [], (vint w64 k ∷ [], tt)))
 
   abbrev Post : Val → SProp 𝓤
   Post = walkOf 𝓤 H A exported.ended stayed (exported.clauses 𝓤 H A at-mem run) .post (((κ, tt), (q, tt), tt, x, at), tt)
@@ -87,13 +87,14 @@ module _ {M : Type 1} (𝓤 : URA M) (H : Heap 𝓤) (A : Atoms 𝓤) (W : Given
   Tokens = ‵ (flft κ q) ⊛ ‵ ftrue
 
   abbrev Owns : Item 𝓤
-  Owns = ‵ (owns (MutRef (named 0) κ S ∷ usize ∷ []) x at)
+  Owns = ‵ (owns (MutRef (named 0) κ S ∷ usize ∷ usize ∷ []) x at)
 
-  exits : (a : Answer) (w : State) (v : Val) → Done h n a w → Is TA.the-row a (v ∷ []) → ent 𝓤 (⋆ 𝓤 H A (Tokens ∷ ‵ (fres γ (S .coded .code w)) ∷ [])) (Post v)
+  exits : (a : Answer) (w : State) (v : Val) → Done h n k a w → Is TA.the-row a (v ∷ []) → ent 𝓤 (⋆ 𝓤 H A (Tokens ∷ ‵ (fres γ (S .coded .code w)) ∷ [])) (Post v)
   exits a w v e is =
       qed W (Tokens ∷ ‵ (fres γ (S .coded .code w)) ∷ []) ∵
-      suffices ! _ (ends-at 𝓤 H A exported.ended stayed (exported.clauses 𝓤 H A at-mem run) W (((κ, tt), (q, tt), tt, x, at), tt) v a (w, (tt, tt)) (tt, (tt, tt))) $ says ! e $ frame ! $
-      nothing ! $ owned ! usize (Is usize) (uint-makes 𝓤 H A W w64) n _ (refl, gn) $ fjoin ! $ move ! (1 ∷ 0 ∷ []) $ fjoin ! $
+      suffices ! _ (ends-at 𝓤 H A exported.ended stayed (exported.clauses 𝓤 H A at-mem run) W (((κ, tt), (q, tt), tt, x, at), tt) v a (w, (tt, (tt, tt))) (tt, (tt, (tt, tt)))) $ says ! e $ frame ! $
+      nothing ! $ owned ! usize (Is usize) (uint-makes 𝓤 H A W w64) k _ (refl, gk) $ fjoin ! $
+      owned ! usize (Is usize) (uint-makes 𝓤 H A W w64) n _ (refl, gn) $ fjoin ! $ move ! (1 ∷ 0 ∷ []) $ fjoin ! $
       owned ! TA.the-row (Is TA.the-row) (LL.makes TA.the-type TA′.the-plain 𝓤 H A) a _ is $ move ! (1 ∷ 0 ∷ []) $ done !
 
   abbrev to-callee : Callee 𝓤 H A at-mem run .Ghost
@@ -103,9 +104,9 @@ module _ {M : Type 1} (𝓤 : URA M) (H : Heap 𝓤) (A : Atoms 𝓤) (W : Given
   goes-callee = qed W (Tokens ∷ Owns ∷ []) ∵ join ! $ frame ! $ done !
 
   module _ (C : Calls 𝓤 H) (Λ : Loops 𝓤 H) (fm : FmC 𝓤 H (W .laws) C) (known : Triple 𝓤 (C #call-lent·remove) (Callee 𝓤 H A at-mem run)) where
-    walk : ent 𝓤 (onEntry 𝓤 H A exported.signature (κ, tt) (q, tt) x at) (WpFn 𝓤 H C Λ code.function (vptr b o ∷ vint w64 n ∷ []) Post)
+    walk : ent 𝓤 (onEntry 𝓤 H A exported.signature (κ, tt) (q, tt) x at) (WpFn 𝓤 H C Λ code.function (vptr b o ∷ vint w64 n ∷ vint w64 k ∷ []) Post)
     walk =
-        qed W (Tokens ∷ Owns ∷ []) ∵ enter ! C Λ code.function (vptr b o ∷ vint w64 n ∷ []) _ $
+        qed W (Tokens ∷ Owns ∷ []) ∵ enter ! C Λ code.function (vptr b o ∷ vint w64 n ∷ vint w64 k ∷ []) _ $
         alloc1
         !
         (λ
@@ -118,43 +119,45 @@ module _ {M : Type 1} (𝓤 : URA M) (H : Heap 𝓤) (A : Atoms 𝓤) (W : Given
         !
         (λ
         l₂.
-        alloc1 ! (λ l₃. alloc0 ! $ params1 ! $ pass1 ! (init ! 4 refl (tt, tt)) $ pass1 ! (init ! 2 refl (tt, record { fits = gn })) $ pass0 ! $
-        -- [room for _3; …; _2; …; _1; …; room for _0; …; the tokens; what the parameters own]
-        assigns ! (addr ! (from ! (hop ! (look ! 4 refl) (stop !)))) (from ! (stop !)) (init ! 0 refl (tt, tt)) $
-        move ! (8 ∷ 9 ∷ []) $ use2 W (raw (Callee 𝓤 H A at-mem run .pre to-callee)) goes-callee $
+        alloc1 ! (λ l₃. alloc1 ! (λ l₄. alloc0 ! $ params1 ! $ pass1 ! (init ! 6 refl (tt, tt)) $ pass1 ! (init ! 4 refl (tt, record { fits = gn })) $
+        pass1 ! (init ! 2 refl (tt, record { fits = gk })) $ pass0 ! $
+        -- [room for _4; …; _3; …; _2; …; _1; …; room for _0; …; the tokens; what the parameters own]
+        assigns ! (addr ! (from ! (hop ! (look ! 6 refl) (stop !)))) (from ! (stop !)) (init ! 0 refl (tt, tt)) $
+        move ! (10 ∷ 11 ∷ []) $ use2 W (raw (Callee 𝓤 H A at-mem run .pre to-callee)) goes-callee $
         calls-at ! fm (Callee 𝓤 H A at-mem run) known to-callee
-        (and-then ! (load ! (from ! (stop !)) (look ! 1 refl)) (and-then ! (load ! (from ! (stop !)) (look ! 3 refl)) (no-more !))) (λ v.
+        (and-then ! (load ! (from ! (stop !)) (look ! 1 refl))
+        (and-then ! (load ! (from ! (stop !)) (look ! 5 refl)) (and-then ! (load ! (from ! (stop !)) (look ! 3 refl)) (no-more !)))) (λ v.
         use1
         W
         (later
         (some
         (λ (a : Answer). (Tokens ⊛ ‵ (TA.the-row .own a (v ∷ []))) ⊛ some
-        (λ (ws : Lasts callee.ended (κ, tt) x). ‵ (lasts callee.ended (κ, tt) x ws) ⊛ raw (fact 𝓤 (Done h n a (ws .0))))))) (id⊢ 𝓤 _) $ await !
+        (λ (ws : Lasts callee.ended (κ, tt) x). ‵ (lasts callee.ended (κ, tt) x ws) ⊛ raw (fact 𝓤 (Done h n k a (ws .0))))))) (id⊢ 𝓤 _) $ await !
         tt $ pick ! (λ a.
         split
         !
         $
         move
         !
-        (1 ∷ []) $ pick ! (λ ws. split ! $ move ! (1 ∷ []) $ heard ! (Done h n a (ws .0))
+        (1 ∷ []) $ pick ! (λ ws. split ! $ move ! (1 ∷ []) $ heard ! (Done h n k a (ws .0))
         (λ e. fsplit ! $ move ! (1 ∷ []) $ drop ! $ move ! (1 ∷ []) $ split ! $ move ! (1 ∷ []) $
         peeks ! TA.the-row (Is TA.the-row) (shows 𝓤 H A TA.the-row) a (v ∷ []) (λ is. drop ! $
-        -- [the tokens; the last state; _3; …; _2; …; _1; …; room for _0; …]
-        land ! (from ! (stop !)) (init ! 8 refl (LL.lawful TA.the-type TA′.the-laws 𝓤 H A W .typed a _ is .0)) $
-        returns ! (look ! 8 refl) $ forget ! 2 refl $ forget ! 4 refl $ forget ! 6 refl $ forget ! 8 refl $
-        move ! (8 ∷ 9 ∷ []) $ free1 ! $ move ! (6 ∷ 7 ∷ []) $ free1 ! $ move ! (4 ∷ 5 ∷ []) $ free1 ! $ move ! (2 ∷ 3 ∷ []) $ free1 ! $ free0 ! $
-        keep ! (0 ∷ 1 ∷ []) $ by ! (exits a (ws .0) v e is))))))))))
+        -- [the tokens; the last state; _4; …; _3; …; _2; …; _1; …; room for _0; …]
+        land ! (from ! (stop !)) (init ! 10 refl (LL.lawful TA.the-type TA′.the-laws 𝓤 H A W .typed a _ is .0)) $
+        returns ! (look ! 10 refl) $ forget ! 2 refl $ forget ! 4 refl $ forget ! 6 refl $ forget ! 8 refl $ forget ! 10 refl $
+        move ! (10 ∷ 11 ∷ []) $ free1 ! $ move ! (8 ∷ 9 ∷ []) $ free1 ! $ move ! (6 ∷ 7 ∷ []) $ free1 ! $ move ! (4 ∷ 5 ∷ []) $ free1 ! $ move ! (2 ∷ 3 ∷ []) $ free1 ! $ free0 ! $
+        keep ! (0 ∷ 1 ∷ []) $ by ! (exits a (ws .0) v e is)))))))))))
 
 module _ {M : Type 1} (𝓤 : URA M) (H : Heap 𝓤) (A : Atoms 𝓤) (W : Given 𝓤 H A) (at-mem : Memory → SProp 𝓤) (run : Routine → Fun 𝓤) where
   exported-walks : (C : Calls 𝓤 H) (Λ : Loops 𝓤 H) → FmC 𝓤 H (W .laws) C → Triple 𝓤 (C #call-lent·remove) (Callee 𝓤 H A at-mem run) → Walks 𝓤 H A
       exported.ended stayed (WpFn 𝓤 H C Λ code.function) (exported.clauses 𝓤 H A at-mem run)
   exported-walks C Λ fm known = walked 𝓤 H A exported.ended stayed (exported.clauses 𝓤 H A at-mem run) (WpFn 𝓤 H C Λ code.function)
-      (λ κs. (ptr-vals, (uint-vals w64, tt))) (λ κs. (mut-tells (named 0) (κs .0) S, (uint-tells w64, tt)))
+      (λ κs. (ptr-vals, (uint-vals w64, (uint-vals w64, tt)))) (λ κs. (mut-tells (named 0) (κs .0) S, (uint-tells w64, (uint-tells w64, tt))))
       (λ κs qs bounds a _ are. via 𝓤 _ (fst∗ 𝓤 _ (emp 𝓤))
-      (walk 𝓤 H A W at-mem run (κs .0) (qs .0) (a .0 .ptr .0) (a .0 .ptr .1) (a .0 .name) (a .0 .now) (a .1 .0) (are .1 .0 .1) C Λ fm known))
+      (walk 𝓤 H A W at-mem run (κs .0) (qs .0) (a .0 .ptr .0) (a .0 .ptr .1) (a .0 .name) (a .0 .now) (a .1 .0) (a .1 .1 .0) (are .1 .0 .1) (are .1 .1 .0 .1) C Λ fm known))
 
   goes : AllGo 𝓤 H A W 1 (exported.signature .params) (exported.ended .kept) stayed
-  goes = (goes-gave-ref 𝓤 H A W 1 0 tt (plain (λ _. S)), (goes-none 𝓤 H A W 1 (λ _. usize) yes (λ κs x f. refl), tt))
+  goes = (goes-gave-ref 𝓤 H A W 1 0 tt (plain (λ _. S)), (goes-none 𝓤 H A W 1 (λ _. usize) yes (λ κs x f. refl), (goes-none 𝓤 H A W 1 (λ _. usize) yes (λ κs x f. refl), tt)))
 
 exported-meets : {M : Type 1} (𝓤 : URA M) (H : Heap 𝓤) (A : Atoms 𝓤) (W : Given 𝓤 H A) (at-mem : Memory → SProp 𝓤) (run : Routine → Fun 𝓤)
     (𝓣 : Tables 𝓤 H) → Triple 𝓤 (𝓣 .C #call-lent·remove) (Callee 𝓤 H A at-mem run)

@@ -1,4 +1,5 @@
 -- Every item is matched with the nodes, then the fields are run; refused with 20, the list is written. Assumes nothing.
+use native.Mathlib.Omega.{arith}
 use borrow.Author.Needs.{needs}
 use Rattle.run.proofs.Runs.{table-long, items-few, items-matchable, items-start}
 use Rattle.run.proofs.Runs.{unlisted-runs, list-good, list-inside, list-number, list-begins, list-runs}
@@ -42,10 +43,21 @@ add-field-mark c =
     let by-wide = by-known2 .before .before in
     let wide = by-wide .wide in
     let pre = by-wide .before .before .before .before .before .before .before .before .pre in
-    record { fits = list-number _ _ _ _ _ _ _ _ _ pre _ (wide .ensures) _ (known2 .ensures) _ _ _ (run-fields .ensures) (if1 .taken) }
+    let fits = list-number _ _ _ _ _ _ _ _ _ pre _ (wide .ensures) _ (known2 .ensures) _ _ _ (run-fields .ensures) (if1 .taken) in
+    record { fits = omega (arith, fits) }
 
 field-mark-requires : tie.Need-field-mark-requires
-field-mark-requires c κs = search needs
+field-mark-requires c κs =
+    let by-if1 = c .before .before in
+    let if1 = by-if1 .if1 in
+    let by-run-fields = by-if1 .before .before .before .before in
+    let run-fields = by-run-fields .run-fields in
+    let by-known2 = by-run-fields .before .before .before .before in
+    let known2 = by-known2 .known2 in
+    let by-wide = by-known2 .before .before in
+    let wide = by-wide .wide in
+    let pre = by-wide .before .before .before .before .before .before .before .before .pre in
+    list-number _ _ _ _ _ _ _ _ _ pre _ (wide .ensures) _ (known2 .ensures) _ _ _ (run-fields .ensures) (if1 .taken)
 
 list-missing-requires : tie.Need-list-missing-requires
 list-missing-requires c κs =

@@ -1,7 +1,7 @@
 -- Invariant: what is told of the fields so far, behind which the others are to be told. Measure: how many are left. Assumes nothing.
 use Prim.Native.Nat.{_-_}
 use borrow.Author.Needs.{needs}
-use Rattle.run_fields.proofs.Going.{Going, starts-long, going-first, field-good, field-inside, going-number, going-field, going-tries}
+use Rattle.run_fields.proofs.Going.{Going, starts-long, going-first, field-good, field-inside, going-number, going-sum, going-field, going-tries}
 use Rattle.run_fields.proofs.Going.{going-at, going-step, going-most, going-long, long-refused, going-refused, going-next, going-end}
 use Rattle.run_fields.proofs.each_field.Statement.{statement}
 use Rattle.run_fields.proofs.each_field.Tie as tie
@@ -23,10 +23,10 @@ field-at-requires : tie.Need-field-at-requires Inv-loop μ-loop
 field-at-requires c κs = (search field-good, search field-inside)
 
 add-field-mark : tie.Need-add-field-mark Inv-loop μ-loop
-add-field-mark c = record { fits = search going-number }
+add-field-mark c = record { fits = search going-sum }
 
 field-mark-requires : tie.Need-field-mark-requires Inv-loop μ-loop
-field-mark-requires c κs = search needs
+field-mark-requires c κs = search going-number
 
 run-field-requires : tie.Need-run-field-requires Inv-loop μ-loop
 run-field-requires c κs = search going-field

@@ -24,7 +24,7 @@ returns : tie.Need-returns
 returns c =
     let c1 = c .before in
     let c4 = c1 .before .before .before in
-    refusing _ _ (λ k. ⊎-elim
+    refusing _ _ _ (λ k. ⊎-elim
     (λ w. w .taken (c1 .wide3 .ensures ∙ k .count))
     (λ w. omega (arith, ltb-true 256 (c4 .args .n) (w .1 .taken), k .small))
     (c .if1 .came))
@@ -37,7 +37,7 @@ returns-2 c =
     let c4 = c .before .before .before .before in
     let c5 = c4 .before in
     let c6 = c5 .before in
-    refusing _ _ (λ k. ⊎-elim
+    refusing _ _ _ (λ k. ⊎-elim
     (λ w. omega (arith, w .taken, k .order, c5 .wide .ensures, c4 .wide2 .ensures))
     (⊎-elim
     (λ w. omega (arith, ltb-true (c6 .args .n) (c4 .wide2 .result) (w .1 .taken), k .inside, c4 .wide2 .ensures))
@@ -58,9 +58,9 @@ zeros-from-requires c κs = search needs
 returns-3 : tie.Need-returns-3
 returns-3 c =
     let c1 = c .before in
-    refusing _ _ (λ k. ⊎-elim
-    (λ w. marks-kept _ _ k _ (c1 .marks-good .ensures) (w .taken))
-    (λ w. rest-kept _ _ k _ (w .4 .ensures) (w .5 .taken))
+    refusing _ _ _ (λ k. ⊎-elim
+    (λ w. marks-kept _ _ _ k _ (c1 .marks-good .ensures) (w .taken))
+    (λ w. rest-kept _ _ _ k _ (w .4 .ensures) (w .5 .taken))
     (c .if6 .came))
 
 count-present-requires : tie.Need-count-present-requires
@@ -100,7 +100,7 @@ returns-4 c =
     let c21 = c20 .before in
     let c22 = c21 .before in
     let current : c15 .wide4 .result ≤ c23 .args .n = ltb-false (c23 .args .n) (c15 .wide4 .result) (c14 .if5 .left) in
-    deciding _ _ (c22 .wide .result) (c21 .wide2 .result) (c22 .wide .ensures) (c21 .wide2 .ensures) long (sym (c20 .wide3 .ensures) ∙ c19 .if1 .left)
+    deciding _ _ _ (c22 .wide .result) (c21 .wide2 .result) (c22 .wide .ensures) (c21 .wide2 .ensures) long (sym (c20 .wide3 .ensures) ∙ c19 .if1 .left)
     (ltb-false 256 (c23 .args .n) (c18 .if2 .left)) (c17 .if3 .left) (ltb-false (c23 .args .n) (c21 .wide2 .result) (c16 .if4 .left))
     (omega (arith, c15 .wide4 .ensures))
     (sym (c10 .marks-good .ensures) ∙ not-false _ (c9 .if6 .left))

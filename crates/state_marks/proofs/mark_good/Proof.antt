@@ -7,8 +7,8 @@ use Rattle.state_marks.proofs.mark_good.Tie as tie
 returns : tie.Need-returns
 returns c = search zero-good
 
-is-parsed-requires : tie.Need-is-parsed-requires
-is-parsed-requires c κs = search needs
+used-below-requires : tie.Need-used-below-requires
+used-below-requires c κs = search needs
 
 returns-2 : tie.Need-returns-2
 returns-2 c = search used-good
@@ -24,4 +24,4 @@ returns-4 c = search winner-good
 
 pub mark-good-spec : {M : Type 1} → statement M
 mark-good-spec =
-    tie.close (tie.spec returns is-parsed-requires returns-2 returns-3 sub-result returns-4)
+    tie.close (tie.spec returns used-below-requires returns-2 returns-3 sub-result returns-4)

@@ -3,16 +3,16 @@ use mathlib.Core.Path.{refl}
 use Prim.Native.Nat.{_≤_, _-_}
 use lib.ListN.{take}
 use borrow.Author.Needs.{needs}
-use Rattle.rules.specs.State.{markGood, parsed}
+use Rattle.rules.specs.State.{usedBelow, markGood}
 use Rattle.state_marks.proofs.Marks.{AllFrom, part-next, part-fails, part-last}
 use Rattle.state_marks.proofs.marks_good.Statement.{statement}
 use Rattle.state_marks.proofs.marks_good.Tie as tie
 
 abbrev Inv-loop : tie.InvT-loop
-Inv-loop marks count i₀ i = (i ≤ count) × AllFrom (markGood parsed count) (take count marks) 0 i
+Inv-loop marks count fields i₀ i = (i ≤ count) × AllFrom (markGood (usedBelow fields) count) (take count marks) 0 i
 
 abbrev μ-loop : tie.MeasureT-loop
-μ-loop marks count i₀ i = count - i
+μ-loop marks count fields i₀ i = count - i
 
 loop-holds : tie.Need-loop-holds Inv-loop μ-loop
 loop-holds c = (search needs, record { same = refl })

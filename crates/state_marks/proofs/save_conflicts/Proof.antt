@@ -1,7 +1,8 @@
--- Invariant: the first i marks are those of `conflicts`, the others as they were. Assumes nothing.
+-- Invariant: the first i marks are those of `conflicts`, the others as they were. It begins where blocks of the same marks end.
+-- Assumes nothing.
 use Prim.Native.Nat.{_-_}
 use borrow.Author.Needs.{needs}
-use Rattle.state_marks.proofs.Marks.{Saving, saving-first, saving-next, saving-last}
+use Rattle.state_marks.proofs.Marks.{Saving, saving-from, saving-next, saving-last}
 use Rattle.state_marks.proofs.save_conflicts.Statement.{statement}
 use Rattle.state_marks.proofs.save_conflicts.Tie as tie
 
@@ -14,8 +15,11 @@ abbrev μ-loop : tie.MeasureT-loop
 cast-win : tie.Need-cast-win Inv-loop μ-loop
 cast-win c = search needs
 
+same-blocks-requires : tie.Need-same-blocks-requires Inv-loop μ-loop
+same-blocks-requires c κs = search needs
+
 loop-holds : tie.Need-loop-holds Inv-loop μ-loop
-loop-holds c = search saving-first
+loop-holds c = search saving-from
 
 mul-conflict-mark : tie.Need-mul-conflict-mark Inv-loop μ-loop
 mul-conflict-mark c = search needs
@@ -57,6 +61,7 @@ save-conflicts-spec =
     Inv-loop
     μ-loop
     cast-win
+    same-blocks-requires
     loop-holds
     mul-conflict-mark
     element-copy-out-conflict-mark

@@ -16,7 +16,7 @@ until-present-requires c κs =
     let before = c .before .before .before .before .before .before .before in
     let c7 = before in
     let c8 = c7 .before in
-    until-ready _ (c8 .pre .0) _ (c8 .pre .1) _ _ (c7 .wide .ensures) (c .wide2 .ensures)
+    until-ready _ (c8 .pre .0) _ (c8 .pre .1) (c8 .pre .2) _ _ (c7 .wide .ensures) (c .wide2 .ensures)
 
 returns : tie.Need-returns
 returns c = search scope-none

@@ -12,7 +12,7 @@ pick-winner-requires : tie.Need-pick-winner-requires
 pick-winner-requires c κs =
     let before = c .before .before .before .before .before .before .before in
     let c7 = before in
-    both-ready _ (c7 .pre .0) _ (c7 .pre .1) _ (c .wide .ensures)
+    both-ready _ (c7 .pre .0) _ (c7 .pre .1) (c7 .pre .2) _ (c .wide .ensures)
 
 returns : tie.Need-returns
 returns c = search picked-over

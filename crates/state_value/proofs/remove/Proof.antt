@@ -11,7 +11,9 @@ numbers-of-requires : tie.Need-numbers-of-requires
 numbers-of-requires c κs = search needs
 
 remove-requires : tie.Need-remove-requires
-remove-requires c κs = remove-ready _ (c .before .before .before .pre) _ (c .numbers-of .ensures)
+remove-requires c κs =
+    let pre = c .before .before .before .pre in
+    remove-ready _ (pre .0) _ (pre .1) _ (c .numbers-of .ensures)
 
 joined-requires : tie.Need-joined-requires
 joined-requires c κs = search needs
@@ -20,7 +22,7 @@ returns : tie.Need-returns
 returns c =
     let c5 = c .before .before .before .before .before in
     let long : length (c5 .args .s .marks) ≡ 256 = search (needs, c5 .good) in
-    removed-over _ (c5 .pre) _ _ _ _ _ long (c .before .before .numbers-of .ensures) (c .before .remove .ensures) (c .joined .ensures)
+    removed-over _ (c5 .pre .0) _ _ _ _ _ _ long (c .before .before .numbers-of .ensures) (c .before .remove .ensures) (c .joined .ensures)
 
 pub remove-spec : {M : Type 1} → statement M
 remove-spec = tie.close (tie.spec numbers-of-requires remove-requires joined-requires returns)

@@ -14,8 +14,8 @@ save-conflicts-requires : tie.Need-save-conflicts-requires
 save-conflicts-requires c κs =
     let before = c .before .before .before .before .before .before in
     let c6 = before in
-    let r = both-ready _ (c6 .pre .0) _ (c6 .pre .1) _ (c .wide .ensures) in
-    (r .0, r .1, r .2, winner-small _ (c6 .pre .0) _ (c6 .pre .1) _ (c6 .pre .2))
+    let r = both-ready _ (c6 .pre .0) _ (c6 .pre .1) (c6 .pre .2) _ (c .wide .ensures) in
+    (r .0, r .1, r .2, winner-small _ (c6 .pre .0) _ (c6 .pre .1) (c6 .pre .2) _ (c6 .pre .3))
 
 numbers-of-requires : tie.Need-numbers-of-requires
 numbers-of-requires c κs = search needs
@@ -27,7 +27,7 @@ returns : tie.Need-returns
 returns c =
     let c9 = c .before .before .before .before .before .before .before .before .before in
     let long : length (c9 .args .s .marks) ≡ 256 = search (needs, c9 .good) in
-    saved-over _ (c9 .pre .0) _ (c9 .pre .1) _ _ _ _ _ long (c9 .pre .2) (c .before .before .before .wide .ensures)
+    saved-over _ (c9 .pre .0) _ (c9 .pre .1) (c9 .pre .2) _ _ _ _ _ long (c9 .pre .3) (c .before .before .before .wide .ensures)
     (c .before .before .save-conflicts .ensures) (c .before .numbers-of .ensures) (c .joined .ensures)
 
 pub save-conflicts-spec : {M : Type 1} → statement M

@@ -196,5 +196,5 @@ fn read(written: &Written, line: &[OsString], paint: Paint) -> (u8, String) {
         }
     };
     let notes: String = notes.iter().map(|words| show::note(paint, words)).collect();
-    (status, format!("{}\n{answered}{notes}", show::line(paint, line, &items)))
+    (status, format!("{}\n{answered}{notes}", show::line(paint, &written.fields, line, &items)))
 }

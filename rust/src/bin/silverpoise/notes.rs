@@ -3,7 +3,7 @@
 use std::ffi::OsString;
 use std::os::unix::ffi::OsStrExt;
 
-use silverpoise::{Item, ItemKind, Mark, ReadError, Value};
+use silverpoise::{Item, ItemKind, ReadError, Value};
 
 use crate::notation::{Field, Letters, OptionName, Written};
 use crate::shown::{quoted, shown};
@@ -40,7 +40,7 @@ fn withdrawn(letters: &Letters, args: &[OsString], item: &Item) -> Option<String
 /// The rest behind an argument letter is a word like any other, so a positional that comes earlier takes it.
 fn rest_taken(args: &[OsString], key: &Item, rest: &Item) -> Option<String> {
     let ItemKind::Short(letter) = key.kind else { return None };
-    let taken = key.adjacent && key.mark != Mark::Used && rest.mark == Mark::Used && rest.kind == ItemKind::Word;
+    let taken = key.adjacent && !key.mark.is_used() && rest.mark.is_used() && rest.kind == ItemKind::Word;
     taken.then(|| {
         let (rest, whole) = (quoted(rest.text.as_bytes()), quoted(args[key.argument].as_bytes()));
         let key = quoted(format!("-{letter}").as_bytes());
@@ -73,6 +73,6 @@ fn matches(name: &OptionName, item: &Item) -> bool {
 /// What was taken stays used where the taken word itself is refused.
 fn stays_used(error: &ReadError, items: &[Item]) -> Option<String> {
     let place = error.place().filter(|_| (23..=26).contains(&error.number()))?;
-    let used = items.get(place)?.mark == Mark::Used;
+    let used = items.get(place)?.mark.is_used();
     used.then(|| format!("place {place} stays used: a word is not given back when it is refused"))
 }

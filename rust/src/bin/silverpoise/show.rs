@@ -5,7 +5,7 @@ use std::fmt::Write;
 use std::ops::Range;
 use std::os::unix::ffi::OsStrExt;
 
-use silverpoise::{Item, ItemKind, Mark, ReadError, Value};
+use silverpoise::{Item, ItemKind, Mark, ReadError, UsedBy, Value};
 
 use crate::notation::Field;
 use crate::shown::{shown, ShownArgument};
@@ -33,14 +33,14 @@ impl Paint {
 
     fn mark(self, mark: Mark, text: &str) -> String {
         match mark {
-            Mark::Used => self.paint("32", text),
+            Mark::Used(_) => self.paint("32", text),
             Mark::Unused | Mark::Conflict(_) => self.paint("31", text),
         }
     }
 }
 
-/// The arguments, and below them a row for each item, with carets under what the item stands for.
-pub fn line(paint: Paint, args: &[OsString], items: &[Item]) -> String {
+/// The arguments, and below them a row for each item, with carets under what the item stands for, and who used it.
+pub fn line(paint: Paint, fields: &[Field], args: &[OsString], items: &[Item]) -> String {
     let label = paint.bold("line");
     if args.is_empty() {
         return format!("{label}  (no arguments)\n");
@@ -62,7 +62,7 @@ pub fn line(paint: Paint, args: &[OsString], items: &[Item]) -> String {
             let before: usize = shown[row.start..item.argument].iter().map(|arg| arg.width + 1).sum();
             let columns = shown[item.argument].columns(&item.part);
             let carets = carets(paint, item.mark, before + columns.start..before + columns.end, wide);
-            let mark = paint.mark(item.mark, &mark(item.mark));
+            let mark = paint.mark(item.mark, &mark(fields, item.mark));
             let _ = writeln!(out, "{place:4}  {carets} {:kinds$}  {mark}", kind(item));
         }
     }
@@ -101,9 +101,14 @@ fn kind(item: &Item) -> String {
     format!("{kind}{}", if item.adjacent { ", adjacent" } else { "" })
 }
 
-fn mark(mark: Mark) -> String {
+fn mark(fields: &[Field], mark: Mark) -> String {
     match mark {
-        Mark::Used => "used".to_string(),
+        Mark::Used(UsedBy::Field(number)) => match fields.get(number) {
+            Some(field) => format!("used by {}", shown(field.name.as_bytes())),
+            None => format!("used by field {number}"),
+        },
+        Mark::Used(UsedBy::Marker) => "ends the options".to_string(),
+        Mark::Used(UsedBy::Command) => "used as a command".to_string(),
         Mark::Unused => "not used".to_string(),
         Mark::Conflict(winner) => format!("conflict with {winner}"),
     }

@@ -3,6 +3,8 @@
 use std::collections::BTreeSet;
 use std::os::unix::ffi::OsStringExt;
 
+use silverpoise::{Mark, UsedBy};
+
 use super::*;
 
 /// The same numbers on every machine (a linear congruence, its high bits).
@@ -121,12 +123,15 @@ fn word(numbers: &mut Numbers) -> OsString {
     OsString::from_vec(word)
 }
 
+/// The marks that a line of the form may show: each field by its name, and no conflict, since the form has no choice.
+const MARKS: [&str; 7] = ["ends the options", "not used", "used by l", "used by q", "used by rest", "used by v", "used by w"];
+
 /// Each item has its row, in order, with one run of carets, and all marks begin in the same column.
 #[test]
 fn generated_lines_are_shown() {
     let mut numbers = Numbers(2);
     let written = notation::parse(FORM).unwrap_or_else(|fault| panic!("{fault:?}"));
-    let mut seen = [0; 2];
+    let (mut seen, mut marks) = ([0; 2], BTreeSet::new());
     for _ in 0..200 {
         let line: Vec<OsString> = (0..1 + numbers.below(12)).map(|_| word(&mut numbers)).collect();
         let answer = written.form.read_values(&line);
@@ -141,9 +146,13 @@ fn generated_lines_are_shown() {
         for (place, row) in rows.iter().enumerate() {
             let carets: Vec<&str> = row.split_whitespace().filter(|word| word.starts_with('^')).collect();
             assert!(row.starts_with(&format!("{place:4}  ")) && carets.len() == 1 && row.len() <= 100, "{text}");
+            let mark = row.rsplit("  ").next().unwrap_or_default();
+            assert!(status == 1 || mark != "not used", "{text}");
+            marks.insert(mark.to_string());
         }
     }
     assert!(seen.iter().all(|count| *count > 20), "{seen:?}");
+    assert_eq!(marks.iter().map(String::as_str).collect::<Vec<_>>(), MARKS);
 }
 
 /// Colours change nothing but the colours.
@@ -159,4 +168,30 @@ fn painted_lines_are_the_plain_ones() {
             .fold(painted.1, |text, code| text.replace(&format!("\x1b[{code}m"), ""));
         assert_eq!((painted.0, stripped), plain);
     }
+}
+
+/// The mark of the only item of the line `-v`, as it is shown with this mark.
+fn shown_mark(form: &str, mark: Mark) -> String {
+    let written = notation::parse(form).unwrap_or_else(|fault| panic!("{fault:?}"));
+    let line = [OsString::from("-v")];
+    let mut items = written.form.read_values(&line).map(|read| read.items().to_vec()).expect("accepted");
+    items[0].mark = mark;
+    let text = show::line(Paint(false), &written.fields, &line, &items);
+    text.trim_end().rsplit("  ").next().unwrap_or_default().to_string()
+}
+
+/// Every mark has its words. A field is named as it is written, and nothing of its name reaches the terminal unescaped.
+#[test]
+fn every_mark_has_its_words() {
+    let form = "first: text, many\n--: switch -v\n\u{1b}[1m: switch -w\n";
+    let used = |by: UsedBy| shown_mark(form, Mark::Used(by));
+    assert_eq!((used(UsedBy::Field(0)), used(UsedBy::Field(1))), ("used by first".to_string(), "used by --".to_string()));
+    assert_eq!(used(UsedBy::Field(2)), "used by \\u{1b}[1m");
+    assert_eq!(used(UsedBy::Marker), "ends the options");
+    assert_eq!(
+        (shown_mark(form, Mark::Unused), shown_mark(form, Mark::Conflict(7))),
+        ("not used".into(), "conflict with 7".into())
+    );
+    // no read gives these
+    assert_eq!((used(UsedBy::Command), used(UsedBy::Field(3))), ("used as a command".into(), "used by field 3".into()));
 }
