@@ -1,4 +1,4 @@
-//! Marks: whether a place is used, and by what. A second reading of the rules, written before the Rattle code and apart from it.
+//! Marks: whether a place is used, and by what. A second reading of the rules, beside the definitions in crates/rules/specs.
 //!
 //! A mark is 0 for a place that is not used, 2 + w for one that lost to the place w and is not used either. From 510 on the
 //! place is used: 510 is the opening `--`, 511 a command word, 512 + k what field k used, counted from 0.
