@@ -77,9 +77,6 @@ all-zero o =
     ∙ rw (zero-add (length (replicate {A = ℕ} (length o) 0)), length-replicate {A = ℕ} (length o) 0, drop-length o, append-nil (replicate {A = ℕ} (length o) 0))
 
 -- ---- the table of what is known
-pub known-long : (l : List ℕ) → l ≡ replicate 257 0 → length l ≡ 257
-known-long l e = ap length e ∙ length-replicate {A = ℕ} 257 0
-
 pub known-matchable : (b codes s words : List ℕ) (n : ℕ) → GoodNames b → CodedNames b codes → sheetFault s ≡ 0 → Holds (sheetArea s) words n
     → Matchable b codes s words n
 known-matchable b codes s words n c w made h = record {

@@ -20,7 +20,6 @@ ghost use Rattle.eval_list.specs.Lists.{withMark};
 ghost use Rattle.eval_missing.specs.Missing.{Listable, Listing, Lists, ListsNode};
 use eval_list::Field;
 use state_marks::Numbers;
-use take_table::TABLE_WORDS;
 
 // The refusal of a leaf that looked in vain.
 pub const MISSING: u32 = 20;
@@ -106,7 +105,7 @@ fn list_node(
 // written. A node whose value is a list is never refused with 20.
 pub fn list_missing(
     form: &[u8],
-    known: &[u64; TABLE_WORDS],
+    known: &[u64],
     sheet: &[u8],
     items: &[u32],
     marks: &[u16; 256],

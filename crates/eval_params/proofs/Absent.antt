@@ -15,7 +15,7 @@ use Rattle.take.proofs.Laws.{flag-missing, arg-missing}
 use Rattle.eval_params.specs.Leaves.{Leaf, Missing, leafRefusal}
 use Rattle.eval_params.proofs.Laws.{flag-refused, argument-missing}
 
-pub absent-missing : (known : List ℕ) (node : ℕ) (absent : Bool) → absent ≡ not (bitAt (getD known 256 0) node) → absent ≡ true
+pub absent-missing : (known : List ℕ) (node : ℕ) (absent : Bool) → absent ≡ not (bitAt (getD known 0 0) node) → absent ≡ true
     → Missing known node
 absent-missing known node absent e h = record {
   flag = λ area words m p mark names leaf n.

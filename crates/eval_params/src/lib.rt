@@ -103,8 +103,8 @@ fn placed(
 
 // Whether no item has the names of a node.
 pub fn is_missing(known: &[u64], node: usize) -> bool
-    requires { ⌜ (node < 64) × (257 ≤ length (now known)) ⌝ }
-    ensures { λ r. ⌜ r ≡ not (bitAt (getD (now (known .entry)) 256 0) node) ⌝ }
+    requires { ⌜ (node < 64) × (0 < length (now known)) ⌝ }
+    ensures { λ r. ⌜ r ≡ not (bitAt (getD (now (known .entry)) 0 0) node) ⌝ }
 {
     take_table::is_absent(known, node)
 }

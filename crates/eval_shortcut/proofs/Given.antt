@@ -166,7 +166,7 @@ module _ (b known s words m : List ℕ) (p : Numbers) (mark n : ℕ) (z : Scalar
         let few = z .stands .knows .few in
         let nodes = sized b form-long .counts .nodes in
         let below = node-below in
-        record { low = omega arith; long = long; few = omega arith }
+        record { low = omega arith; long = omega arith; few = omega arith }
 
     node-says : (test : Item → Bool) → ((i : Item) → nodeMatches b (nodeOf x) i ≡ test i)
         → Tells known (p .end) n (sheetArea s) words test

@@ -59,7 +59,7 @@ no-name known n (Guard l h t) a c = refl
 
 module _ (b known : List ℕ) (n : ℕ) (y : Node) (h : getElem? (readForm b .nodes) n ≡ some (nodeOf y)) where
   absent : Bool
-  absent = not (bitAt (getD known 256 0) n)
+  absent = not (bitAt (getD known 0 0) n)
 
   pub misses-switch : y .kind ≡ 1 → y .r ≡ 1 → (t : Tree) → treeAt b n ≡ some t → false ≡ missesBy known n t
   unfolding missesBy absent
@@ -67,7 +67,7 @@ module _ (b known : List ℕ) (n : ℕ) (y : Node) (h : getElem? (readForm b .no
       let s : false ≡ (not (eqb (y .r) 1) && absent) = rw (eq-eqb (y .r) 1 q) in
       s ∙ ap (missesBy known n) (flag-tree b n t e (nodeOf y) h k .same)
 
-  module _ (r : Bool) (f : r ≡ not (bitAt (getD known 256 0) n)) where
+  module _ (r : Bool) (f : r ≡ not (bitAt (getD known 0 0) n)) where
     pub misses-flag : y .kind ≡ 1 → (y .r ≡ 1 → ⊥) → (t : Tree) → treeAt b n ≡ some t → r ≡ missesBy known n t
     unfolding missesBy absent
     misses-flag k q t e =
@@ -148,7 +148,7 @@ module _ (b known s words m : List ℕ) (p : Numbers) (mark k n : ℕ) (z : Fall
 pub searchable : (b known s words m : List ℕ) (p : Numbers) (mark n : ℕ) → Scalar b known s words m p mark n → Searchable b known n
 searchable b known s words m p mark n z = record {
   stands = record { tree = z .stands .tree; node = z .stands .node };
-  long = z .stands .knows .long;
+  long = omega (arith, z .stands .knows .long);
 }
 
 module _ (b known s words m : List ℕ) (p : Numbers) (mark i j : ℕ) (z : BothSides b known s words m p mark i j) where

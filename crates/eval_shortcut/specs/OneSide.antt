@@ -3,7 +3,7 @@ use mathlib.Core.Bool.{Bool, false, not, _&&_, _||_}
 use mathlib.Core.List.{List}
 use mathlib.Core.Option.{some}
 use mathlib.Core.Path.{_≡_}
-use Prim.Native.Nat.{ℕ, _≤_}
+use Prim.Native.Nat.{ℕ, _<_}
 use lib.ListN.{length, getD}
 use Rattle.rules.specs.Sheet.{sheetArea}
 use Rattle.rules.specs.Tree.{Tree, Flag, Argument, Positional, Optional, Many, Some, Count, Last, Choice, Fallback, Guard}
@@ -20,12 +20,12 @@ use Rattle.eval_shortcut.specs.Children.{NodeSays}
 -- a node of the form, which the table can be asked for
 pub record Searchable (b known : List ℕ) (node : ℕ) : Type 0 where
   pub stands : HasTree b node
-  pub long : 257 ≤ length known
+  pub long : 0 < length known
 
 -- whether a node, whose tree is given, is a required flag or an argument, and no item has its names by the table
 unfoldable pub missesBy : List ℕ → ℕ → Tree → Bool
-missesBy known node (Flag n names switch) = not switch && not (bitAt (getD known 256 0) node)
-missesBy known node (Argument n names b adjacent) = not (bitAt (getD known 256 0) node)
+missesBy known node (Flag n names switch) = not switch && not (bitAt (getD known 0 0) node)
+missesBy known node (Argument n names b adjacent) = not (bitAt (getD known 0 0) node)
 missesBy known node (Positional n q b) = false
 missesBy known node (Optional c t) = false
 missesBy known node (Many c t) = false

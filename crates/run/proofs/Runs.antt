@@ -353,9 +353,6 @@ module _ (form sheet i a k : List ℕ) (c : CheckedInput form sheet i a k) (a′
         ap length (u .listed (w .line .items) (table, count)) ∙ length-sets k′ 0 entries ∙ fill-long k′ k 0 (length k) v
 
 -- ---- which nodes each item matches
-pub table-long : (l : List ℕ) → l ≡ replicate 257 0 → length l ≡ 257
-table-long l e = ap length e ∙ length-replicate {A = ℕ} 257 0
-
 module _ (b codes s words m : List ℕ) (p : Numbers) (first : ℕ) (o l : List ℕ) (g : ItemsBegin b codes s words m p first o l) (n : ℕ) (e : n ≡ p .count) where
   pub items-few : n ≤ 256
   items-few = omega (arith, g .state .fine .small)
@@ -385,55 +382,55 @@ module _ (b codes s words m : List ℕ) (p : Numbers) (first : ℕ) (o l : List 
     zeros = g .zeros;
   }
 
-  -- the fields have run: what is missing
-  module _ (known : List ℕ) (k : Known b (sheetArea s) words n known) (m′ o′ : List ℕ) (r : Reached)
-      (ran : (a : Accepted) → checkForm b ≡ accepted a → RunsAll (sheetArea s) words first (a .fields) m p m′ o o′ r) where
-    pub unlisted-runs :
-        (r .number ≡ 20 → ⊥)
-        → (a : Accepted)
-        → checkForm b ≡ accepted a
-        → RunsListed (sheetArea s) words first (a .fields) m p m′ o o′ l l r
-    unfolding listWords concatMap
-    unlisted-runs z a f = record {
-      reached = ran a f;
-      listed = λ is i. sym (ap (λ (x : List MissingItem). sets l 0 (listWords x)) (none-missing _ _ _ _ _ _ _ _ (items-start known k) a f _ _ _ _ (ran a f) z is i));
-    }
+-- ---- the fields have run: what is missing
+module _ (b known s words m : List ℕ) (p : Numbers) (first : ℕ) (o : List ℕ) (g : Starts b known s words m p first o) (m′ o′ : List ℕ) (r : Reached)
+    (ran : (a : Accepted) → checkForm b ≡ accepted a → RunsAll (sheetArea s) words first (a .fields) m p m′ o o′ r) where
+  pub unlisted-runs :
+      (l : List ℕ)
+      → (r .number ≡ 20 → ⊥)
+      → (a : Accepted)
+      → checkForm b ≡ accepted a
+      → RunsListed (sheetArea s) words first (a .fields) m p m′ o o′ l l r
+  unfolding listWords concatMap
+  unlisted-runs l z a f = record {
+    reached = ran a f;
+    listed = λ is i. sym (ap (λ (x : List MissingItem). sets l 0 (listWords x)) (none-missing _ _ _ _ _ _ _ _ g a f _ _ _ _ (ran a f) z is i));
+  }
 
-    module _ (z : r .number ≡ 20) where
-      pub list-good : lengthGood b ≡ true
-      list-good = accepted-length b (g .result) (g .accepts)
+  module _ (z : r .number ≡ 20) where
+    pub list-good : lengthGood b ≡ true
+    list-good = accepted-length b (g .result) (g .accepts)
 
-      pub list-inside : r .field < fieldCount b
-      list-inside = refused-inside _ _ _ _ _ _ _ _ (items-start known k) (g .result) (g .accepts) _ _ _ _ (ran (g .result) (g .accepts)) z
+    pub list-inside : r .field < fieldCount b
+    list-inside = refused-inside _ _ _ _ _ _ _ _ g (g .result) (g .accepts) _ _ _ _ (ran (g .result) (g .accepts)) z
 
-      pub list-number : 512 + (first + r .field) < 65536
-      list-number = refused-number _ _ _ _ _ _ _ _ (items-start known k) (g .result) (g .accepts) _ _ _ _ (ran (g .result) (g .accepts)) z
+    pub list-number : 512 + (first + r .field) < 65536
+    list-number = refused-number _ _ _ _ _ _ _ _ g (g .result) (g .accepts) _ _ _ _ (ran (g .result) (g .accepts)) z
 
-      module _ (node : ℕ) (h : getElem? (readForm b .fields) (r .field) ≡ some node) (mark : ℕ) (em : mark ≡ fieldMark (first + r .field)) where
-        pub list-begins : Listing b known s words m′ (r .numbers) mark node l
-        list-begins = record {
-          stands = refused-marked _ _ _ _ _ _ _ _ (items-start known k) (g .result) (g .accepts) _ _ _ _ (ran (g .result) (g .accepts)) z node h mark em;
-          room = g .entries;
-        }
+    module _ (node : ℕ) (h : getElem? (readForm b .fields) (r .field) ≡ some node) (mark : ℕ) (em : mark ≡ fieldMark (first + r .field)) (l : List ℕ) where
+      pub list-begins : 192 ≤ length l → Listing b known s words m′ (r .numbers) mark node l
+      list-begins entries = record {
+        stands = refused-marked _ _ _ _ _ _ _ _ g (g .result) (g .accepts) _ _ _ _ (ran (g .result) (g .accepts)) z node h mark em;
+        room = entries;
+      }
 
-        pub list-runs :
-            (l′ : List ℕ) (stop : ℕ)
-            → ((t : Tree) → treeAt b node ≡ some t → Lists mark (sheetArea s) words t m′ (r .numbers) 0 l l′ stop)
-            → (a : Accepted)
-            → checkForm b ≡ accepted a
-            → RunsListed (sheetArea s) words first (a .fields) m p m′ o o′ l l′ r
-        list-runs l′ stop lists a f =
-            let start = items-start known k in
-            let there = refused-field _ _ _ _ _ _ _ _ start a f _ _ _ _ (ran a f) z node h in
-            let w = lists (there .tree) (there .node) in
-            record {
-              reached = ran a f;
-              listed = λ is i.
-                  w .put
-                  ∙ ap (sets l 0) (sym (w .same is (left-items _ _ _ _ _ _ _ _ start a f _ _ _ _ (ran a f) is i)))
-                  ∙ ap (λ (u : ℕ). sets l 0 (listWords (lacking u is (there .tree) (stateOf m′ (r .numbers))))) em
-                  ∙ ap (λ (x : List MissingItem). sets l 0 (listWords x)) (sym (refused-missing _ _ _ _ _ _ _ _ start a f _ _ _ _ (ran a f) z node h is i));
-            }
+      pub list-runs :
+          (l′ : List ℕ) (stop : ℕ)
+          → ((t : Tree) → treeAt b node ≡ some t → Lists mark (sheetArea s) words t m′ (r .numbers) 0 l l′ stop)
+          → (a : Accepted)
+          → checkForm b ≡ accepted a
+          → RunsListed (sheetArea s) words first (a .fields) m p m′ o o′ l l′ r
+      list-runs l′ stop lists a f =
+          let there = refused-field _ _ _ _ _ _ _ _ g a f _ _ _ _ (ran a f) z node h in
+          let w = lists (there .tree) (there .node) in
+          record {
+            reached = ran a f;
+            listed = λ is i.
+                w .put
+                ∙ ap (sets l 0) (sym (w .same is (left-items _ _ _ _ _ _ _ _ g a f _ _ _ _ (ran a f) is i)))
+                ∙ ap (λ (u : ℕ). sets l 0 (listWords (lacking u is (there .tree) (stateOf m′ (r .numbers))))) em
+                ∙ ap (λ (x : List MissingItem). sets l 0 (listWords x)) (sym (refused-missing _ _ _ _ _ _ _ _ g a f _ _ _ _ (ran a f) z node h is i));
+          }
 
 -- ---- the state, put together
 pub joined-answer : (x : Option Ended) (r : Reached) (m i a l : List ℕ) (s : Raw) → x ≡ ended (answerOf r m) i a l → s ≡ rawOf m (r .numbers)

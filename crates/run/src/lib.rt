@@ -1,6 +1,7 @@
 // The run: from a form and a sheet to values or a refusal. It asks nothing of its input.
 ghost use mathlib.Core.Path.{_≡_};
 ghost use mathlib.Core.Option.{some};
+ghost use Prim.Native.Nat.{_≤_};
 ghost use lib.ListN.{length, replicate};
 ghost use Rattle.rules.specs.Outcome.{ok};
 ghost use Rattle.rules.specs.Sheet.{sheetArea};
@@ -9,6 +10,7 @@ ghost use Rattle.rules.specs.Run.{refusedInput};
 ghost use Rattle.rules.specs.Run as Run;
 ghost use Rattle.rules.specs.Codes.{placeOf};
 ghost use Rattle.split_args.specs.Construct.{Unmarked};
+ghost use Rattle.run_fields.specs.Line.{Starts};
 ghost use Rattle.run.specs.Runner.{runAnswer, ended, answerOf, CheckedInput, InputTested, ItemsBegin, RunsListed};
 use eval_missing::MISSING;
 use eval_missing::MISSING_WORDS;
@@ -24,6 +26,9 @@ use wire::wide;
 const SHORT_SLICE: u32 = 7;
 
 const SHORT_LIST: u32 = 14;
+
+// The words of a table for a line with fewer items than this.
+const FEW_WORDS: usize = 32;
 
 // A refusal at no place.
 fn refusal(number: u32) -> Refused
@@ -55,8 +60,40 @@ fn refused_input(
     run_fields::refused(number, place, 0, 0, none)
 }
 
+// A table of which nodes each item matches, as yet empty, for a line of at most 31 items: 256 bytes to clear, not 2,056.
+fn little_known() -> [u64; FEW_WORDS]
+    ensures { λ r. ⌜ r ≡ replicate 32 0 ⌝ }
+{
+    [0u64; FEW_WORDS]
+}
+
+// The fields over the table of which nodes each item matches. Refused with 20, the list tells what the refused field lacks.
+fn run_known(
+    form: &[u8],
+    known: &[u64],
+    sheet: &[u8],
+    items: &[u32],
+    marks: &mut [u16; 256],
+    p: Numbers,
+    first: usize,
+    answers: &mut [u32],
+    list: &mut [u32],
+) -> Reached
+    requires { ⌜ Starts (now form) (now known) (now sheet) (now items) (now marks) p first (now answers) × (192 ≤ length (now list)) ⌝ }
+    ensures { λ r. ⌜ ((a : Accepted) → checkForm (now (form .entry)) ≡ accepted a → RunsListed (sheetArea (now (sheet .entry))) (now (items .entry)) first (a .fields) (now (marks .entry)) p (now (marks .exit)) (now (answers .entry)) (now (answers .exit)) (now (list .entry)) (now (list .exit)) r) ⌝ }
+{
+    let all = run_fields::run_fields(form, known, sheet, items, marks, p, first, answers);
+    if all.number == MISSING {
+        let node = form_layout::field_at(form, all.field);
+        let mark = state_marks::field_mark(first + all.field);
+        let left = all.numbers;
+        eval_missing::list_missing(form, known, sheet, items, marks, left, node, list, mark);
+    }
+    all
+}
+
 // The fields of a form, of which the first has number `first`, on items in a state, whose numbers tell the scope. Which nodes each
-// item matches is worked out once, before the first field. Refused with 20, the list tells what the refused field lacks.
+// item matches is worked out once, before the first field, in a table that is short if the line is.
 pub fn run_items(
     form: &[u8],
     codes: &[u32],
@@ -71,16 +108,15 @@ pub fn run_items(
     requires { ⌜ ItemsBegin (now form) (now codes) (now sheet) (now items) (now marks) p first (now answers) (now list) ⌝ }
     ensures { λ r. ⌜ ((a : Accepted) → checkForm (now (form .entry)) ≡ accepted a → RunsListed (sheetArea (now (sheet .entry))) (now (items .entry)) first (a .fields) (now (marks .entry)) p (now (marks .exit)) (now (answers .entry)) (now (answers .exit)) (now (list .entry)) (now (list .exit)) r) ⌝ }
 {
-    let mut known = run_fields::nothing_known();
-    take_table::known(form, codes, sheet, items, wide(p.count), &mut known);
-    let all = run_fields::run_fields(form, &known, sheet, items, marks, p, first, answers);
-    if all.number == MISSING {
-        let node = form_layout::field_at(form, all.field);
-        let mark = state_marks::field_mark(first + all.field);
-        let left = all.numbers;
-        eval_missing::list_missing(form, &known, sheet, items, marks, left, node, list, mark);
+    let count = wide(p.count);
+    if count < FEW_WORDS {
+        let mut few = little_known();
+        take_table::known(form, codes, sheet, items, count, &mut few);
+        return run_known(form, &few, sheet, items, marks, p, first, answers, list);
     }
-    all
+    let mut known = run_fields::nothing_known();
+    take_table::known(form, codes, sheet, items, count, &mut known);
+    run_known(form, &known, sheet, items, marks, p, first, answers, list)
 }
 
 // An accepted form, a checked sheet, and room in the slices: the items, then the fields on the state that they start in.

@@ -6,7 +6,7 @@ use mathlib.Core.Logic.{_⊎_, inl, ⊎-elim}
 use mathlib.Core.Path.{_≡_, refl, sym, ap, _∙_}
 use Prim.Native.Nat.{ℕ, zero, suc, _+_, _≤_, _<_}
 use native.Mathlib.Omega.{arith}
-use lib.ListN.{length, getElem?}
+use lib.ListN.{length, getElem?, replicate, length-replicate}
 use Rattle.rules.specs.Form.{Node, Form, nodeCount, fieldCount, readForm}
 use Rattle.rules.specs.Tree.{Tree, kindOf}
 use Rattle.rules.specs.Accept.{Accepted, accepted, checkForm, lengthGood, treesAt}
@@ -36,6 +36,10 @@ use Rattle.eval_list.specs.Lists.{MarkedField}
 use Rattle.eval_list.specs.Lists.{Listed, Writes}
 use Rattle.eval_shortcut.proofs.Shapes.{single-here}
 use Rattle.run_fields.specs.Line.{Starts, FieldReady, PutValue, lackingField}
+
+-- a cleared table of k words has a word for each of fewer items, and that of all items
+pub table-room : (l : List ℕ) (k : ℕ) → l ≡ replicate k 0 → (n : ℕ) → n < k → n < length l
+table-room l k e n h = omega (arith, h, ap length e ∙ length-replicate {A = ℕ} k 0)
 
 -- ---- one field
 module _

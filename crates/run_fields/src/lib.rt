@@ -170,7 +170,7 @@ fn each_field(
 // the first present place that is left in scope. Refused, `out` is all 0 again.
 pub fn run_fields(
     form: &[u8],
-    known: &[u64; TABLE_WORDS],
+    known: &[u64],
     sheet: &[u8],
     items: &[u32],
     marks: &mut [u16; 256],

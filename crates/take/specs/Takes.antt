@@ -36,7 +36,7 @@ pub record Skips (area words : List ℕ) (test : rules.Item → Bool) (m : List 
 -- a table of `known` for the places in scope, and a node that it may have
 pub record HasBits (table : List ℕ) (p : Numbers) (node : ℕ) : Type 0 where
   pub low : node < 64
-  pub long : 257 ≤ length table
+  pub long : p .end < length table
   pub few : p .end ≤ 256
 
 -- ---- small pieces

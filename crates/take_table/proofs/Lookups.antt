@@ -237,61 +237,64 @@ item-there b codes s words n i g h =
     record { made = g .made; room = omega arith; item = x; here = g .table .at i x e }
 
 -- the words of the first i items are there, and `all` has every node of one of them
-pub record Listing (b area words : List ℕ) (n : ℕ) (table : List ℕ) (all i : ℕ) : Type 0 where
+pub record Listing (b area words : List ℕ) (n size : ℕ) (table : List ℕ) (all i : ℕ) : Type 0 where
   pub within : i ≤ n
   pub few : n ≤ 256
-  pub long : length table ≡ 257
-  pub at : (j : ℕ) → j < i → MatchSet b area words j (getD table j 0)
-  pub any : (k : ℕ) → bitAt all k ≡ false → (j : ℕ) → j < i → bitAt (getD table j 0) k ≡ false
+  pub room : n < size
+  pub long : length table ≡ size
+  pub at : (j : ℕ) → j < i → MatchSet b area words j (getD table (j + 1) 0)
+  pub any : (k : ℕ) → bitAt all k ≡ false → (j : ℕ) → j < i → bitAt (getD table (j + 1) 0) k ≡ false
 
 neither : (x y : Bool) → (x || y) ≡ false → (x ≡ false) × (y ≡ false)
 neither true y e = absurd (false≢true (sym e))
 neither false y e = (refl, e)
 
--- a property of the word at j, of those up to i, where word i was put
-put-at : (t : List ℕ) (i set : ℕ) → i < length t → (j : ℕ) → j < i + 1 → (P : ℕ → Type 0) → (j ≡ i → P set) → (j < i → P (getD t j 0))
-    → P (getD (put t i set) j 0)
+-- a property of the word of item j, of those up to i, where that of item i was put
+put-at : (t : List ℕ) (i set : ℕ) → i + 1 < length t → (j : ℕ) → j < i + 1 → (P : ℕ → Type 0) → (j ≡ i → P set) → (j < i → P (getD t (j + 1) 0))
+    → P (getD (put t (i + 1) set) (j + 1) 0)
 put-at t i set l j g P here before =
     ⊎-elim
-    (λ (q : j ≡ i). rw (q, getD-set-same t i set 0 l) (here q))
-    (λ (f : j < i). rw (getD-set-other t i j set 0 (λ q. omega arith)) (before f))
+    (λ (q : j ≡ i). rw (q, getD-set-same t (i + 1) set 0 l) (here q))
+    (λ (f : j < i). rw (getD-set-other t (i + 1) (j + 1) set 0 (λ q. omega arith)) (before f))
     (eq-or-lt-of-le {n = j} {m = i} (omega arith))
 
 module _ (b area words : List ℕ) (n : ℕ) (t : List ℕ) where
-  pub listing-first : n ≤ 256 → length t ≡ 257 → Listing b area words n t 0 0
+  pub listing-first : n ≤ 256 → n < length t → Listing b area words n (length t) t 0 0
   listing-first h l = record {
     within = omega arith;
     few = h;
-    long = l;
+    room = l;
+    long = refl;
     at = λ j h. absurd (omega arith);
     any = λ k e j h. absurd (omega arith);
   }
 
-  module _ (all i : ℕ) (z : Listing b area words n t all i) where
+  module _ (size all i : ℕ) (z : Listing b area words n size t all i) where
     pub listing-next : i < n → (set : ℕ) → MatchSet b area words i set → (all′ : ℕ) → ((k : ℕ) → bitAt all′ k ≡ (bitAt all k || bitAt set k))
-        → Listing b area words n (put t i set) all′ (i + 1)
+        → Listing b area words n size (put t (i + 1) set) all′ (i + 1)
     listing-next h set m all′ u =
         let l = z .long in
-        let f = z .few in
+        let room = z .room in
         record {
           within = omega arith;
-          few = f;
-          long = length-set t i set ∙ l;
+          few = z .few;
+          room = room;
+          long = length-set t (i + 1) set ∙ l;
           at = λ j g. put-at t i set (omega arith) j (omega arith) (MatchSet b area words j) (λ q. rw q m) (z .at j);
           any = λ k e j g.
               let w = neither (bitAt all k) (bitAt set k) (sym (u k) ∙ e) in
               put-at t i set (omega arith) j (omega arith) (λ (v : ℕ). bitAt v k ≡ false) (λ q. w .1) (z .any k (w .0) j);
         }
 
-    pub listing-last : n ≤ i → Known b area words n (put t 256 all)
+    pub listing-last : n ≤ i → Known b area words n (put t 0 all)
     listing-last h =
         let l = z .long in
-        let f = z .few in
+        let room = z .room in
         record {
-          long = omega (arith, length-set t 256 all);
-          few = f;
-          at = λ j x g. rw (getD-set-other t 256 j all 0 (λ q. omega arith)) (z .at j (omega arith) x);
+          long = omega (arith, length-set t 0 all);
+          few = z .few;
+          at = λ j x g. rw (getD-set-other t 0 (j + 1) all 0 (λ q. omega arith)) (z .at j (omega arith) x);
           any = λ k e j g.
-              rw (getD-set-other t 256 j all 0 (λ q. omega arith))
-              (z .any k (rw (getD-set-same t 256 all 0 (omega arith)) at e) j (omega arith));
+              rw (getD-set-other t 0 (j + 1) all 0 (λ q. omega arith))
+              (z .any k (rw (getD-set-same t 0 all 0 (omega arith)) at e) j (omega arith));
         }

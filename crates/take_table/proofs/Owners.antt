@@ -14,12 +14,12 @@ use Rattle.rules.specs.Form.{Node, nodeCount, nameCount, readForm}
 use Rattle.rules.specs.Accept.{lengthGood}
 use Rattle.rules.proofs.Acceptance.{lookup-inside}
 use Rattle.form_layout.specs.declared.Node as layout
-use Rattle.form_layout.specs.Layout.{nodeOf}
+use Rattle.form_layout.specs.Layout.{nodeOf, GoodNames}
 use Rattle.form_layout.proofs.Sizes.{nodes-length, sized}
 use Rattle.form_letters.specs.Classes.{MarkedBits}
 use Rattle.take_table.specs.Bits.{bitAt}
 use Rattle.take_table.specs.Known.{isNamed, isAdjacent, SetOf}
-use Rattle.take_table.specs.Owners.{owns, Owners, Added, isLoose}
+use Rattle.take_table.specs.Owners.{owns, NoOwners, Owners, Added, isLoose}
 use Rattle.take_table.proofs.Bits.{bit-or, bit-none, three-ways}
 
 -- ---- one node
@@ -120,33 +120,43 @@ module _ (b : List ℕ) (test : Node → Bool) where
   upto-last n set h z k y e =
       z k y e ∙ rw (lt-ltb k n (omega (arith, lookup-inside (readForm b .nodes) k y e, nodes-length b)))
 
-pub record Adding (b : List ℕ) (count : ℕ) (table : List ℕ) (set n : ℕ) : Type 0 where
+pub record Adding (b : List ℕ) (count size : ℕ) (table : List ℕ) (set n : ℕ) : Type 0 where
   pub nodes : nodeCount b ≤ 64
-  pub few : count ≤ 128
-  pub long : length table ≡ 128
+  pub room : count ≤ size
+  pub long : length table ≡ size
   pub at : (k : ℕ) → k < count → Upto b n (λ x. owns x k) (getD table k 0)
   pub loose : Upto b n isLoose set
 
-pub adding-first : (b : List ℕ) → lengthGood b ≡ true → (count : ℕ) → count ≡ nameCount b
-    → (t : List ℕ) → t ≡ replicate 128 0 → Adding b count t 0 0
-adding-first b g count e t q =
-    let s = sized b g .counts .names in
+-- words that are 0, as many as an array has
+pub cleared : (count : ℕ) (t : List ℕ) (n : ℕ) → t ≡ replicate n 0 → count ≤ n → NoOwners count t
+cleared count t n e h =
+    let l : length t ≡ n = ap length e ∙ length-replicate {A = ℕ} n 0 in
+    record { long = omega arith; zeros = rw l e }
+
+pub all-cleared : (b : List ℕ) → GoodNames b → (count : ℕ) → count ≡ nameCount b → (t : List ℕ) → t ≡ replicate 128 0 → NoOwners count t
+all-cleared b g count e t q = cleared count t 128 q (omega (arith, e, sized b (g .good) .counts .names))
+
+pub adding-first : (b : List ℕ) → lengthGood b ≡ true → (count : ℕ) (t : List ℕ) → NoOwners count t → Adding b count (length t) t 0 0
+adding-first b g count t q =
+    let l = q .long in
     record {
       nodes = sized b g .counts .nodes .1;
-      few = omega arith;
-      long = ap length q ∙ length-replicate {A = ℕ} 128 0;
-      at = λ k h. rw (q, getD-replicate {A = ℕ} 128 k 0 0 (omega arith)) (upto-first b (λ x. owns x k));
+      room = l;
+      long = refl;
+      at = λ k h.
+          let z : getD t k 0 ≡ 0 = ap (λ (w : List ℕ). getD w k 0) (q .zeros) ∙ getD-replicate {A = ℕ} (length t) k 0 0 (omega arith) in
+          rw z (upto-first b (λ x. owns x k));
       loose = upto-first b isLoose;
     }
 
-module _ (b : List ℕ) (count : ℕ) (t : List ℕ) (set n end : ℕ) (z : Adding b count t set n) (ee : end ≡ nodeCount b) where
+module _ (b : List ℕ) (count size : ℕ) (t : List ℕ) (set n end : ℕ) (z : Adding b count size t set n) (ee : end ≡ nodeCount b) where
   pub adding-next : n < end → (x : layout.Node) → getElem? (readForm b .nodes) n ≡ some (nodeOf x)
       → (t′ : List ℕ) → Added (nodeOf x) n count t t′
       → (set′ : ℕ) → ((m : ℕ) → bitAt set′ m ≡ (bitAt set m || (eqb m n && isLoose (nodeOf x))))
-      → Adding b count t′ set′ (n + 1)
+      → Adding b count size t′ set′ (n + 1)
   adding-next h x e t′ a set′ more = record {
     nodes = z .nodes;
-    few = z .few;
+    room = z .room;
     long = a .long ∙ z .long;
     at = λ k l. upto-next b (λ y. owns y k) n (getD t k 0) (z .at k l) (nodeOf x) e (getD t′ k 0) (a .at k l);
     loose = upto-next b isLoose n set (z .loose) (nodeOf x) e set′ more;
@@ -154,8 +164,7 @@ module _ (b : List ℕ) (count : ℕ) (t : List ℕ) (set n end : ℕ) (z : Addi
 
   pub owners-made : end ≤ n → Owners b count t
   owners-made h = record {
-    few = z .few;
-    long = z .long;
+    long = rw (z .long) (z .room);
     at = λ k l. upto-last b (λ x. owns x k) n (getD t k 0) (omega arith) (z .at k l);
   }
 

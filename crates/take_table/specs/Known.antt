@@ -1,9 +1,9 @@
--- Which flags and arguments each item matches, as bits: bit k of word i is set if item i has one of the names of node k.
+-- Which flags and arguments each item matches, as bits: bit k of word i + 1 is set if item i has one of the names of node k.
 use mathlib.Core.Bool.{Bool, false, _&&_, _||_}
 use mathlib.Core.List.{List}
 use mathlib.Core.Option.{some}
 use mathlib.Core.Path.{_≡_}
-use Prim.Native.Nat.{ℕ, _%_, _≤_, _<_}
+use Prim.Native.Nat.{ℕ, _+_, _%_, _≤_, _<_}
 use lib.Dec.{eqb}
 use lib.ListN.{length, getD, getElem?}
 use Rattle.rules.specs.Form.{Node, readForm}
@@ -45,15 +45,15 @@ pub record Matchable (b codes s words : List ℕ) (n : ℕ) : Type 0 where
 abbrev pub MatchSet : List ℕ → List ℕ → List ℕ → ℕ → ℕ → Type 0
 MatchSet b area words i set = (x : Item) → itemFrom area (recordAt words i) ≡ some x → SetOf b (λ y. nodeMatches b y x) set
 
--- the table of the first n items; word 256 has every node that one of them matches
+-- the table of the first n items; word 0 has every node that one of them matches
 pub record Known (b area words : List ℕ) (n : ℕ) (table : List ℕ) : Type 0 where
-  pub long : 257 ≤ length table
+  pub long : n < length table
   pub few : n ≤ 256
   pub at : (i : ℕ) (x : Item) → i < n → itemFrom area (recordAt words i) ≡ some x
-      → SetOf b (λ y. nodeMatches b y x) (getD table i 0)
-  pub any : (k : ℕ) → bitAt (getD table 256 0) k ≡ false → (i : ℕ) → i < n → bitAt (getD table i 0) k ≡ false
+      → SetOf b (λ y. nodeMatches b y x) (getD table (i + 1) 0)
+  pub any : (k : ℕ) → bitAt (getD table 0 0) k ≡ false → (i : ℕ) → i < n → bitAt (getD table (i + 1) 0) k ≡ false
 
--- of the first n items, the bits of a node are a test; a node that word 256 does not have is in none of them
+-- of the first n items, the bits of a node are a test; a node that word 0 does not have is in none of them
 pub record TableTells (table : List ℕ) (n node : ℕ) (area words : List ℕ) (test : Item → Bool) : Type 0 where
-  pub at : (i : ℕ) (x : Item) → i < n → itemFrom area (recordAt words i) ≡ some x → bitAt (getD table i 0) node ≡ test x
-  pub none : bitAt (getD table 256 0) node ≡ false → (i : ℕ) → i < n → bitAt (getD table i 0) node ≡ false
+  pub at : (i : ℕ) (x : Item) → i < n → itemFrom area (recordAt words i) ≡ some x → bitAt (getD table (i + 1) 0) node ≡ test x
+  pub none : bitAt (getD table 0 0) node ≡ false → (i : ℕ) → i < n → bitAt (getD table (i + 1) 0) node ≡ false

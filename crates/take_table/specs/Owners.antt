@@ -4,7 +4,7 @@ use mathlib.Core.List.{List}
 use mathlib.Core.Path.{_≡_}
 use Prim.Native.Nat.{ℕ, _+_, _<_, _≤_}
 use lib.Dec.{eqb, leb, ltb}
-use lib.ListN.{length, getD}
+use lib.ListN.{length, getD, replicate}
 use Rattle.rules.specs.Base.{contains}
 use Rattle.rules.specs.Form.{Node, nameCount}
 use Rattle.rules.specs.Take.{containsName}
@@ -17,10 +17,14 @@ use Rattle.take_table.specs.Known.{isNamed, isAdjacent, SetOf}
 unfoldable pub owns : Node → ℕ → Bool
 owns x k = isNamed x && (leb (x .p) k && ltb k (x .p + x .q))
 
+-- room for the owners of `count` name records, all 0
+pub record NoOwners (count : ℕ) (table : List ℕ) : Type 0 where
+  pub long : count ≤ length table
+  pub zeros : table ≡ replicate (length table) 0
+
 -- for each name record, the nodes that have it
 pub record Owners (b : List ℕ) (count : ℕ) (table : List ℕ) : Type 0 where
-  pub few : count ≤ 128
-  pub long : length table ≡ 128
+  pub long : count ≤ length table
   pub at : (k : ℕ) → k < count → SetOf b (λ x. owns x k) (getD table k 0)
 
 -- node n is added to the sets of its names

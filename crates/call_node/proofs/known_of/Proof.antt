@@ -1,5 +1,6 @@
 use borrow.Author.Needs.{needs}
-use Rattle.call_node.proofs.Answers.{known-long, known-matchable}
+use Rattle.run_fields.proofs.Fields.{table-room}
+use Rattle.call_node.proofs.Answers.{known-matchable}
 use Rattle.call_node.proofs.known_of.Statement.{statement}
 use Rattle.call_node.proofs.known_of.Tie as tie
 
@@ -12,8 +13,11 @@ nothing-known-requires c κs = search needs
 slice-aggregate-known : tie.Need-slice-aggregate-known
 slice-aggregate-known c = search needs
 
+slice-aggregate-known-2 : tie.Need-slice-aggregate-known-2
+slice-aggregate-known-2 c = search needs
+
 known-requires : tie.Need-known-requires
-known-requires c κs = (search known-matchable, search needs, search known-long)
+known-requires c κs = (search known-matchable, search needs, search (table-room, needs))
 
 returns : tie.Need-returns
 returns c = search needs
@@ -25,5 +29,6 @@ known-of-spec =
     codes-of-requires
     nothing-known-requires
     slice-aggregate-known
+    slice-aggregate-known-2
     known-requires
     returns)

@@ -25,6 +25,13 @@ slice-aggregate-run-value c = search needs
 run-value-requires : tie.Need-run-value-requires
 run-value-requires c κs = search node-stands
 
+slice-aggregate-list-missing : tie.Need-slice-aggregate-list-missing
+slice-aggregate-list-missing c =
+    let by-run-value = c .before .before .before .before .before .before in
+    let by-node-mark = by-run-value .before .before .before .before in
+    let by-known-of = by-node-mark .before .before .before in
+    search (needs, by-known-of .known-of .ok)
+
 list-missing-requires : tie.Need-list-missing-requires
 list-missing-requires c κs =
     let by-if1 = c .before .before .before .before in
@@ -103,6 +110,7 @@ run-admitted-spec =
     node-mark-requires
     slice-aggregate-run-value
     run-value-requires
+    slice-aggregate-list-missing
     list-missing-requires
     answered-requires
     same-length

@@ -11,16 +11,16 @@ returns : tie.Need-returns
 returns c =
     let by-is-list = c .before in
     let is-list = by-is-list .is-list in
-    let pre = by-is-list .before .before .before .before .before .pre in
+    let pre = by-is-list .before .before .before .before .before .before .pre in
     list-lists pre (is-list .ensures) (c .if1 .taken)
 
 list-node-requires : tie.Need-list-node-requires
 list-node-requires c κs =
-    let by-if1 = c .before .before in
+    let by-if1 = c .before in
     let if1 = by-if1 .if1 in
     let by-is-list = by-if1 .before in
     let is-list = by-is-list .is-list in
-    let pre = by-is-list .before .before .before .before .before .pre in
+    let pre = by-is-list .before .before .before .before .before .before .pre in
     node-ready pre (is-list .ensures) (if1 .left)
 
 same-length : tie.Need-same-length

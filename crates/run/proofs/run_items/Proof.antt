@@ -1,81 +1,27 @@
--- Every item is matched with the nodes, then the fields are run; refused with 20, the list is written. Assumes nothing.
-use native.Mathlib.Omega.{arith}
+-- Every item is matched with the nodes, in a table with room for the line; then the fields are run. Assumes nothing.
 use borrow.Author.Needs.{needs}
-use Rattle.run.proofs.Runs.{table-long, items-few, items-matchable, items-start}
-use Rattle.run.proofs.Runs.{unlisted-runs, list-good, list-inside, list-number, list-begins, list-runs}
+use Rattle.run_fields.proofs.Fields.{table-room}
+use Rattle.run.proofs.Runs.{items-few, items-matchable, items-start}
 use Rattle.run.proofs.run_items.Statement.{statement}
 use Rattle.run.proofs.run_items.Tie as tie
-
-nothing-known-requires : tie.Need-nothing-known-requires
-nothing-known-requires c κs = search needs
 
 wide-requires : tie.Need-wide-requires
 wide-requires c κs = search needs
 
+little-known-requires : tie.Need-little-known-requires
+little-known-requires c κs = search needs
+
+slice-aggregate-known : tie.Need-slice-aggregate-known
+slice-aggregate-known c = search needs
+
 known-requires : tie.Need-known-requires
-known-requires c κs = (search items-matchable, search items-few, search table-long)
+known-requires c κs = (search items-matchable, search items-few, search (table-room, needs))
 
-run-fields-requires : tie.Need-run-fields-requires
-run-fields-requires c κs = search items-start
+slice-aggregate-run-known : tie.Need-slice-aggregate-run-known
+slice-aggregate-run-known c = search needs
 
-field-at-requires : tie.Need-field-at-requires
-field-at-requires c κs =
-    let by-run-fields = c .before .before .before .before in
-    let run-fields = by-run-fields .run-fields in
-    let by-known2 = by-run-fields .before .before .before .before in
-    let known2 = by-known2 .known2 in
-    let by-wide = by-known2 .before .before in
-    let wide = by-wide .wide in
-    let pre = by-wide .before .before .before .before .before .before .before .before .pre in (
-      list-good _ _ _ _ _ _ _ _ _ pre _ (wide .ensures) _ (known2 .ensures) _ _ _ (run-fields .ensures) (c .if1 .taken),
-      list-inside _ _ _ _ _ _ _ _ _
-          pre _ (wide .ensures) _ (known2 .ensures) _ _ _ (run-fields .ensures) (c .if1 .taken),
-    )
-
-add-field-mark : tie.Need-add-field-mark
-add-field-mark c =
-    let by-if1 = c .before .before in
-    let if1 = by-if1 .if1 in
-    let by-run-fields = by-if1 .before .before .before .before in
-    let run-fields = by-run-fields .run-fields in
-    let by-known2 = by-run-fields .before .before .before .before in
-    let known2 = by-known2 .known2 in
-    let by-wide = by-known2 .before .before in
-    let wide = by-wide .wide in
-    let pre = by-wide .before .before .before .before .before .before .before .before .pre in
-    let fits = list-number _ _ _ _ _ _ _ _ _ pre _ (wide .ensures) _ (known2 .ensures) _ _ _ (run-fields .ensures) (if1 .taken) in
-    record { fits = omega (arith, fits) }
-
-field-mark-requires : tie.Need-field-mark-requires
-field-mark-requires c κs =
-    let by-if1 = c .before .before in
-    let if1 = by-if1 .if1 in
-    let by-run-fields = by-if1 .before .before .before .before in
-    let run-fields = by-run-fields .run-fields in
-    let by-known2 = by-run-fields .before .before .before .before in
-    let known2 = by-known2 .known2 in
-    let by-wide = by-known2 .before .before in
-    let wide = by-wide .wide in
-    let pre = by-wide .before .before .before .before .before .before .before .before .pre in
-    list-number _ _ _ _ _ _ _ _ _ pre _ (wide .ensures) _ (known2 .ensures) _ _ _ (run-fields .ensures) (if1 .taken)
-
-list-missing-requires : tie.Need-list-missing-requires
-list-missing-requires c κs =
-    let by-field-mark = c .before .before .before .before in
-    let field-mark = by-field-mark .field-mark in
-    let by-field-at = by-field-mark .before .before in
-    let field-at = by-field-at .field-at in
-    let by-if1 = by-field-at .before in
-    let if1 = by-if1 .if1 in
-    let by-run-fields = by-if1 .before .before .before .before in
-    let run-fields = by-run-fields .run-fields in
-    let by-known2 = by-run-fields .before .before .before .before in
-    let known2 = by-known2 .known2 in
-    let by-wide = by-known2 .before .before in
-    let wide = by-wide .wide in
-    let pre = by-wide .before .before .before .before .before .before .before .before .pre in
-    list-begins _ _ _ _ _ _ _ _ _ pre _ (wide .ensures) _ (known2 .ensures) _ _ _ (run-fields .ensures) (if1 .taken) _ (field-at .ensures) _
-    (field-mark .ensures)
+run-known-requires : tie.Need-run-known-requires
+run-known-requires c κs = (search items-start, search needs)
 
 same-length : tie.Need-same-length
 same-length c = search needs
@@ -84,53 +30,50 @@ same-length-2 : tie.Need-same-length-2
 same-length-2 c = search needs
 
 returns : tie.Need-returns
-returns c =
-    let by-list-missing = c .before .before in
-    let list-missing = by-list-missing .list-missing in
-    let by-field-mark = by-list-missing .before .before .before .before .before in
-    let field-mark = by-field-mark .field-mark in
-    let by-field-at = by-field-mark .before .before in
-    let field-at = by-field-at .field-at in
-    let by-if1 = by-field-at .before in
-    let if1 = by-if1 .if1 in
-    let by-run-fields = by-if1 .before .before .before .before in
-    let run-fields = by-run-fields .run-fields in
-    let by-known2 = by-run-fields .before .before .before .before in
-    let known2 = by-known2 .known2 in
-    let by-wide = by-known2 .before .before in
-    let wide = by-wide .wide in
-    let pre = by-wide .before .before .before .before .before .before .before .before .pre in
-    list-runs _ _ _ _ _ _ _ _ _ pre _ (wide .ensures) _ (known2 .ensures) _ _ _ (run-fields .ensures) (if1 .taken) _ (field-at .ensures) _
-    (field-mark .ensures) _ _ (list-missing .ensures)
+returns c = search needs
+
+nothing-known-requires : tie.Need-nothing-known-requires
+nothing-known-requires c κs = search needs
+
+slice-aggregate-known-2 : tie.Need-slice-aggregate-known-2
+slice-aggregate-known-2 c = search needs
+
+known-requires-2 : tie.Need-known-requires-2
+known-requires-2 c κs = (search items-matchable, search items-few, search (table-room, items-few, needs))
+
+slice-aggregate-run-known-2 : tie.Need-slice-aggregate-run-known-2
+slice-aggregate-run-known-2 c = search needs
+
+run-known-requires-2 : tie.Need-run-known-requires-2
+run-known-requires-2 c κs = (search items-start, search needs)
 
 same-length-3 : tie.Need-same-length-3
 same-length-3 c = search needs
 
+same-length-4 : tie.Need-same-length-4
+same-length-4 c = search needs
+
 returns-2 : tie.Need-returns-2
-returns-2 c =
-    let by-run-fields = c .before .before .before .before in
-    let run-fields = by-run-fields .run-fields in
-    let by-known2 = by-run-fields .before .before .before .before in
-    let known2 = by-known2 .known2 in
-    let by-wide = by-known2 .before .before in
-    let wide = by-wide .wide in
-    let pre = by-wide .before .before .before .before .before .before .before .before .pre in
-    unlisted-runs _ _ _ _ _ _ _ _ _ pre _ (wide .ensures) _ (known2 .ensures) _ _ _ (run-fields .ensures) (c .if1 .left)
+returns-2 c = search needs
 
 pub run-items-spec : {M : Type 1} → statement M
 run-items-spec =
     tie.close
     (tie.spec
-    nothing-known-requires
     wide-requires
+    little-known-requires
+    slice-aggregate-known
     known-requires
-    run-fields-requires
-    field-at-requires
-    add-field-mark
-    field-mark-requires
-    list-missing-requires
+    slice-aggregate-run-known
+    run-known-requires
     same-length
     same-length-2
     returns
+    nothing-known-requires
+    slice-aggregate-known-2
+    known-requires-2
+    slice-aggregate-run-known-2
+    run-known-requires-2
     same-length-3
+    same-length-4
     returns-2)

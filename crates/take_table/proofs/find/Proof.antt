@@ -41,6 +41,9 @@ shared-slice-read-is-present c = search needs
 is-present-requires : tie.Need-is-present-requires Inv-loop μ-loop
 is-present-requires c κs = search needs
 
+add-has : tie.Need-add-has Inv-loop μ-loop
+add-has c = search needs
+
 mul-has : tie.Need-mul-has Inv-loop μ-loop
 mul-has c = search needs
 
@@ -105,6 +108,7 @@ find-spec =
     mul-is-present
     shared-slice-read-is-present
     is-present-requires
+    add-has
     mul-has
     shared-slice-read-has
     has-requires

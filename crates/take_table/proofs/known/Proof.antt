@@ -1,79 +1,55 @@
--- Invariant: the words of the first i items are there, and `all` is their union. Assumes nothing.
-use Prim.Native.Nat.{_-_}
+-- A form with few names gets few owners. Assumes nothing.
 use borrow.Author.Needs.{needs}
-use Rattle.rules.specs.Sheet.{sheetArea}
 use Rattle.form_layout.proofs.Sizes.{names-long}
-use Rattle.take_table.proofs.Lookups.{Listing, listing-first, listing-next, listing-last, item-there}
+use Rattle.take_table.proofs.Owners.{cleared, all-cleared}
 use Rattle.take_table.proofs.known.Statement.{statement}
 use Rattle.take_table.proofs.known.Tie as tie
 
-abbrev Inv-loop : tie.InvT-loop
-Inv-loop form codes sheet items count table₀ names owners loose all₀ i₀ table all i = Listing form (sheetArea sheet) items count table all i
-
-abbrev μ-loop : tie.MeasureT-loop
-μ-loop form codes sheet items count table₀ names owners loose all₀ i₀ table all i = count - i
-
-name-count-requires : tie.Need-name-count-requires Inv-loop μ-loop
+name-count-requires : tie.Need-name-count-requires
 name-count-requires c κs = search (names-long, needs)
 
-no-owners-requires : tie.Need-no-owners-requires Inv-loop μ-loop
+no-few-owners-requires : tie.Need-no-few-owners-requires
+no-few-owners-requires c κs = search needs
+
+slice-aggregate-known-by : tie.Need-slice-aggregate-known-by
+slice-aggregate-known-by c = search needs
+
+known-by-requires : tie.Need-known-by-requires
+known-by-requires c κs = search (cleared, needs)
+
+no-owners-requires : tie.Need-no-owners-requires
 no-owners-requires c κs = search needs
 
-mark-nodes-requires : tie.Need-mark-nodes-requires Inv-loop μ-loop
-mark-nodes-requires c κs = search needs
+slice-aggregate-known-by-2 : tie.Need-slice-aggregate-known-by-2
+slice-aggregate-known-by-2 c = search needs
 
-loop-holds : tie.Need-loop-holds Inv-loop μ-loop
-loop-holds c = search listing-first
+known-by-requires-2 : tie.Need-known-by-requires-2
+known-by-requires-2 c κs = search (all-cleared, needs)
 
-matching-requires : tie.Need-matching-requires Inv-loop μ-loop
-matching-requires c κs = search (item-there, needs)
+same-length : tie.Need-same-length
+same-length c = search needs
 
-mul-table : tie.Need-mul-table Inv-loop μ-loop
-mul-table c = search needs
+returns : tie.Need-returns
+returns c = search needs
 
-element-write-table : tie.Need-element-write-table Inv-loop μ-loop
-element-write-table c = search needs
+same-length-2 : tie.Need-same-length-2
+same-length-2 c = search needs
 
-union-requires : tie.Need-union-requires Inv-loop μ-loop
-union-requires c κs = search needs
-
-add-i : tie.Need-add-i Inv-loop μ-loop
-add-i c = search needs
-
-loop-less : tie.Need-loop-less Inv-loop μ-loop
-loop-less c = search needs
-
-loop-again : tie.Need-loop-again Inv-loop μ-loop
-loop-again c =
-    let by-matching = c .before in
-    let matching = by-matching .matching in
-    let by-loop-test = by-matching .before .before in
-    let loop-test = by-loop-test .loop-test in
-    let loop = by-loop-test .before .loop in
-    listing-next _ _ _ _ _ _ _ (loop .inv) (loop-test .taken) _ (matching .ensures) _ (c .union .ensures)
-
-element-write-table-2 : tie.Need-element-write-table-2 Inv-loop μ-loop
-element-write-table-2 c = search needs
-
-returns : tie.Need-returns Inv-loop μ-loop
-returns c = search listing-last
+returns-2 : tie.Need-returns-2
+returns-2 c = search needs
 
 pub known-spec : {M : Type 1} → statement M
 known-spec =
     tie.close
     (tie.spec
-    Inv-loop
-    μ-loop
     name-count-requires
+    no-few-owners-requires
+    slice-aggregate-known-by
+    known-by-requires
     no-owners-requires
-    mark-nodes-requires
-    loop-holds
-    matching-requires
-    mul-table
-    element-write-table
-    union-requires
-    add-i
-    loop-less
-    loop-again
-    element-write-table-2
-    returns)
+    slice-aggregate-known-by-2
+    known-by-requires-2
+    same-length
+    returns
+    same-length-2
+    returns-2)

@@ -21,8 +21,8 @@ is-long-requires c κs = search needs
 mul-union : tie.Need-mul-union Inv-loop μ-loop
 mul-union c = search needs
 
-element-copy-out-union : tie.Need-element-copy-out-union Inv-loop μ-loop
-element-copy-out-union c = search needs
+shared-slice-read-union : tie.Need-shared-slice-read-union Inv-loop μ-loop
+shared-slice-read-union c = search needs
 
 union-requires : tie.Need-union-requires Inv-loop μ-loop
 union-requires c κs = search needs
@@ -41,7 +41,7 @@ loop-again c =
     let loop-test = by-loop-test .loop-test in
     let by-loop = by-loop-test .before in
     let loop = by-loop .loop in
-    let pre = by-loop .before .before .before .pre in
+    let pre = by-loop .before .before .before .before .pre in
     let given = pre in
     let z = loop .inv in
     let below = loop-test .taken in
@@ -63,7 +63,7 @@ long-owners-spec =
     loop-holds
     is-long-requires
     mul-union
-    element-copy-out-union
+    shared-slice-read-union
     union-requires
     add-k
     loop-less

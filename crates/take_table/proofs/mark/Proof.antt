@@ -18,11 +18,11 @@ loop-holds c = search marking-first
 mul-owners : tie.Need-mul-owners Inv-loop μ-loop
 mul-owners c = search needs
 
-element-copy-out-owners : tie.Need-element-copy-out-owners Inv-loop μ-loop
-element-copy-out-owners c = search needs
+slice-read-owners : tie.Need-slice-read-owners Inv-loop μ-loop
+slice-read-owners c = search needs
 
-element-write-owners : tie.Need-element-write-owners Inv-loop μ-loop
-element-write-owners c = search needs
+slice-write-owners : tie.Need-slice-write-owners Inv-loop μ-loop
+slice-write-owners c = search needs
 
 add-k : tie.Need-add-k Inv-loop μ-loop
 add-k c = search needs
@@ -39,6 +39,9 @@ loop-again c =
     let pre = by-loop .before .pre in
     marking-next _ _ _ _ _ _ (loop .inv) (loop-test .taken) (omega (arith, pre))
 
+same-length : tie.Need-same-length Inv-loop μ-loop
+same-length c = search needs
+
 returns : tie.Need-returns Inv-loop μ-loop
 returns c = search marking-last
 
@@ -50,9 +53,10 @@ mark-spec =
     μ-loop
     loop-holds
     mul-owners
-    element-copy-out-owners
-    element-write-owners
+    slice-read-owners
+    slice-write-owners
     add-k
     loop-less
     loop-again
+    same-length
     returns)

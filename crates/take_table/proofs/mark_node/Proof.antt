@@ -19,9 +19,12 @@ names-end-requires c κs = search needs
 mark-requires : tie.Need-mark-requires
 mark-requires c κs = search needs
 
+same-length : tie.Need-same-length
+same-length c = search needs
+
 returns-3 : tie.Need-returns-3
 returns-3 c = search marked
 
 pub mark-node-spec : {M : Type 1} → statement M
 mark-node-spec =
-    tie.close (tie.spec returns returns-2 only-requires names-end-requires mark-requires returns-3)
+    tie.close (tie.spec returns returns-2 only-requires names-end-requires mark-requires same-length returns-3)

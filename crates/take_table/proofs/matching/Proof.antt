@@ -26,7 +26,7 @@ part-bytes-requires c κs =
     let item2 = by-item2 .item2 in
     let by-read-item = by-item2 .before .before in
     let read-item = by-read-item .read-item in
-    let before = by-read-item .before .before .before .before .before in
+    let before = by-read-item .before .before .before .before .before .before in
     let start = before in
     long-part _ _ _ (start .pre .1) _ (read-item .ensures) _ _ _ (item2 .given .1)
 
@@ -44,7 +44,7 @@ returns c =
     let item = by-item .item in
     let by-read-item = by-item .before .before in
     let read-item = by-read-item .read-item in
-    let before = by-read-item .before .before .before .before .before in
+    let before = by-read-item .before .before .before .before .before .before in
     let start = before in
     let read = read-item .ensures in
     let short = item .given .1 in
@@ -61,7 +61,7 @@ returns-2 c =
     let item2 = by-item2 .item2 in
     let by-read-item = by-item2 .before .before in
     let read-item = by-read-item .read-item in
-    let before = by-read-item .before .before .before .before .before in
+    let before = by-read-item .before .before .before .before .before .before in
     let start = before in
     let read = read-item .ensures in
     let long = item2 .given .1 in
@@ -72,7 +72,7 @@ returns-3 : tie.Need-returns-3
 returns-3 c =
     let by-read-item = c .before in
     let read-item = by-read-item .read-item in
-    let before = by-read-item .before .before .before .before .before in
+    let before = by-read-item .before .before .before .before .before .before in
     let start = before in
     let read = read-item .ensures in
     none-matched _ _ _ _ _ (start .pre .0) _ (start .args .items .now) (start .args .i) _ read (c .match .keys3)

@@ -37,8 +37,8 @@ wide64-requires-2 c κs = search needs
 mul-union : tie.Need-mul-union Inv-loop μ-loop
 mul-union c = search needs
 
-element-copy-out-union : tie.Need-element-copy-out-union Inv-loop μ-loop
-element-copy-out-union c = search needs
+shared-slice-read-union : tie.Need-shared-slice-read-union Inv-loop μ-loop
+shared-slice-read-union c = search needs
 
 union-requires : tie.Need-union-requires Inv-loop μ-loop
 union-requires c κs = search needs
@@ -84,7 +84,7 @@ short-owners-spec =
     shared-slice-read-wide64
     wide64-requires-2
     mul-union
-    element-copy-out-union
+    shared-slice-read-union
     union-requires
     add-k
     loop-less
