@@ -55,7 +55,7 @@ or-right : (a b : Bool) → b ≡ true → (a || b) ≡ true
 or-right true b e = refl
 or-right false b e = e
 
-contains-more : (l m : List ℕ) (n : ℕ) → all (contains m) l ≡ true → contains l n ≡ true → contains m n ≡ true
+pub contains-more : (l m : List ℕ) (n : ℕ) → all (contains m) l ≡ true → contains l n ≡ true → contains m n ≡ true
 unfolding all contains
 contains-more [] m n h e = absurd (false≢true e)
 contains-more (x ∷ l) m n h e =
@@ -66,7 +66,7 @@ contains-more (x ∷ l) m n h e =
     go true g rest e = rw (eqb-true x n g) at (and-eq-true-iff (contains m x) (all (contains m) l) .0 h .0)
     go false g rest e = rest e
 
-numbers-contain : (m j n : ℕ) → j ≤ n → n < j + m → contains (numbers m j) n ≡ true
+pub numbers-contain : (m j n : ℕ) → j ≤ n → n < j + m → contains (numbers m j) n ≡ true
 unfolding numbers contains
 numbers-contain zero j n l h = absurd (omega arith)
 numbers-contain (suc m) j n l h =
@@ -112,7 +112,7 @@ some-answers n none = refuses (refuse n none) (rw (eq-eqb n n refl))
 some-answers n (some a) = answers a
 
 -- ---- what a call is given
-form-number : (b : List ℕ) (n : ℕ) (k : Option ℕ) → FormFault b n k → OneOf (1 ∷ 2 ∷ 3 ∷ 4 ∷ []) n
+pub form-number : (b : List ℕ) (n : ℕ) (k : Option ℕ) → FormFault b n k → OneOf (1 ∷ 2 ∷ 3 ∷ 4 ∷ []) n
 unfolding contains
 form-number b n k (badCounts c) = refl
 form-number b n k (badName i m c a h d) = refl
@@ -128,7 +128,7 @@ form-answers b = go (checkForm b) refl
     go (accepted a) e = rw (e, formIn) (answers a)
     go (refusedAt n k) e = rw (e, formIn) (refuses _ (form-number b n k (check-fault b n k e)))
 
-sheet-number : (s : List ℕ) (n : ℕ) → SheetFault s n → OneOf (6 ∷ 5 ∷ []) n
+pub sheet-number : (s : List ℕ) (n : ℕ) → SheetFault s n → OneOf (6 ∷ 5 ∷ []) n
 unfolding contains
 sheet-number s n (manyArguments c h) = refl
 sheet-number s n (badSheet m h) = refl
@@ -195,7 +195,7 @@ state-good fields n x s h =
     let p = and-eq-true-iff (eqb (x .count) n && zeros (drop (x .count) (x .marks))) (stateGood fields n (fromRaw x)) .0 t in
     rw (← e) (test-good fields n (fromRaw x) (p .1) .0)
 
-command-parsed : parsed commandMark ≡ true
+pub command-parsed : parsed commandMark ≡ true
 unfolding parsed markerMark commandMark
 command-parsed = refl
 
@@ -496,7 +496,7 @@ early = 1 ∷ 2 ∷ 3 ∷ 4 ∷ 6 ∷ 5 ∷ 7 ∷ 14 ∷ 30 ∷ 29 ∷ 28 ∷ []
 abbrev late : List ℕ
 late = 20 ∷ 21 ∷ 22 ∷ 23 ∷ 24 ∷ 25 ∷ 26 ∷ []
 
-form-checked : (b : List ℕ) (a : Accepted) → formIn b ≡ ok a → checkForm b ≡ accepted a
+pub form-checked : (b : List ℕ) (a : Accepted) → formIn b ≡ ok a → checkForm b ≡ accepted a
 unfolding formIn
 form-checked b a e = go (checkForm b) refl
   where

@@ -41,7 +41,7 @@ unfolding numbers
 numbers-length zero k = refl
 numbers-length (suc n) k = ap suc (numbers-length n (suc k))
 
-few-fields : (b : List ℕ) (a : Accepted) → checkForm b ≡ accepted a → length (a .fields) ≤ 16
+pub few-fields : (b : List ℕ) (a : Accepted) → checkForm b ≡ accepted a → length (a .fields) ≤ 16
 unfolding readForm
 few-fields b a e =
     let w = well-made b a e in

@@ -26,12 +26,12 @@ use Rattle.rules.proofs.Meanings.{line-meaning, accepted-mean}
 use Rattle.rules.proofs.WordsFix.{words-fix}
 
 -- what the visits of a trace say of its states, and of each evaluation
-visits-counted : (M : BaseValue → Type 0) (n : ℕ) (l : List Visit) → All (Visited M n) l → All Counted (statesOf l)
+pub visits-counted : (M : BaseValue → Type 0) (n : ℕ) (l : List Visit) → All (Visited M n) l → All Counted (statesOf l)
 unfolding statesOf
 visits-counted M n [] h = tt
 visits-counted M n (v ∷ l) h = (h .0 .given .counted, (h .0 .left .counted, visits-counted M n l (h .1)))
 
-visits-faultless : (M : BaseValue → Type 0) (n : ℕ) (l : List Visit) → All (Visited M n) l → All (λ (v : Visit). Faultless M (v .kind) (v .outcome)) l
+pub visits-faultless : (M : BaseValue → Type 0) (n : ℕ) (l : List Visit) → All (Visited M n) l → All (λ (v : Visit). Faultless M (v .kind) (v .outcome)) l
 visits-faultless M n l h = all-weaker (Visited M n) _ l (λ v x. x .faultless) h
 
 -- a line that splitting does not refuse is good

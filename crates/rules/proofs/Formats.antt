@@ -758,7 +758,7 @@ bytes-append : (a b : List ℕ) → Bytes a → Bytes b → Bytes (a ++ b)
 bytes-append [] b p q = q
 bytes-append (x ∷ a) b p q = bytes-cons x (a ++ b) (p 0) (bytes-append a b (λ k. p (suc k)) q)
 
-bytes-take : (n : ℕ) (b : List ℕ) → Bytes b → Bytes (take n b)
+pub bytes-take : (n : ℕ) (b : List ℕ) → Bytes b → Bytes (take n b)
 bytes-take zero b small = bytes-nil
 bytes-take (suc n) [] small = bytes-nil
 bytes-take (suc n) (x ∷ b) small = bytes-cons x (take n b) (small 0) (bytes-take n b (λ k. small (suc k)))

@@ -58,3 +58,6 @@ pub mod CallsPass
 pub mod Demand3Holds
 pub mod Demand1Holds
 pub mod MissingReported
+-- Commands
+pub mod CommandLaws
+pub mod CommandLinesHold

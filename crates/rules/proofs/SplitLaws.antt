@@ -338,7 +338,7 @@ module _ (l : Letters) (k : ℕ) (args : List (List ℕ)) (x : Split) (e : split
   split-is : splits l k args .split ≡ x
   split-is = ok-injective (sym (splits l k args .same) ∙ e)
 
-  split-ended : Ended k (length (itemsOf x)) (hasMarker args) (x .marker) (x .ambiguous)
+  pub split-ended : Ended k (length (itemsOf x)) (hasMarker args) (x .marker) (x .ambiguous)
   split-ended = rw split-is at (splits l k args .ended)
 
   -- there is an argument for each group
@@ -499,7 +499,7 @@ pub record LineGood (args : List (List ℕ)) (l : Line) : Type 0 where
   pub refusal : (e : Refusal) → l .refusal ≡ some e → (i : ℕ) × (e ≡ refuse 9 (some i)) × (i < length (l .items))
   pub unparsed : (e : Refusal) → l .refusal ≡ some e → l .state .remaining ≡ length (l .items)
 
-marker-below : (n : ℕ) (has : Bool) (m a : Option ℕ) → Ended 0 n has m a → Within n m
+pub marker-below : (n : ℕ) (has : Bool) (m a : Option ℕ) → Ended 0 n has m a → Within n m
 marker-below n has none none h = tt
 marker-below n has (some i) none h = omega arith
 marker-below n has none (some i) h = tt
@@ -528,7 +528,7 @@ marker-parsed : parsed markerMark ≡ true
 unfolding parsed markerMark
 marker-parsed = refl
 
-line-of :
+pub line-of :
     (l : Letters) (args : List (List ℕ)) (x : Split)
     → splitFrom l 0 args ≡ ok x
     → (y : Line) × (lineOf args x ≡ ok y) × ((y ≡ tooMany) ⊎ LineGood args y)

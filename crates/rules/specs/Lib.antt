@@ -12,6 +12,7 @@ pub mod Take
 pub mod Eval
 pub mod Given
 pub mod Run
+pub mod Commands
 pub mod Bench
 pub mod Codes
 pub mod Calls
@@ -23,6 +24,8 @@ pub mod Sound
 pub mod WellMade
 pub mod Answered
 pub mod CallsAnswered
+pub mod CommandsAnswered
+pub mod CommandLines
 pub mod Portable
 pub mod Clusters
 pub mod Missing
