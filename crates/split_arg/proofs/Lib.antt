@@ -1,4 +1,5 @@
 pub mod Equals
 pub mod Names
 pub mod LookUp
+pub mod Order
 pub mod Records

@@ -1,3 +1,4 @@
 pub mod Parts
 pub mod Clusters
+pub mod Order
 pub mod Items

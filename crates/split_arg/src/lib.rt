@@ -10,6 +10,7 @@ ghost use Rattle.rules.specs.Outcome.{ok};
 ghost use Rattle.rules.specs.Split.{splitLong, splitShort, splitOsArgument};
 ghost use Rattle.split_arg.specs.Parts.{equalsFrom, TellsParts};
 ghost use Rattle.split_arg.specs.Clusters.{letters, LooksUp, Disambiguates};
+ghost use Rattle.split_arg.specs.Order.{Ascending, Searchable, CanLookUp, Parted};
 ghost use Rattle.split_arg.specs.Items.{bitOf, partOf, recordOf, recordAt, itemOf};
 use utf8::Decoded;
 
@@ -124,7 +125,10 @@ pub enum Outcome {
     },
 }
 
-fn contains(s: &[u32], letter: u32) -> bool
+// A list of at most this many letters, as those of one form, is scanned in any order. A longer one is in rising order.
+const SCANNED: usize = 128;
+
+fn scan(s: &[u32], letter: u32) -> bool
     ensures { λ r. ⌜ r ≡ has (now (s .entry)) letter ⌝ }
 {
     let mut i = 0;
@@ -135,6 +139,35 @@ fn contains(s: &[u32], letter: u32) -> bool
         i += 1;
     }
     false
+}
+
+// By halves: how many letters of a list in rising order are below this one, which stands behind them or nowhere.
+pub fn place(s: &[u32], letter: u32) -> usize
+    requires { ⌜ Ascending (now s) ⌝ }
+    ensures { λ r. ⌜ Parted (now (s .entry)) letter r ⌝ }
+{
+    let mut low = 0;
+    let mut high = s.len();
+    while low < high {
+        let middle = low + (high - low) / 2;
+        if s[middle] < letter {
+            low = middle + 1;
+        } else {
+            high = middle;
+        }
+    }
+    low
+}
+
+fn search(s: &[u32], letter: u32) -> bool
+    requires { ⌜ Ascending (now s) ⌝ }
+    ensures { λ r. ⌜ r ≡ has (now (s .entry)) letter ⌝ }
+{
+    let at = place(s, letter);
+    if at == s.len() {
+        return false;
+    }
+    s[at] == letter
 }
 
 // The letter at a place. Most letters are ASCII, and are not decoded.
@@ -153,6 +186,50 @@ pub fn letter_at(name: &[u8], at: usize) -> Decoded
 // Each letter of the name is looked up among those of flags and of arguments.
 fn look_up(name: &[u8], flags: &[u32], arguments: &[u32]) -> Outcome
     requires { ⌜ wellFormed (now name) ≡ true ⌝ }
+    ensures { λ r. ⌜ LooksUp (letters (now (flags .entry)) (now (arguments .entry))) (now (name .entry)) r ⌝ }
+{
+    let mut at = 0;
+    let mut before = 0;
+    let outcome = loop {
+        let Decoded::Char(letter, size) = letter_at(name, at) else {
+            break Outcome::AllFlags { before };
+        };
+        let flag = scan(flags, letter);
+        let argument = scan(arguments, letter);
+        if flag {
+            if argument {
+                break Outcome::Ambiguous { before };
+            }
+        } else {
+            if argument {
+                break Outcome::Argument {
+                    before,
+                    letter,
+                    rest: at + size,
+                };
+            }
+            break Outcome::Withdrawn { place: at };
+        }
+        at += size;
+        before += 1;
+    };
+    outcome
+}
+
+fn contains(s: &[u32], letter: u32) -> bool
+    requires { ⌜ Searchable (now s) ⌝ }
+    ensures { λ r. ⌜ r ≡ has (now (s .entry)) letter ⌝ }
+{
+    if s.len() <= SCANNED {
+        return scan(s, letter);
+    }
+    search(s, letter)
+}
+
+// The same where a list may be long. It stands apart: with a choice between scan and search for each letter the loop over a
+// short list takes longer.
+fn look_up_long(name: &[u8], flags: &[u32], arguments: &[u32]) -> Outcome
+    requires { ⌜ (wellFormed (now name) ≡ true) × CanLookUp (now flags) (now arguments) ⌝ }
     ensures { λ r. ⌜ LooksUp (letters (now (flags .entry)) (now (arguments .entry))) (now (name .entry)) r ⌝ }
 {
     let mut at = 0;
@@ -184,7 +261,7 @@ fn look_up(name: &[u8], flags: &[u32], arguments: &[u32]) -> Outcome
 }
 
 pub fn disambiguate_short(name: &[u8], flags: &[u32], arguments: &[u32]) -> Outcome
-    requires { ⌜ wellFormed (now name) ≡ true ⌝ }
+    requires { ⌜ (wellFormed (now name) ≡ true) × CanLookUp (now flags) (now arguments) ⌝ }
     ensures { λ r. ⌜ Disambiguates (letters (now (flags .entry)) (now (arguments .entry))) (now (name .entry)) r ⌝ }
 {
     let Decoded::Char(letter, size) = utf8::decode_at(name, 0) else {
@@ -193,7 +270,12 @@ pub fn disambiguate_short(name: &[u8], flags: &[u32], arguments: &[u32]) -> Outc
     if size == name.len() {
         return Outcome::Single { letter };
     }
-    look_up(name, flags, arguments)
+    if flags.len() <= SCANNED {
+        if arguments.len() <= SCANNED {
+            return look_up(name, flags, arguments);
+        }
+    }
+    look_up_long(name, flags, arguments)
 }
 
 // A part of the sheet's area.

@@ -5,6 +5,7 @@ ghost use lib.ListN.{length};
 ghost use Rattle.rules.specs.Base.{all};
 ghost use Rattle.rules.specs.Sheet.{sheetFault, arguments};
 ghost use Rattle.split_arg.specs.Clusters.{letters};
+ghost use Rattle.split_arg.specs.Order.{CanLookUp};
 ghost use Rattle.split_group.specs.Groups.{ArgumentFits, Makes};
 ghost use Rattle.state_marks.specs.Lent.{rawOf};
 ghost use Rattle.split_args.specs.Construct.{groupAt, markerAfter, plainArgument, startingState};
@@ -39,7 +40,7 @@ fn next_group(
     items: &mut [u32],
     at: usize,
 ) -> Group
-    requires { ⌜ ArgumentFits (now os) begin at ⌝ }
+    requires { ⌜ ArgumentFits (now os) begin at × CanLookUp (now flags) (now arguments) ⌝ }
     ensures { λ r. ⌜ Makes (now (os .entry)) begin at (now (items .entry)) (now (items .exit)) r (groupAt (letters (now (flags .entry)) (now (arguments .entry))) marker (now (os .entry))) ⌝ }
 {
     if marker == 0 {
@@ -57,7 +58,7 @@ fn marker_after(marker: usize, first: bool, at: usize) -> usize
 
 // The loop over the arguments, over a slice that is 0. `at` is the place of the next item.
 fn split_arguments(sheet: &[u8], flags: &[u32], arguments: &[u32], items: &mut [u32]) -> Ended
-    requires { ⌜ SheetAndZeros (now sheet) (now items) ⌝ }
+    requires { ⌜ SheetAndZeros (now sheet) (now items) × CanLookUp (now flags) (now arguments) ⌝ }
     ensures { λ r. ⌜ SplitEnds (letters (now (flags .entry)) (now (arguments .entry))) (now (sheet .entry)) (length (now (items .entry))) (now (items .exit)) r ⌝ }
 {
     let n = wire::u16_at(sheet, 0) as usize;
@@ -101,7 +102,7 @@ fn split_arguments(sheet: &[u8], flags: &[u32], arguments: &[u32], items: &mut [
 
 // The items of a sheet. What the state starts as is told by their count and by the place of the first `--`.
 pub fn construct(sheet: &[u8], flags: &[u32], arguments: &[u32], items: &mut [u32]) -> Ended
-    requires { ⌜ SheetAndRoom (now sheet) (now items) ⌝ }
+    requires { ⌜ SheetAndRoom (now sheet) (now items) × CanLookUp (now flags) (now arguments) ⌝ }
     ensures { λ r. ⌜ SplitEnds (letters (now (flags .entry)) (now (arguments .entry))) (now (sheet .entry)) (length (now (items .entry))) (now (items .exit)) r ⌝ }
 {
     wire::fill(items, 0, items.len(), 0);

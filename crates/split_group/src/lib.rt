@@ -10,6 +10,7 @@ ghost use Rattle.rules.specs.Outcome.{ok};
 ghost use Rattle.rules.specs.Split.{PosWord, plain, dash, wordGroup, shortGroup, splitArgument};
 ghost use Rattle.split_arg.specs.Items.{partOf, recordOf};
 ghost use Rattle.split_arg.specs.Clusters.{letters};
+ghost use Rattle.split_arg.specs.Order.{CanLookUp};
 ghost use Rattle.split_group.specs.Groups.{firstLetters, flagWords, ArgumentFits, ClusterIn, ValueIn, Flags, Puts, Makes, MakesValue};
 use split_arg::ITEMS;
 use split_arg::Item;
@@ -167,7 +168,7 @@ fn split_cluster(
     items: &mut [u32],
     at: usize,
 ) -> Group
-    requires { ⌜ ClusterIn (now os) begin at ⌝ }
+    requires { ⌜ ClusterIn (now os) begin at × CanLookUp (now flags) (now arguments) ⌝ }
     ensures { λ r. ⌜ Makes (now (os .entry)) begin at (now (items .entry)) (now (items .exit)) r (shortGroup (letters (now (flags .entry)) (now (arguments .entry))) (now (os .entry)) (drop 1 (now (os .entry))) none) ⌝ }
 {
     let len = os.len();
@@ -262,7 +263,7 @@ pub fn split_argument(
     items: &mut [u32],
     at: usize,
 ) -> Group
-    requires { ⌜ ArgumentFits (now os) begin at ⌝ }
+    requires { ⌜ ArgumentFits (now os) begin at × CanLookUp (now flags) (now arguments) ⌝ }
     ensures { λ r. ⌜ Makes (now (os .entry)) begin at (now (items .entry)) (now (items .exit)) r (splitArgument (letters (now (flags .entry)) (now (arguments .entry))) (now (os .entry))) ⌝ }
 {
     let len = os.len();

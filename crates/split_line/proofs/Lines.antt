@@ -2,7 +2,9 @@
 use mathlib.Core.List.{List}
 use mathlib.Core.Path.{_≡_, ap, _∙_}
 use Prim.Native.Nat.{ℕ, _-_}
-use lib.ListN.{replicate, take}
+use native.Mathlib.Omega.{arith}
+use lib.ListN.{length, replicate, take, length-replicate}
+use lib.Seq.{length-sets}
 use native.Mathlib.Nat.{sub-zero}
 use Rattle.rules.specs.Sheet.{arguments}
 use Rattle.rules.specs.Form.{Name, readForm}
@@ -12,6 +14,8 @@ use Rattle.form_layout.specs.Layout.{GoodNames}
 use Rattle.split_args.specs.declared.Ended.{Ended}
 use Rattle.split_args.specs.Construct.{SplitEnds}
 use Rattle.split_arg.specs.Clusters.{letters}
+use Rattle.split_arg.specs.Order.{CanLookUp}
+use Rattle.split_arg.proofs.Order.{part-searchable}
 use Rattle.form_letters.specs.Letters.{lettersByName, WroteLetters}
 use Rattle.form_letters.proofs.Order.{same-letters}
 use Rattle.form_layout.proofs.Sizes.{accepted-names}
@@ -22,6 +26,23 @@ use Rattle.split_line.specs.Input.{Splittable}
 
 pub splittable-names : (form sheet items : List ℕ) → Splittable form sheet items → GoodNames form
 splittable-names form sheet items r = accepted-names form (r .result) (r .accepts)
+
+-- a buffer holds so few letters that they are scanned
+pub scanned-letters :
+    (form : List ℕ) (o p : List ℕ) (n : ℕ) (q s : List ℕ) (m : ℕ)
+    → o ≡ replicate 128 0
+    → q ≡ replicate 128 0
+    → WroteLetters form 1 o p n
+    → WroteLetters form 2 q s m
+    → CanLookUp (take (n - 0) p) (take (m - 0) s)
+scanned-letters form o p n q s m zo zq wo wq = record {
+  in-flags = part-searchable (n - 0) p (omega (arith, long 1 o p n zo wo));
+  in-arguments = part-searchable (m - 0) s (omega (arith, long 2 q s m zq wq));
+}
+  where
+    long : (kind : ℕ) (o p : List ℕ) (n : ℕ) → o ≡ replicate 128 0 → WroteLetters form kind o p n → length p ≡ 128
+    long kind o p n z w =
+        ap length (w .words) ∙ length-sets o 0 (lettersByName (readForm form) kind) ∙ ap length z ∙ length-replicate {A = ℕ} 128 0
 
 -- the letters of both buffers are those of the form, in another order
 pub split-letters :

@@ -28,11 +28,11 @@ enum-known-letter c = search needs
 enum-told : tie.Need-enum-told Inv-loop μ-loop
 enum-told c = search needs
 
-contains-requires : tie.Need-contains-requires Inv-loop μ-loop
-contains-requires c κs = search needs
+scan-requires : tie.Need-scan-requires Inv-loop μ-loop
+scan-requires c κs = search needs
 
-contains-requires-2 : tie.Need-contains-requires-2 Inv-loop μ-loop
-contains-requires-2 c κs = search needs
+scan-requires-2 : tie.Need-scan-requires-2 Inv-loop μ-loop
+scan-requires-2 c κs = search needs
 
 add-t16 : tie.Need-add-t16 Inv-loop μ-loop
 add-t16 c =
@@ -74,16 +74,16 @@ loop-again : tie.Need-loop-again Inv-loop μ-loop
 loop-again c =
     let by-if1 = c .before in
     let if1 = by-if1 .if1 in
-    let by-contains2 = by-if1 .before in
-    let contains2 = by-contains2 .contains2 in
-    let by-contains = by-contains2 .before in
-    let contains = by-contains .contains in
-    let by-letter = by-contains .before .before in
+    let by-scan2 = by-if1 .before in
+    let scan2 = by-scan2 .scan2 in
+    let by-scan = by-scan2 .before in
+    let scan = by-scan .scan in
+    let by-letter = by-scan .before .before in
     let letter = by-letter .letter in
     let by-letter-at = by-letter .before .before in
     let letter-at = by-letter-at .letter-at in
     let loop = by-letter-at .before .loop in
-    a-flag _ _ _ _ _ (loop .inv) _ _ (sym (letter-at .ensures) ∙ letter .given .1) _ _ (contains .ensures) (contains2 .ensures) (if1 .taken)
+    a-flag _ _ _ _ _ (loop .inv) _ _ (sym (letter-at .ensures) ∙ letter .given .1) _ _ (scan .ensures) (scan2 .ensures) (if1 .taken)
     (c .if2 .left)
 
 returns : tie.Need-returns Inv-loop μ-loop
@@ -97,48 +97,48 @@ returns-2 : tie.Need-returns-2 Inv-loop μ-loop
 returns-2 c =
     let by-if1 = c .before in
     let if1 = by-if1 .if1 in
-    let by-contains2 = by-if1 .before in
-    let contains2 = by-contains2 .contains2 in
-    let by-contains = by-contains2 .before in
-    let contains = by-contains .contains in
-    let by-letter = by-contains .before .before in
+    let by-scan2 = by-if1 .before in
+    let scan2 = by-scan2 .scan2 in
+    let by-scan = by-scan2 .before in
+    let scan = by-scan .scan in
+    let by-letter = by-scan .before .before in
     let letter = by-letter .letter in
     let by-letter-at = by-letter .before .before in
     let letter-at = by-letter-at .letter-at in
     let loop = by-letter-at .before .loop in
-    both _ _ _ _ _ (loop .inv) _ _ (sym (letter-at .ensures) ∙ letter .given .1) _ _ (contains .ensures) (contains2 .ensures) (if1 .taken)
+    both _ _ _ _ _ (loop .inv) _ _ (sym (letter-at .ensures) ∙ letter .given .1) _ _ (scan .ensures) (scan2 .ensures) (if1 .taken)
     (c .if2 .taken)
 
 returns-3 : tie.Need-returns-3 Inv-loop μ-loop
 returns-3 c =
     let by-if1 = c .before in
     let if1 = by-if1 .if1 in
-    let by-contains2 = by-if1 .before in
-    let contains2 = by-contains2 .contains2 in
-    let by-contains = by-contains2 .before in
-    let contains = by-contains .contains in
-    let by-letter = by-contains .before .before in
+    let by-scan2 = by-if1 .before in
+    let scan2 = by-scan2 .scan2 in
+    let by-scan = by-scan2 .before in
+    let scan = by-scan .scan in
+    let by-letter = by-scan .before .before in
     let letter = by-letter .letter in
     let by-letter-at = by-letter .before .before in
     let letter-at = by-letter-at .letter-at in
     let loop = by-letter-at .before .loop in
-    an-argument _ _ _ _ _ (loop .inv) _ _ (sym (letter-at .ensures) ∙ letter .given .1) _ _ (contains .ensures) (contains2 .ensures) (if1 .left)
+    an-argument _ _ _ _ _ (loop .inv) _ _ (sym (letter-at .ensures) ∙ letter .given .1) _ _ (scan .ensures) (scan2 .ensures) (if1 .left)
     (c .if3 .taken)
 
 returns-4 : tie.Need-returns-4 Inv-loop μ-loop
 returns-4 c =
     let by-if1 = c .before in
     let if1 = by-if1 .if1 in
-    let by-contains2 = by-if1 .before in
-    let contains2 = by-contains2 .contains2 in
-    let by-contains = by-contains2 .before in
-    let contains = by-contains .contains in
-    let by-letter = by-contains .before .before in
+    let by-scan2 = by-if1 .before in
+    let scan2 = by-scan2 .scan2 in
+    let by-scan = by-scan2 .before in
+    let scan = by-scan .scan in
+    let by-letter = by-scan .before .before in
     let letter = by-letter .letter in
     let by-letter-at = by-letter .before .before in
     let letter-at = by-letter-at .letter-at in
     let loop = by-letter-at .before .loop in
-    neither _ _ _ _ _ (loop .inv) _ _ (sym (letter-at .ensures) ∙ letter .given .1) _ _ (contains .ensures) (contains2 .ensures) (if1 .left)
+    neither _ _ _ _ _ (loop .inv) _ _ (sym (letter-at .ensures) ∙ letter .given .1) _ _ (scan .ensures) (scan2 .ensures) (if1 .left)
     (c .if3 .left)
 
 pub look-up-spec : {M : Type 1} → statement M
@@ -151,8 +151,8 @@ look-up-spec =
     letter-at-requires
     enum-known-letter
     enum-told
-    contains-requires
-    contains-requires-2
+    scan-requires
+    scan-requires-2
     add-t16
     add-at
     add-before

@@ -8,7 +8,7 @@ fill-requires : tie.Need-fill-requires
 fill-requires c κs = search needs
 
 split-arguments-requires : tie.Need-split-arguments-requires
-split-arguments-requires c κs = search cleared
+split-arguments-requires c κs = (search cleared, search needs)
 
 same-length : tie.Need-same-length
 same-length c = search needs

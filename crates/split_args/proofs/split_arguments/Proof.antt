@@ -33,7 +33,7 @@ entry-requires : tie.Need-entry-requires Inv-loop μ-loop
 entry-requires c κs = search has-argument
 
 next-group-requires : tie.Need-next-group-requires Inv-loop μ-loop
-next-group-requires c κs = search fits-here
+next-group-requires c κs = (search fits-here, search needs)
 
 sub-if1 : tie.Need-sub-if1 Inv-loop μ-loop
 sub-if1 c = search needs

@@ -19,7 +19,7 @@ enum-told-2 : tie.Need-enum-told-2
 enum-told-2 c = search needs
 
 split-cluster-requires : tie.Need-split-cluster-requires
-split-cluster-requires c κs = search cluster-in
+split-cluster-requires c κs = (search cluster-in, search needs)
 
 enum-known-body : tie.Need-enum-known-body
 enum-known-body c = search needs

@@ -18,7 +18,7 @@ part-name-end : tie.Need-part-name-end
 part-name-end c = search needs
 
 disambiguate-short-requires : tie.Need-disambiguate-short-requires
-disambiguate-short-requires c κs = search name-good
+disambiguate-short-requires c κs = (search name-good, search needs)
 
 enum-known-letter : tie.Need-enum-known-letter
 enum-known-letter c = search needs

@@ -1,4 +1,5 @@
 use borrow.Author.Needs.{needs}
+use Rattle.split_arg.proofs.Order.{few-searchable}
 use Rattle.split_args.proofs.Plain.{plain-ends}
 use Rattle.split_line.proofs.split.Statement.{statement}
 use Rattle.split_line.proofs.split.Tie as tie
@@ -25,7 +26,7 @@ part-construct-end-2 : tie.Need-part-construct-end-2
 part-construct-end-2 c = search needs
 
 construct-requires : tie.Need-construct-requires
-construct-requires c κs = search needs
+construct-requires c κs = (search needs, search (few-searchable, needs))
 
 same-length : tie.Need-same-length
 same-length c = search needs

@@ -1,6 +1,6 @@
 use borrow.Author.Needs.{needs}
 use Rattle.form_letters.proofs.Words.{letters-fit}
-use Rattle.split_line.proofs.Lines.{splittable-names, split-letters}
+use Rattle.split_line.proofs.Lines.{splittable-names, scanned-letters, split-letters}
 use Rattle.split_line.proofs.split_clusters.Statement.{statement}
 use Rattle.split_line.proofs.split_clusters.Tie as tie
 
@@ -32,7 +32,7 @@ part-construct-end-2 : tie.Need-part-construct-end-2
 part-construct-end-2 c = search (letters-fit, splittable-names, needs)
 
 construct-requires : tie.Need-construct-requires
-construct-requires c κs = search needs
+construct-requires c κs = (search needs, search scanned-letters)
 
 same-length : tie.Need-same-length
 same-length c = search needs
