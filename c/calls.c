@@ -10,6 +10,7 @@
 #include "silverpoise.h"
 
 #define U16 SILVERPOISE_U16
+#define U32 SILVERPOISE_U32
 #define NODE SILVERPOISE_NODE
 #define NAME SILVERPOISE_NAME
 
@@ -49,12 +50,24 @@ static const uint8_t CHOICE[] = {
   U16(3), U16(1), U16(2), U16(2), U16(2), NODE(SILVERPOISE_NODE_ARGUMENT, 0, 1, SILVERPOISE_VALUE_TEXT, 0, 0),
   NODE(SILVERPOISE_NODE_ARGUMENT, 1, 1, SILVERPOISE_VALUE_TEXT, 0, 0), NODE(SILVERPOISE_NODE_CHOICE, 0, 1, 0, 0, 0),
   NAME(SILVERPOISE_NAME_SHORT, 0, 1), NAME(SILVERPOISE_NAME_SHORT, 1, 1), 'x', 'y'};
+// two commands: `pair` or `p` with the switch -b, and `log` with the required text argument -b
+enum { PAIR = 4 + 2 * 6 + 5 + sizeof DIGIT, LOG = 4 + 6 + 3 + sizeof DIGIT };
+#define ENTRIES(second_type) U16(2), U32(0), U32(PAIR), U32(PAIR + LOG), \
+  U16(2), U16(5), NAME(SILVERPOISE_NAME_LONG, 0, 4), NAME(SILVERPOISE_NAME_SHORT, 4, 1), 'p', 'a', 'i', 'r', 'p', SWITCH('b'), \
+  U16(1), U16(3), NAME(second_type, 0, 3), 'l', 'o', 'g'
+#define ARGUMENT_FORM(kind) U16(1), U16(1), U16(1), U16(1), U16(0), NODE(kind, 0, 1, SILVERPOISE_VALUE_TEXT, 0, 0), \
+  NAME(SILVERPOISE_NAME_SHORT, 0, 1), 'b'
+static const uint8_t TABLE_BYTES[] = {ENTRIES(SILVERPOISE_NAME_LONG), ARGUMENT_FORM(SILVERPOISE_NODE_ARGUMENT)};
+// with a node of no kind in the form of `log`, and with `log` as a text besides
+static const uint8_t FORM_AT_FAULT[] = {ENTRIES(SILVERPOISE_NAME_LONG), ARGUMENT_FORM(0)};
+static const uint8_t NAME_AT_FAULT[] = {ENTRIES(SILVERPOISE_NAME_TEXT), ARGUMENT_FORM(0)};
 
 // Slices of exactly the lengths that are lent, on the heap, so that valgrind sees a read or write outside of them.
-static uint8_t *form, *sheet;
+static uint8_t *form, *sheet, *table;
 static uint32_t *items, *answers, *list;
 #define FORM form, sizeof FORM_BYTES
 #define SHEET sheet, sizeof SHEET_BYTES
+#define TABLE table, sizeof TABLE_BYTES
 #define ITEMS items, SILVERPOISE_ITEM_SLICE
 #define ANSWERS answers, SILVERPOISE_ANSWER_SLICE
 #define LIST list, SILVERPOISE_LIST_SLICE
@@ -98,6 +111,20 @@ static bool told(SilverpoiseTold t, uint32_t number, uint32_t answer) {
 
 static bool ran(SilverpoiseRunAnswer r, uint32_t number, uint32_t place, uint32_t tries, uint32_t words, SilverpoiseState s) {
   return r.number == number && r.place == place && r.tries == tries && r.words == words && same(r.state, s);
+}
+
+static bool commanded(SilverpoiseCommandAnswer r, uint32_t number, uint32_t place, uint32_t tries, uint32_t words,
+                      uint32_t comparisons, uint32_t entry, SilverpoiseState s) {
+  return r.number == number && r.place == place && r.tries == tries && r.words == words && r.comparisons == comparisons &&
+         r.entry == entry && same(r.state, s);
+}
+
+static bool table_refused(SilverpoiseTableRefused r, uint32_t number, uint32_t place, uint32_t entry) {
+  return r.number == number && r.place == place && r.entry == entry;
+}
+
+static bool form_stands(SilverpoiseFormPart p, uint32_t number, size_t offset, size_t length) {
+  return p.number == number && p.place == 0 && p.offset == offset && p.length == length;
 }
 
 static bool stands(SilverpoiseTextPart p, uint32_t number, uint32_t source, uint32_t offset, uint32_t length) {
@@ -272,6 +299,74 @@ static void evaluation(void) {
   CHECK(ran(silverpoise_eval(FORM, SHEET, ITEMS, ANSWERS, LIST, S, 2), 0, 0, 1, 1, state(0, BY_W, BY_W, 1, 3)));
 }
 
+static void tables(void) {
+  CHECK(table_refused(silverpoise_commands_check(TABLE), 0, 0, 0));
+  CHECK(table_refused(silverpoise_commands_check(NULL, 0), 11, 0, 0));
+  CHECK(table_refused(silverpoise_commands_check(table, sizeof TABLE_BYTES - 1), 11, 0, 0)); // an offset is beyond the end
+  CHECK(table_refused(silverpoise_commands_check(FORM_AT_FAULT, sizeof FORM_AT_FAULT), 3, 1, 2));
+  CHECK(table_refused(silverpoise_commands_check(NAME_AT_FAULT, sizeof NAME_AT_FAULT), 11, 0, 0)); // before 3
+  CHECK(form_stands(silverpoise_command_form(TABLE, 0), 0, 14 + PAIR - sizeof DIGIT, sizeof DIGIT));
+  CHECK(form_stands(silverpoise_command_form(TABLE, 1), 0, sizeof TABLE_BYTES - sizeof DIGIT, sizeof DIGIT));
+  CHECK(form_stands(silverpoise_command_form(TABLE, 2), 28, 0, 0));
+  CHECK(form_stands(silverpoise_command_form(TABLE, 1 + ((size_t)1 << 32)), 28, 0, 0)); // a number of 64 bits
+  CHECK(form_stands(silverpoise_command_form(NULL, 0, 2), 11, 0, 0));
+}
+
+// The commands of TABLE: the names are tried in the order `pair`, `p`, `log`.
+static void commands(void) {
+  static const uint8_t p[] = {U16(2), U16(0), U16(1), U16(3), 'p', '-', 'b'};
+  static const uint8_t log_x[] = {U16(3), U16(0), U16(3), U16(5), U16(6), 'l', 'o', 'g', '-', 'b', 'x'};
+  static const uint8_t log_only[] = {U16(1), U16(0), U16(3), 'l', 'o', 'g'};
+  static const uint8_t log_cluster[] = {U16(2), U16(0), U16(3), U16(6), 'l', 'o', 'g', '-', 'b', 'b'};
+  static const uint8_t lock[] = {U16(2), U16(0), U16(4), U16(6), 'l', 'o', 'c', 'k', '-', 'b'};
+  static const uint32_t yes[] = {1}, place_2[] = {2}, missing_b[] = {1, 0, 1};
+  static const uint32_t lock_items[] = {4, 0, 0, 0, 0, 0, 4, 1, 0, 'b', 0, 0, 4, 2};
+  const SilverpoiseState empty = {{0}, 0, 0, 0, 0, 0}, two = {{0}, 2, 2, 0, 0, 2};
+  const SilverpoiseState switched = {{511, 512}, 2, 0, 2, 0, 2}, word = {{511}, 1, 0, 1, 0, 1};
+
+  fill(ANSWERS, 7);
+  CHECK(commanded(silverpoise_run_commands(TABLE, p, sizeof p, ITEMS, ANSWERS, LIST), 0, 0, 1, 1, 2, 1, switched));
+  CHECK(holds(ANSWERS, yes, 1, 0) && holds(LIST, NULL, 0, 0));
+  SilverpoiseCommandAnswer a = silverpoise_run_commands(TABLE, log_x, sizeof log_x, ITEMS, ANSWERS, LIST);
+  CHECK(commanded(a, 0, 0, 1, 1, 3, 2, state(511, 512, 512, 0, 3)) && holds(ANSWERS, place_2, 1, 0));
+
+  // a text is found with the form of the entry
+  SilverpoiseFormPart log_form = silverpoise_command_form(TABLE, a.entry - 1);
+  SilverpoiseTextPart x =
+      silverpoise_text(table + log_form.offset, log_form.length, log_x, sizeof log_x, ITEMS, answers[0]);
+  CHECK(stands(x, 0, SILVERPOISE_SOURCE_SHEET, sizeof log_x - 1, 1));
+
+  fill(ANSWERS, 7);
+  CHECK(commanded(silverpoise_run_commands(TABLE, log_only, sizeof log_only, ITEMS, ANSWERS, LIST), 20, 0, 1, 0, 3, 2, word));
+  CHECK(holds(ANSWERS, NULL, 0, 0) && holds(LIST, missing_b, 3, 0));
+  // b is a flag of `pair`, so a cluster of `log` cannot have it
+  a = silverpoise_run_commands(TABLE, log_cluster, sizeof log_cluster, ITEMS, ANSWERS, LIST);
+  CHECK(commanded(a, 9, 2, 0, 0, 0, 0, two));
+
+  fill(ITEMS, 7);
+  fill(LIST, 7);
+  CHECK(commanded(silverpoise_run_commands(TABLE, lock, sizeof lock, ITEMS, ANSWERS, LIST), 31, 0, 0, 0, 3, 0, two));
+  CHECK(holds(ITEMS, lock_items, 14, 0) && holds(ANSWERS, NULL, 0, 0) && holds(LIST, NULL, 0, 0));
+  a = silverpoise_run_commands(TABLE, NO_ARGUMENTS, sizeof NO_ARGUMENTS, ITEMS, ANSWERS, LIST);
+  CHECK(commanded(a, 31, 0, 0, 0, 3, 0, empty));
+}
+
+// Refused before a command is looked for: every slice that is lent is all 0.
+static void commands_refused(void) {
+  const SilverpoiseState empty = {{0}, 0, 0, 0, 0, 0};
+  fill(ITEMS, 7);
+  fill(ANSWERS, 7);
+  fill(LIST, 7);
+  CHECK(commanded(silverpoise_run_commands(NULL, 0, NULL, 0, items, 3, ANSWERS, LIST), 11, 0, 0, 0, 0, 0, empty));
+  CHECK(items[2] == 0 && items[3] == 7 && holds(ANSWERS, NULL, 0, 0) && holds(LIST, NULL, 0, 0));
+  SilverpoiseCommandAnswer a =
+      silverpoise_run_commands(FORM_AT_FAULT, sizeof FORM_AT_FAULT, NULL, 0, ITEMS, ANSWERS, LIST);
+  CHECK(commanded(a, 3, 1, 0, 0, 0, 2, empty) && holds(ITEMS, NULL, 0, 0));
+  CHECK(silverpoise_run_commands(TABLE, NULL, 0, ITEMS, ANSWERS, LIST).number == 5);
+  CHECK(silverpoise_run_commands(TABLE, SHEET, items, 1791, ANSWERS, LIST).number == 7);
+  CHECK(silverpoise_run_commands(TABLE, SHEET, ITEMS, ANSWERS, list, 191).number == 14);
+}
+
 static void states(void) {
   SilverpoiseState scoped = S;
   scoped.start = 1;
@@ -388,6 +483,7 @@ static void lent_calls(void) {
 int main(void) {
   form = (uint8_t *)lend(FORM_BYTES, sizeof FORM_BYTES);
   sheet = (uint8_t *)lend(SHEET_BYTES, sizeof SHEET_BYTES);
+  table = (uint8_t *)lend(TABLE_BYTES, sizeof TABLE_BYTES);
   items = (uint32_t *)lend(NULL, SILVERPOISE_ITEM_SLICE * sizeof *items);
   answers = (uint32_t *)lend(NULL, SILVERPOISE_ANSWER_SLICE * sizeof *answers);
   list = (uint32_t *)lend(NULL, SILVERPOISE_LIST_SLICE * sizeof *list);
@@ -401,6 +497,9 @@ int main(void) {
   checks();
   splitting();
   missing();
+  tables();
+  commands();
+  commands_refused();
   running();
   evaluation();
   states();
@@ -411,6 +510,7 @@ int main(void) {
 
   free(form);
   free(sheet);
+  free(table);
   free(items);
   free(answers);
   free(list);

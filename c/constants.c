@@ -68,6 +68,16 @@ static size_t make_form(size_t nodes, size_t fields, size_t names, size_t area) 
   return (size_t)(to - form) + area;
 }
 
+// Writes a table of so many entries and returns its length: each has the long name `a` and the form of one positional.
+static size_t make_table(uint8_t *table, size_t count) {
+  static const uint8_t entry[] = {
+    U16(1), U16(1), NAME(SILVERPOISE_NAME_LONG, 0, 1), 'a', U16(1), U16(1), U16(0), U16(0), U16(0), POSITIONAL(0, 0)};
+  uint8_t *to = put_u16(table, count);
+  for (size_t i = 0; i <= count; i++) to = put_u16(put_u16(to, i * sizeof entry), 0);
+  for (size_t i = 0; i < count; i++, to += sizeof entry) memcpy(to, entry, sizeof entry);
+  return (size_t)(to - table);
+}
+
 static uint32_t form_number(size_t nodes, size_t fields, size_t names, size_t area) {
   size_t length = make_form(nodes, fields, names, area);
   return silverpoise_form_check(form, length).number;
@@ -97,6 +107,10 @@ static void limits(void) {
   CHECK(length == SILVERPOISE_MAX_SHEET);
   CHECK(sheet_number(SILVERPOISE_MAX_ARGUMENTS + 1, SILVERPOISE_MAX_SHEET_AREA, &length) == SILVERPOISE_REFUSED_ARGUMENTS);
   CHECK(sheet_number(SILVERPOISE_MAX_ARGUMENTS, SILVERPOISE_MAX_SHEET_AREA + 1, &length) == SILVERPOISE_REFUSED_SHEET);
+
+  static uint8_t table[64 * (SILVERPOISE_MAX_COMMANDS + 2)];
+  CHECK(silverpoise_commands_check(table, make_table(table, SILVERPOISE_MAX_COMMANDS)).number == SILVERPOISE_ACCEPTED);
+  CHECK(silverpoise_commands_check(table, make_table(table, SILVERPOISE_MAX_COMMANDS + 1)).number == SILVERPOISE_REFUSED_TABLE);
 
   static const uint8_t many[] = FORM(2, FLAG_V(SILVERPOISE_FLAG_REQUIRED), ABOVE(0, SILVERPOISE_NODE_MANY, 0));
   char cluster[SILVERPOISE_MAX_ITEMS + 3] = "-";
@@ -151,6 +165,21 @@ static void refusals_of_runs(void) {
   CHECK(RUN(adjacent, "-va").number == SILVERPOISE_ACCEPTED);
   CHECK(RUN(adjacent_number, "-v 7").number == SILVERPOISE_REFUSED_MISSING);
   CHECK(RUN(adjacent_number, "-va").number == SILVERPOISE_REFUSED_PARSE_FAILED);
+}
+
+static SilverpoiseCommandAnswer run_commands(const uint8_t *table, size_t length, const char *line) {
+  size_t sheet_length = make_sheet(line);
+  return silverpoise_run_commands(table, length, sheet, sheet_length, items, SILVERPOISE_ITEM_SLICE, answers,
+                                  SILVERPOISE_ANSWER_SLICE, list, SILVERPOISE_LIST_SLICE);
+}
+
+static void refusals_of_commands(void) {
+  static uint8_t table[64];
+  size_t length = make_table(table, 1);
+  CHECK(run_commands(table, length - 1, "a b").number == SILVERPOISE_REFUSED_TABLE);
+  CHECK(run_commands(table, length, "b b").number == SILVERPOISE_REFUSED_COMMAND);
+  SilverpoiseCommandAnswer r = run_commands(table, length, "a b");
+  CHECK(r.number == SILVERPOISE_ACCEPTED && answers[0] == 1 && r.state.marks[0] == SILVERPOISE_MARK_COMMAND);
 }
 
 static void refusals_of_calls(void) {
@@ -265,6 +294,7 @@ int main(void) {
   limits();
   refusals_of_input();
   refusals_of_runs();
+  refusals_of_commands();
   refusals_of_calls();
   all_kinds();
   value_kinds();

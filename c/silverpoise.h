@@ -1,6 +1,7 @@
 // Silverpoise for C99 and C++: command lines read under a form, answered with values or a numbered refusal.
 //
-// Link with target/staticlib/libexports.a (whole forms and lines: `rt staticlib exports` writes it) and, for the single calls, with
+// Link with target/staticlib/libexports.a (whole forms and lines: `rt staticlib exports` writes it), for commands with
+// target/staticlib/libexports_commands.a (`rt staticlib exports_commands`) and for the single calls with
 // target/staticlib/libexports_calls.a (`rt staticlib exports_calls`), on x86-64. docs/FORMAT.md has the formats, the
 // rules and the refusals; numbers in brackets here are its sections. c/example.c reads a whole line.
 //
@@ -45,7 +46,10 @@ enum {
   SILVERPOISE_MAX_FIELDS = 16,
   SILVERPOISE_MAX_NAMES = 128,
   SILVERPOISE_MAX_FORM_AREA = 4096, // bytes of all names together
-  SILVERPOISE_MAX_FORM = 5928       // bytes of the longest form
+  SILVERPOISE_MAX_FORM = 5928,      // bytes of the longest form
+
+  // a command table (12); the names of an entry have the limits of a form's
+  SILVERPOISE_MAX_COMMANDS = 32
 };
 
 // ---- Refusals (9) ----
@@ -53,7 +57,8 @@ enum {
 enum SilverpoiseRefusal {
   SILVERPOISE_ACCEPTED = 0,
 
-  // because of the input, tested in this order but for 6, which comes before 5, and 14, which comes before 8
+  // because of the input, tested in this order but for 6, which comes before 5, 14, which comes before 8, and 11, which comes
+  // before 1
   SILVERPOISE_REFUSED_FORM = 1,      // the form's length or counts
   SILVERPOISE_REFUSED_NAME = 2,      // a name record of the form; place: the lowest at fault
   SILVERPOISE_REFUSED_NODE = 3,      // a node of the form; place: the lowest at fault
@@ -63,6 +68,7 @@ enum SilverpoiseRefusal {
   SILVERPOISE_REFUSED_SLICE = 7,     // the item slice or the answer slice is too short
   SILVERPOISE_REFUSED_ITEMS = 8,     // more than 256 items
   SILVERPOISE_REFUSED_AMBIGUOUS = 9, // a letter in a cluster is both a flag's and an argument's; place: the cluster's Word
+  SILVERPOISE_REFUSED_TABLE = 11,    // a command table: its count, its offsets, or the names of an entry
   SILVERPOISE_REFUSED_LIST = 14,     // the list slice is too short
 
   // because of the state
@@ -75,10 +81,13 @@ enum SilverpoiseRefusal {
   SILVERPOISE_REFUSED_GUARD_FAILED = 26,   // a number is outside its guard; place: `current` of the state, perhaps none
   SILVERPOISE_REFUSED_UNCONSUMED = 27,     // nothing takes an item; place: the first left over
 
-  // because of a single call, that is, any call but silverpoise_split and silverpoise_run; tested in the order 30, 29, 28
-  SILVERPOISE_REFUSED_NOT_THERE = 28, // no such node, name record, place, scope or field
+  // because of a single call, that is, any call but silverpoise_split and those that run a line; tested in the order 30, 29, 28
+  SILVERPOISE_REFUSED_NOT_THERE = 28, // no such node, name record, place, scope, field or entry
   SILVERPOISE_REFUSED_STATE = 29,     // a state does not hold together, or does not fit the items or the form
-  SILVERPOISE_REFUSED_RECORD = 30     // an item record is at fault
+  SILVERPOISE_REFUSED_RECORD = 30,    // an item record is at fault
+
+  // because of the command word, found after 9 and before 20
+  SILVERPOISE_REFUSED_COMMAND = 31 // the line begins with no command of the table
 };
 
 // ---- Forms (3): the numbers of nodes and names ----
@@ -157,7 +166,7 @@ enum {
 
   // used: all marks from 510 on
   SILVERPOISE_MARK_MARKER = 510,  // the opening `--`, used from the start
-  SILVERPOISE_MARK_COMMAND = 511, // a command word, by silverpoise_take_cmd
+  SILVERPOISE_MARK_COMMAND = 511, // a command word, by silverpoise_run_commands or silverpoise_take_cmd
   SILVERPOISE_MARK_FIELD = 512    // plus the number of the field that used the place, from 0
 };
 
@@ -213,6 +222,26 @@ typedef struct {
   uint32_t words; // answer words; refused, 0
   SilverpoiseState state;
 } SilverpoiseRunAnswer;
+
+typedef struct {
+  uint32_t number, place;
+  uint32_t tries, words; // as in SilverpoiseRunAnswer
+  uint32_t comparisons;  // names that were compared with the line's first word
+  uint32_t entry;        // of the command PLUS 1, or 0 for none
+  SilverpoiseState state;
+} SilverpoiseCommandAnswer;
+
+// Why a table was refused. For 1 to 4 `entry` is the number PLUS 1 of the entry whose form is at fault, else 0.
+typedef struct {
+  uint32_t number, place;
+  uint32_t entry;
+} SilverpoiseTableRefused;
+
+// Where the form of an entry stands. The offset counts from the first byte of the table. Refused, both are 0.
+typedef struct {
+  uint32_t number, place;
+  size_t offset, length;
+} SilverpoiseFormPart;
 
 enum {
   SILVERPOISE_SOURCE_SHEET = 0,
@@ -312,6 +341,35 @@ SilverpoiseRunAnswer silverpoise_eval(const uint8_t *form, size_t form_count, co
 // Where the text of an answer word stands. Any item's text is found by its place. Refused: 1 to 4, 6, 5, 7, 30, 28.
 SilverpoiseTextPart silverpoise_text(const uint8_t *form, size_t form_count, const uint8_t *sheet, size_t sheet_count,
                                      const uint32_t *items, size_t item_count, uint32_t word);
+
+// ---- A command table (12): several forms, each under the names of its command ----
+//
+// For the initializer of an array of uint8_t: the count of entries, a U16; their offsets, counted from the first entry, a U32
+// each, the last of them the end of the table; the entries. An entry: the count of its names and the bytes of their area, a
+// U16 each; a NAME each; the area; and then its form. A long name is written without dashes, as it is given on the line, and
+// so is a short one, which is one character. Every entry has a long name.
+
+// 0; 11; or 1 to 4 with the place of silverpoise_form_check and the entry whose form is at fault.
+SilverpoiseTableRefused silverpoise_commands_check(const uint8_t *table, size_t table_count);
+
+// Where the form of an entry stands, for the calls that take a form: silverpoise_text after a run, silverpoise_portable. The
+// form itself is not checked. Refused: 11, 28.
+SilverpoiseFormPart silverpoise_command_form(const uint8_t *table, size_t table_count, size_t entry);
+
+// Reads a line whose first word is a command, by the form of its entry. The line is split by the short names of ALL forms of
+// the table: a letter that is a flag in one and an argument in another is refused with 9 in a cluster under every command.
+// Then the names are compared with the first item: entry after entry, in each the long names before the short ones. The first
+// that is its text chooses the form; the item has the mark SILVERPOISE_MARK_COMMAND, and the fields get what follows.
+//
+// `comparisons` is the number of the name that matched, counted from 1 in that order, or that of all names after 31, and 0
+// where the line was refused before. `entry` is that of the form at fault for 1 to 4, that of the command for 0 and 20 to 27.
+//
+// The slices, `tries`, `words` and `state` are as silverpoise_run leaves them for the chosen form. Refused: 11, leaving what 1
+// leaves; 1 to 4, form by form; 6, 5, 7, 14; 8 or 9; 31; then one of 20 to 27. After 31 the item slice has the items and
+// `state` is that of the split; the answer slice and the list are all 0, and so is `tries`.
+SilverpoiseCommandAnswer silverpoise_run_commands(const uint8_t *table, size_t table_count, const uint8_t *sheet,
+                                                  size_t sheet_count, uint32_t *items, size_t item_count, uint32_t *answers,
+                                                  size_t answer_count, uint32_t *list, size_t list_count);
 
 // ---- The field of a single call ----
 //
@@ -436,6 +494,11 @@ SILVERPOISE_ASSERT(sizeof(SilverpoiseSplitAnswer) == 540, "SilverpoiseSplitAnswe
 SILVERPOISE_ASSERT(offsetof(SilverpoiseSplitAnswer, state) == 8, "state of SilverpoiseSplitAnswer");
 SILVERPOISE_ASSERT(sizeof(SilverpoiseRunAnswer) == 548, "SilverpoiseRunAnswer");
 SILVERPOISE_ASSERT(offsetof(SilverpoiseRunAnswer, state) == 16, "state of SilverpoiseRunAnswer");
+SILVERPOISE_ASSERT(sizeof(SilverpoiseCommandAnswer) == 556, "SilverpoiseCommandAnswer");
+SILVERPOISE_ASSERT(offsetof(SilverpoiseCommandAnswer, state) == 24, "state of SilverpoiseCommandAnswer");
+SILVERPOISE_ASSERT(sizeof(SilverpoiseTableRefused) == 12, "SilverpoiseTableRefused");
+SILVERPOISE_ASSERT(sizeof(SilverpoiseFormPart) == 24, "SilverpoiseFormPart");
+SILVERPOISE_ASSERT(offsetof(SilverpoiseFormPart, offset) == 8, "offset of SilverpoiseFormPart");
 SILVERPOISE_ASSERT(sizeof(SilverpoiseTextPart) == 20, "SilverpoiseTextPart");
 SILVERPOISE_ASSERT(sizeof(SilverpoiseGot) == 36, "SilverpoiseGot");
 SILVERPOISE_ASSERT(sizeof(SilverpoiseDecoding) == 12, "SilverpoiseDecoding");

@@ -1,9 +1,9 @@
 -- What the length and the counts of a form say, and what stands at a number.
 use mathlib.Core.Bool.{Bool, true, false, not, _&&_}
-use mathlib.Core.List.{List, map}
+use mathlib.Core.List.{List}
 use mathlib.Core.Option.{some}
 use mathlib.Core.Path.{_≡_, refl, sym, _∙_, ap}
-use Prim.Native.Nat.{ℕ, zero, suc, _+_, _-_, _*_, _≤_, _<_}
+use Prim.Native.Nat.{ℕ, _+_, _-_, _*_, _≤_, _<_}
 use native.Mathlib.Nat.{add-assoc}
 use native.Mathlib.Omega.{arith}
 use lib.Dec.{leb, eqb}
@@ -16,7 +16,7 @@ use Rattle.rules.specs.Form.{Name, nodeCount, fieldCount, nameCount, areaLength
 use Rattle.rules.specs.Accept.{lengthGood, Accepted, accepted, checkForm}
 use Rattle.rules.specs.Codes.{checkCode}
 use Rattle.rules.specs.declared.Refused.{Refused}
-use Rattle.rules.proofs.Acceptance.{and-true, numbers-length, no-fault, good-no-fault, All-at, accepted-length, accepted-passed}
+use Rattle.rules.proofs.Acceptance.{and-true, numbers-length, mapped-at, no-fault, good-no-fault, All-at, accepted-length, accepted-passed}
 use Rattle.rules.proofs.GivenLaws.{check-accepted}
 use Rattle.form_names.specs.Names.{nameOf}
 use Rattle.form_names.specs.declared.Name as names
@@ -127,15 +127,6 @@ module _ (b : List ℕ) where
   length-test x e z s t p q = rw (← e, not-false x z, p, q)
 
 -- ---- what stands at a number
-numbers-at : {A : Type 0} (R : ℕ → A) (n j k : ℕ) → k < n → getElem? (map R (numbers n j)) k ≡ some (R (j + k))
-unfolding numbers
-numbers-at R zero j k h = absurd (omega arith)
-numbers-at R (suc n) j zero h = let e : j + 0 ≡ j = omega arith in rw e
-numbers-at R (suc n) j (suc k) h = let e : j + suc k ≡ suc j + k = omega arith in rw e (numbers-at R n (suc j) k (omega arith))
-
-mapped-at : {A : Type 0} (R : ℕ → A) (n k : ℕ) → k < n → getElem? (map R (numbers n 0)) k ≡ some (R k)
-mapped-at R n k h = let e : 0 + k ≡ k = omega arith in rw e at (numbers-at R n 0 k h)
-
 -- the slice from a place on
 abbrev pub from : ℕ → List ℕ → List ℕ
 from at b = take (length b - at) (drop at b)

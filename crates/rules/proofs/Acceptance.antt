@@ -1,6 +1,6 @@
 -- What acceptance of a form says of its trees.
 use mathlib.Core.Bool.{Bool, true, false, not, _&&_, and-eq-true-iff, and-false, false≢true, true≢false}
-use mathlib.Core.List.{List, [], _∷_, _++_, append-assoc, append-nil}
+use mathlib.Core.List.{List, [], _∷_, _++_, map, append-assoc, append-nil}
 use mathlib.Core.Logic.{_⊎_, inl, inr, ⊎-elim}
 use mathlib.Core.Option.{Option, some, none, Option·some-injective, Option·none-ne-some}
 use mathlib.Core.Path.{_≡_, refl, sym, _∙_, ap, subst}
@@ -175,6 +175,16 @@ pub numbers-length : (n k : ℕ) → length (numbers n k) ≡ n
 unfolding numbers
 numbers-length zero k = refl
 numbers-length (suc n) k = ap suc (numbers-length n (suc k))
+
+-- what stands at a number
+numbers-at : {A : Type 0} (R : ℕ → A) (n j k : ℕ) → k < n → getElem? (map R (numbers n j)) k ≡ some (R (j + k))
+unfolding numbers
+numbers-at R zero j k h = absurd (omega arith)
+numbers-at R (suc n) j zero h = let e : j + 0 ≡ j = omega arith in rw e
+numbers-at R (suc n) j (suc k) h = let e : j + suc k ≡ suc j + k = omega arith in rw e (numbers-at R n (suc j) k (omega arith))
+
+pub mapped-at : {A : Type 0} (R : ℕ → A) (n k : ℕ) → k < n → getElem? (map R (numbers n 0)) k ≡ some (R k)
+mapped-at R n k h = let e : 0 + k ≡ k = omega arith in rw e at (numbers-at R n 0 k h)
 
 pub numbers-all : (P : ℕ → Type 0) (n j : ℕ) → All P (numbers n j) → (k : ℕ) → j ≤ k → k < j + n → P k
 unfolding numbers

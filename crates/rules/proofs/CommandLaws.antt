@@ -321,6 +321,23 @@ module _ (is : List Item) (s : State) (g : Good (length is) s) (b : Begins is s)
       let count = removed-left commandMark command-parsed (length is) s 0 g f in
       (u, e, h, (start, end ∙ b .end), omega (arith, ap length left, good .counted))
 
+  -- which is the state as it was
+  pub narrowed-stays : Free s 0 → narrowed (removed commandMark s 0) ≡ ok (removed commandMark s 0)
+  unfolding narrowed setScope unused _>>=_
+  narrowed-stays f =
+      let r : State = removed commandMark s 0 in
+      let (u, e, good, scope, left) = narrows f in
+      let before = removed-good commandMark command-parsed (length is) s 0 g f in
+      let (part, h, same) = bind-ok (at setScope561 (slice 0 (s .end) (r .marks))) _ u e in
+      let fields = ok-injective same in
+      let marks : u .marks ≡ r .marks = sym (ap (λ (x : State). x .marks) fields) in
+      let end : u .end ≡ r .end = sym (ap (λ (x : State). x .end) fields) in
+      let start : u .start ≡ r .start = scope .0 ∙ sym (b .start) in
+      let current : u .current ≡ r .current = sym (ap (λ (x : State). x .current) fields) in
+      let places : unused u ≡ unused r = rw (marks, start, end) in
+      let remaining : u .remaining ≡ r .remaining = good .counted ∙ ap length places ∙ sym (before .counted) in
+      e ∙ ap ok (λ i. record { marks = marks i; remaining = remaining i; current = current i; start = start i; end = end i })
+
 -- ---- the forms of a table
 abbrev pub FormAt : List Command → List Accepted → ℕ → Type 0
 FormAt cs fs k =
@@ -331,13 +348,25 @@ form-at : (c : Command) (cs : List Command) (a : Accepted) (fs : List Accepted) 
 form-at c cs a fs x rest zero h = (c, a, refl, refl, x)
 form-at c cs a fs x rest (suc k) h = rest k (omega arith)
 
-forms-step : (c : Command) (cs : List Command) (fs : List Accepted) → formsIn (c ∷ cs) ≡ ok fs
+pub forms-step : (c : Command) (cs : List Command) (fs : List Accepted) → formsIn (c ∷ cs) ≡ ok fs
     → (a : Accepted) × (rest : List Accepted) × (checkForm (c .form) ≡ accepted a) × (formsIn cs ≡ ok rest) × (a ∷ rest ≡ fs)
 unfolding formsIn
 forms-step c cs fs e =
     let (a, x, y) = bind-ok (formIn (c .form)) _ fs e in
     let (rest, z, same) = bind-ok (formsIn cs) _ fs y in
     (a, rest, form-checked (c .form) a x, z, ok-injective same)
+
+-- none is at fault
+all-formed : (cs : List Command) (fs : List Accepted) → formsIn cs ≡ ok fs → (j : ℕ) → firstFault formGood j cs ≡ none
+unfolding firstFault formGood if_then_else_
+all-formed [] fs e j = refl
+all-formed (c ∷ cs) fs e j =
+    let (a, rest, accepts, formed, same) = forms-step c cs fs e in
+    rw (accepts, formGood, all-formed cs rest formed (suc j))
+
+pub no-entry : (t : List ℕ) (cs : List Command) (fs : List Accepted) → tableIn t ≡ ok cs → formsIn cs ≡ ok fs → entryAtFault t ≡ none
+unfolding entryAtFault
+no-entry t cs fs e f = rw (e, entryAtFault, all-formed cs fs f 0)
 
 pub forms-at : (cs : List Command) (fs : List Accepted) → formsIn cs ≡ ok fs → (k : ℕ) → k < length cs → FormAt cs fs k
 forms-at [] fs e k h = absurd (omega arith)
@@ -424,7 +453,7 @@ lookup-behind : {A : Type 0} (l m : List A) (i : ℕ) → getElem? (l ++ m) (len
 lookup-behind [] m i = rw (zero-add i)
 lookup-behind (a ∷ l) m i = rw (suc-add (length l) i) (lookup-behind l m i)
 
-lookup-map : {A B : Type 0} (f : A → B) (l : List A) (i : ℕ) (a : A) → getElem? l i ≡ some a → getElem? (map f l) i ≡ some (f a)
+pub lookup-map : {A B : Type 0} (f : A → B) (l : List A) (i : ℕ) (a : A) → getElem? l i ≡ some a → getElem? (map f l) i ≡ some (f a)
 lookup-map f [] i a e = absurd (some≢none (sym e))
 lookup-map f (x ∷ l) zero a e = ap (λ y. some (f y)) (Option·some-injective x a e)
 lookup-map f (x ∷ l) (suc i) a e = lookup-map f l i a e
@@ -474,7 +503,7 @@ good-typed e h =
     All-map _ _ (name-typed (readCommand e .area)) (readCommand e .names) (all-true (commandNameGood (readCommand e .area)) (readCommand e .names) names)
 
 module _ (t : List ℕ) (cs : List Command) (e : tableIn t ≡ ok cs) where
-  table-entries : (all entryGood (tableEntries t) ≡ true) × (map readCommand (tableEntries t) ≡ cs)
+  pub table-entries : (all entryGood (tableEntries t) ≡ true) × (map readCommand (tableEntries t) ≡ cs)
   unfolding tableIn
   table-entries =
       let (good, same) = if-ok (offsetsGood t && all entryGood (tableEntries t)) (map readCommand (tableEntries t)) cs (refuse 11 none) e in
@@ -645,7 +674,7 @@ commands-demand3 table s t small made tabled formed =
 
 -- ---- every input is answered
 -- 11
-table-answers : (t : List ℕ) → ((cs : List Command) × (tableIn t ≡ ok cs)) ⊎ (tableIn t ≡ refused (refuse 11 none))
+pub table-answers : (t : List ℕ) → ((cs : List Command) × (tableIn t ≡ ok cs)) ⊎ (tableIn t ≡ refused (refuse 11 none))
 unfolding tableIn if_then_else_
 table-answers t = go (offsetsGood t && all entryGood (tableEntries t)) refl
   where

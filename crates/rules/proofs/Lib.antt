@@ -60,4 +60,5 @@ pub mod Demand1Holds
 pub mod MissingReported
 -- Commands
 pub mod CommandLaws
+pub mod CommandForms
 pub mod CommandLinesHold

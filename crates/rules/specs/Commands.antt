@@ -3,10 +3,10 @@ use mathlib.Core.Bool.{Bool, true, false, not, _&&_}
 use mathlib.Core.List.{List, [], _∷_, _++_, map}
 use mathlib.Core.Option.{Option, some, none}
 use Prim.Native.Nat.{ℕ, suc, _+_, _*_}
-use lib.Dec.{leb, eqb}
+use lib.Dec.{leb, eqb, ltb}
 use lib.ListN.{length, take, drop, getElem?}
 use Rattle.utf8.specs.Utf8.{if_then_else_}
-use Rattle.wire.specs.Wire.{numberAt, tableGood, entryOf}
+use Rattle.wire.specs.Wire.{numberAt, offset, areaStart, tableGood, entryOf}
 use Rattle.rules.specs.Base.{all, null, numbers, concatMap, firstFault}
 use Rattle.rules.specs.Outcome.{Outcome, ok, refused, fault, _>>=_, refuse}
 use Rattle.rules.specs.Value.{Value}
@@ -82,6 +82,10 @@ tableIn t = if offsetsGood t && all entryGood (tableEntries t) then ok (map read
 unfoldable pub formsIn : List Command → Outcome (List Accepted)
 formsIn [] = ok []
 formsIn (c ∷ cs) = formIn (c .form) >>= λ a. formsIn cs >>= λ fs. ok (a ∷ fs)
+
+-- 11, then 1 to 4: the forms of a table
+abbrev pub tableForms : List ℕ → Outcome (List Accepted)
+tableForms t = tableIn t >>= formsIn
 
 -- 1 to 4: the first entry whose form is not accepted
 unfoldable pub formGood : Command → Bool
@@ -194,3 +198,18 @@ runCommands t s ni na nl = elim (commandsIn t s ni na nl) [
   | refused e ↦ ok (record { report = refusedInput ni na nl (e .number) (e .place); comparisons = 0; entry = entryAtFault t })
   | fault x ↦ fault x
 ]
+
+-- ---- the form of an entry, as a part of the table
+pub record TablePart : Type 0 where
+  pub offset : ℕ
+  pub size : ℕ
+
+unfoldable pub formPart : List ℕ → ℕ → TablePart
+formPart t k = record {
+  offset = (areaStart 4 (entryCount t) + offset 4 t k) + entryFormAt (entryOf 4 (entryCount t) t k);
+  size = length (readCommand (entryOf 4 (entryCount t) t k) .form);
+}
+
+-- 11; 28: there is no such entry. The forms are not looked at
+unfoldable pub callCommandForm : List ℕ → ℕ → Outcome TablePart
+callCommandForm t k = tableIn t >>= λ cs. if ltb k (length cs) then ok (formPart t k) else refused (refuse 28 none)

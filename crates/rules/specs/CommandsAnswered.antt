@@ -4,8 +4,8 @@ use mathlib.Core.List.{List, [], _∷_}
 use mathlib.Core.Option.{Option, some, none}
 use mathlib.Core.Path.{_≡_}
 use Prim.Native.Nat.{ℕ, suc, _+_, _*_, _≤_, _<_}
-use lib.ListN.{length, take, getElem?, replicate}
-use Rattle.rules.specs.Outcome.{ok, refuse}
+use lib.ListN.{length, take, drop, getElem?, replicate}
+use Rattle.rules.specs.Outcome.{Outcome, ok, refused, refuse}
 use Rattle.rules.specs.Value.{BaseValue, Value, answerWords}
 use Rattle.rules.specs.Sheet.{arguments}
 use Rattle.rules.specs.Accept.{Accepted, refusedAt, checkForm, leafCount}
@@ -18,7 +18,7 @@ use Rattle.rules.specs.Demands.{All, Counted, Means, placesLeft, Faultle
 use Rattle.rules.specs.Answered.{RunNumber}
 use Rattle.rules.specs.CallsAnswered.{OneOf}
 use Rattle.rules.specs.Commands.{Command, ofType, tableIn, formsIn, formGood, CommandTable, tableLetters, splitWith, Candidate, candidatesFrom, Tried, tryNames, narrowed}
-use Rattle.rules.specs.Commands.{CommandReport, commandReport, runCommands}
+use Rattle.rules.specs.Commands.{CommandReport, commandReport, runCommands, TablePart}
 
 -- ---- the names of a table
 unfoldable pub allNames : List Command → ℕ
@@ -169,3 +169,14 @@ pub record CommandsAnswered (table s : List ℕ) (ni na nl : ℕ) : Type 0 where
   pub number :
       OneOf (0 ∷ 11 ∷ 1 ∷ 2 ∷ 3 ∷ 4 ∷ 6 ∷ 5 ∷ 7 ∷ 14 ∷ 8 ∷ 9 ∷ 31 ∷ 20 ∷ 21 ∷ 22 ∷ 23 ∷ 24 ∷ 25 ∷ 26 ∷ 27 ∷ []) (answer .report .number)
   pub filled : Filled ni na nl (answer .report)
+
+-- ---- the form of an entry is a part of the table
+pub data FormAnswered (table : List ℕ) (k : ℕ) : Outcome TablePart → Type 0 where
+  noTable : FormAnswered table k (refused (refuse 11 none))
+  noEntry : (cs : List Command) → tableIn table ≡ ok cs → length cs ≤ k → FormAnswered table k (refused (refuse 28 none))
+  part :
+      (cs : List Command) (c : Command) (p : TablePart)
+      → tableIn table ≡ ok cs
+      → getElem? cs k ≡ some c
+      → take (p .size) (drop (p .offset) table) ≡ c .form
+      → FormAnswered table k (ok p)

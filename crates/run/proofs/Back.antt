@@ -9,19 +9,19 @@ use lib.Dec.{eqb, ltb}
 use lib.ListN.{length, take, drop, getElem?, replicate, length-append, length-drop, length-replicate, take-append-drop}
 use lib.Seq.{drop-append-add, drop-at, take-at, take-append-seam, length-take-le}
 use borrow.Author.Tests.{le-leb, eqb-true}
-use Rattle.utf8.specs.Utf8.{if_then_else_}
 use Rattle.rules.specs.Base.{concatMap, _>>?_}
+use Rattle.utf8.specs.Utf8.{if_then_else_}
 use Rattle.rules.specs.Outcome.{ok}
 use Rattle.rules.specs.Sheet.{sheetArea, sheetFault, arguments}
-use Rattle.rules.specs.Form.{Form}
-use Rattle.rules.specs.Accept.{lettersOf}
+use Rattle.rules.specs.Accept.{Letters}
 use Rattle.rules.specs.Split.{Item, Short, Long, ArgWord, Word, PosWord, itemWords, recordsFrom, Split, splitFrom, itemsOf}
 use Rattle.rules.specs.State.{markerMark, construct}
-use Rattle.rules.specs.Run.{Line, split, lineOf, tooMany, padded}
+use Rattle.rules.specs.Commands.{splitWith}
+use Rattle.rules.specs.Run.{Line, lineOf, tooMany, padded}
 use Rattle.rules.specs.Calls.{partIn, itemFrom}
 use Rattle.rules.specs.Demands.{All}
 use Rattle.rules.proofs.Formats.{arguments-area}
-use Rattle.rules.proofs.SplitLaws.{line-accepted, record-length, ok-injective, some≢none}
+use Rattle.rules.proofs.SplitLaws.{LineGood, record-length, ok-injective, some≢none}
 use Rattle.split_arg.specs.declared.Part.{Part}
 use Rattle.split_arg.specs.declared.Item.the-variants as code
 use Rattle.split_arg.specs.Items.{partOf}
@@ -164,19 +164,19 @@ recorded-all pre begin (os ∷ args) (g ∷ gs) rest b h =
 
 -- ---- a line
 -- what the items and records of a line that splitting does not refuse are
-record Splits (f : Form) (s : List ℕ) (l : Line) : Type 0 where
+record Splits (ls : Letters) (s : List ℕ) (l : Line) : Type 0 where
   whole : Split
-  same : splitFrom (lettersOf f) 0 (arguments s) ≡ ok whole
+  same : splitFrom ls 0 (arguments s) ≡ ok whole
   items : l .items ≡ itemsOf whole
   records : l .records ≡ recordsFrom 0 (arguments s) (whole .groups)
 
-line-splits : (f : Form) (s : List ℕ) (l : Line) → split f s ≡ ok l → l .refusal ≡ none → Splits f s l
-unfolding split lineOf tooMany if_then_else_
-line-splits f s l e z =
-    let (x, p, q) = bind-ok (splitFrom (lettersOf f) 0 (arguments s)) (lineOf (arguments s)) e in
+line-splits : (ls : Letters) (s : List ℕ) (l : Line) → splitWith ls s ≡ ok l → l .refusal ≡ none → Splits ls s l
+unfolding splitWith lineOf tooMany if_then_else_
+line-splits ls s l e z =
+    let (x, p, q) = bind-ok (splitFrom ls 0 (arguments s)) (lineOf (arguments s)) e in
     go x p (ltb 256 (length (itemsOf x))) refl q
   where
-    go : (x : Split) → splitFrom (lettersOf f) 0 (arguments s) ≡ ok x → (t : Bool) → ltb 256 (length (itemsOf x)) ≡ t → lineOf (arguments s) x ≡ ok l → Splits f s l
+    go : (x : Split) → splitFrom ls 0 (arguments s) ≡ ok x → (t : Bool) → ltb 256 (length (itemsOf x)) ≡ t → lineOf (arguments s) x ≡ ok l → Splits ls s l
     go x p true h q = absurd (some≢none (ap (λ (y : Line). y .refusal) (ok-injective (rw h at q)) ∙ z))
     go x p false h q =
         let (u, a, b) = bind-ok (construct markerMark (length (itemsOf x)) (x .marker)) _ (rw h at q) in
@@ -184,32 +184,32 @@ line-splits f s l e z =
         record { whole = x; same = p; items = sym (ap (λ (y : Line). y .items) same); records = sym (ap (λ (y : Line). y .records) same) }
 
 recorded-line :
-    (f : Form) (s : List ℕ) (x : Split) (records rest : List ℕ) (is : List Item)
+    (ls : Letters) (s : List ℕ) (x : Split) (records rest : List ℕ) (is : List Item)
     → sheetFault s ≡ 0
-    → splitFrom (lettersOf f) 0 (arguments s) ≡ ok x
+    → splitFrom ls 0 (arguments s) ≡ ok x
     → records ≡ recordsFrom 0 (arguments s) (x .groups)
     → is ≡ itemsOf x
     → Recorded (sheetArea s) (records ++ rest) is
 unfolding itemsOf
-recorded-line f s x records rest is m e a b =
-    rw (a, b, ← arguments-area s m) (recorded-all [] 0 (arguments s) (x .groups) rest refl (splits-in (lettersOf f) 0 (arguments s) x e))
+recorded-line ls s x records rest is m e a b =
+    rw (a, b, ← arguments-area s m) (recorded-all [] 0 (arguments s) (x .groups) rest refl (splits-in ls 0 (arguments s) x e))
 
 -- the items of a line that is not refused, as they were written
 pub line-table :
-    (f : Form) (s : List ℕ) (l : Line) (n : ℕ)
+    (ls : Letters) (s : List ℕ) (l : Line) (n : ℕ)
     → sheetFault s ≡ 0
-    → split f s ≡ ok l
+    → splitWith ls s ≡ ok l
     → l .refusal ≡ none
+    → LineGood (arguments s) l
     → 1792 ≤ n
     → Table (sheetArea s) (padded n (l .records)) (l .items)
 unfolding padded
-line-table f s l n m e z r =
-    let g = line-accepted f s l e z in
-    let w = line-splits f s l e z in
+line-table ls s l n m e z g r =
+    let w = line-splits ls s l e z in
     let rest : List ℕ = replicate (n - length (l .records)) 0 in
     let long = length-append (l .records) rest in
     let more = length-replicate {A = ℕ} (n - length (l .records)) 0 in
     record {
       room = omega (arith, g .records, g .few);
-      at = recorded-line f s (w .whole) (l .records) rest (l .items) m (w .same) (w .records) (w .items);
+      at = recorded-line ls s (w .whole) (l .records) rest (l .items) m (w .same) (w .records) (w .items);
     }

@@ -1,4 +1,5 @@
 pub mod Within
 pub mod Back
 pub mod States
+pub mod Begun
 pub mod Runs

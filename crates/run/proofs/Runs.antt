@@ -1,19 +1,18 @@
 -- The run, by how the tests of the input, splitting and the fields end.
 use mathlib.Core.Bool.{true}
 use mathlib.Core.List.{List, []}
-use mathlib.Core.Logic.{⊎-elim}
 use mathlib.Core.Option.{Option, some, none, Option·some-injective, Option·none-ne-some}
 use mathlib.Core.Path.{_≡_, refl, sym, ap, _∙_, subst}
 use Prim.Native.Nat.{ℕ, _+_, _-_, _≤_, _<_}
 use native.Mathlib.Omega.{arith}
-use lib.ListN.{length, getD, getElem?, replicate, length-append, length-replicate}
+use lib.ListN.{length, getD, getElem?, replicate, length-replicate}
 use lib.Seq.{sets, length-sets}
 use Rattle.rules.specs.Outcome.{Outcome, ok, refused, fault, _>>=_, MissingItem, listWords, Refusal}
 use Rattle.rules.specs.Value.{Value}
 use Rattle.rules.specs.Codes.{placeCode, checkCode, placeOf}
 use Rattle.rules.specs.Base.{concatMap}
 use Rattle.rules.specs.Form.{fieldCount, readForm}
-use Rattle.rules.specs.Sheet.{sheetArea, sheetFault, arguments}
+use Rattle.rules.specs.Sheet.{sheetArea, sheetFault}
 use Rattle.rules.specs.Tree.{Tree}
 use Rattle.rules.specs.Accept.{Checked as Tested, accepted, refusedAt, Accepted, checkForm, lengthGood, lettersOf}
 use Rattle.rules.specs.Split.{Item}
@@ -27,42 +26,34 @@ use Rattle.rules.specs.declared.State.{State as Raw}
 use Rattle.rules.specs.declared.Refused.{Refused}
 use Rattle.rules.proofs.Fields.{field-parsed}
 use Rattle.rules.proofs.Acceptance.{accepted-form, accepted-length, accepted-passed, good-no-fault}
-use Rattle.rules.proofs.SplitLaws.{LineGood, line-accepted, line-refusal}
 use Rattle.state_marks.specs.declared.Numbers.{Numbers}
-use Rattle.state_marks.specs.Lent.{rawOf, numbersOf, stateOf, Fine}
+use Rattle.state_marks.specs.Lent.{rawOf, stateOf}
 use Rattle.rules.proofs.CodeLaws.{place-code, code-place}
 use Rattle.rules.proofs.GivenLaws.{run-form, run-sheet, run-short, run-cramped, run-unlisted, run-goes}
-use Rattle.rules.proofs.InputFaults.{list-length, no-entries-listed, line-plain}
+use Rattle.rules.proofs.InputFaults.{list-length, no-entries-listed}
 use Rattle.rules.proofs.MissingLaws.{missing-told}
 use Rattle.state_marks.proofs.Laws.{raw-back}
 use Rattle.form_codes.specs.Codes.{CodedNames}
-use Rattle.take_search.specs.Items.{Table}
+use Rattle.take_search.specs.States.{Items}
 use Rattle.take_table.specs.Known.{Matchable, Known}
 use Rattle.eval_told.specs.Told.{Told}
 use Rattle.eval_told.specs.Nodes.{treeAt}
 use Rattle.eval_missing.specs.Missing.{Listing, Lists}
 use Rattle.split_args.proofs.States.{padded-words, all-zero, fill-long}
 use Rattle.split_args.specs.declared.Ended.{Ended as Split}
-use Rattle.split_args.specs.Construct.{startingState as begun, Unmarked, SplitEnds, refusalNumber, refusalPlace}
+use Rattle.split_args.specs.Construct.{startingState as begun, Unmarked, SplitEnds}
 use Rattle.rules.proofs.GivenLaws.{check-accepted}
 use Rattle.run_fields.specs.Line.{Starts, toldAll, missingOf, RunsAll, refusedWith}
 use Rattle.run_fields.proofs.Lacked.{left-items, none-missing, refused-inside, refused-number, refused-marked, refused-field, refused-missing}
 use Rattle.run_fields.specs.declared.Reached.{Reached}
-use Rattle.run.specs.Runner.{Ended, runAnswer, ended, answerOf, CheckedInput, InputTested, ItemsBegin, RunsListed}
-use Rattle.run.proofs.States.{from-to, zero-at, raw-fine}
-use Rattle.run.proofs.Back.{line-table}
+use Rattle.run.specs.Runner.{Ended, runAnswer, ended, answerOf, CheckedInput, LineFault, sheet, items, answers, list, LineTested, InputTested, ItemsBegin, RunsListed}
+use Rattle.run.proofs.States.{zero-at}
+use Rattle.run.proofs.Begun.{LineBegins, LineRefused, line-refused, state-is, line-begins}
 
 -- ---- slices
 nothing-padded : (n : ℕ) → padded n [] ≡ replicate n 0
 unfolding padded
 nothing-padded n = let z : n - 0 ≡ n = omega arith in rw z
-
-padded-long : (n : ℕ) (w : List ℕ) → length w ≤ n → length (padded n w) ≡ n
-unfolding padded
-padded-long n w h =
-    let a = length-append w (replicate (n - length w) 0) in
-    let b = length-replicate {A = ℕ} (n - length w) 0 in
-    omega arith
 
 -- ---- answers
 answer-same :
@@ -101,64 +92,62 @@ pub unmarked-answer :
     → x ≡ ended (answerOf r m) i a l
 unmarked-answer x r m i a l u e = e ∙ ap (λ (n : List ℕ). ended (answerOf r n) i a l) (sym (u .zeros))
 
--- ---- the tests of the input
-module _ (b s : List ℕ) (ni na nl : ℕ) where
-  -- a refusal at no place
-  refusing : (n : ℕ) (q : Refused) → q ≡ record { number = n; place = 0 } → (n ≡ 0 → ⊥) → run b s ni na nl ≡ ok (refusedInput ni na nl n none) → InputTested b s ni na nl q
-  unfolding placeOf
-  refusing n q e h g = rw e (record { good = λ z. absurd (h z); bad = λ _. g })
+-- ---- the tests of the line
+module _ (s : List ℕ) (ni na nl : ℕ) (f : ℕ) (t : f ≡ sheetFault s) where
+  pub sheet-refused : (f ≡ 0 → ⊥) → LineTested s ni na nl f
+  sheet-refused h = rw t (record { good = λ z. absurd (h (t ∙ z)); bad = λ z. sheet z })
 
-  module _ (r : Refused) (e : r ≡ checkCode (checkForm b)) where
-    -- 1 to 4
-    pub form-refused : (r .number ≡ 0 → ⊥) → InputTested b s ni na nl r
-    form-refused z = go (checkForm b) refl
-      where
-        go : (c : Tested Accepted) → checkForm b ≡ c → InputTested b s ni na nl r
-        go (accepted a) g = absurd (z (ap (λ (y : Refused). y .number) (e ∙ ap checkCode g)))
-        go (refusedAt m k) g =
-            rw (e ∙ ap checkCode g) (record {
-              good = λ y. absurd (z (ap (λ (y : Refused). y .number) (e ∙ ap checkCode g) ∙ y));
-              bad = λ _. run-form b s ni m k g na nl ∙ ap (λ (j : Option ℕ). ok (refusedInput ni na nl m j)) (sym (place-code k));
-            })
+  module _ (y : f ≡ 0) where
+    pub items-short : ni < 1792 → LineTested s ni na nl 7
+    items-short h = record { good = λ z. absurd (omega arith); bad = λ z. items (sym t ∙ y) h }
 
-    module _ (z : r .number ≡ 0) (f : ℕ) (t : f ≡ sheetFault s) where
-      -- 6 and 5
-      pub sheet-refused : (f ≡ 0 → ⊥) → (q : Refused) → q ≡ record { number = f; place = 0 } → InputTested b s ni na nl q
-      sheet-refused y q h =
-          let (a, g) = check-accepted b r e z in
-          refusing f q h y (run-sheet b s ni a g (λ z. y (t ∙ z)) na nl ∙ ap (λ (n : ℕ). ok (refusedInput ni na nl n none)) (sym t))
+    module _ (i : 1792 ≤ ni) where
+      pub answers-short : na < 8240 → LineTested s ni na nl 7
+      answers-short h = record { good = λ z. absurd (omega arith); bad = λ z. answers (sym t ∙ y) i h }
 
-      module _ (y : f ≡ 0) where
-        -- 7
-        pub items-short : ni < 1792 → (q : Refused) → q ≡ record { number = 7; place = 0 } → InputTested b s ni na nl q
-        items-short h q w =
-            let (a, g) = check-accepted b r e z in
-            refusing 7 q w (λ x. omega arith) (run-short b s ni a g (sym t ∙ y) h na nl)
+      module _ (o : 8240 ≤ na) where
+        pub list-short : nl < 192 → LineTested s ni na nl 14
+        list-short h = record { good = λ z. absurd (omega arith); bad = λ z. list (sym t ∙ y) i o h }
 
-        module _ (i : 1792 ≤ ni) where
-          pub answers-short : na < 8240 → (q : Refused) → q ≡ record { number = 7; place = 0 } → InputTested b s ni na nl q
-          answers-short h q w =
-              let (a, g) = check-accepted b r e z in
-              refusing 7 q w (λ x. omega arith) (run-cramped b s ni a g (sym t ∙ y) i na nl h)
+        pub line-good : 192 ≤ nl → LineTested s ni na nl 0
+        line-good h = record { good = λ z. record { checked = sym t ∙ y; items = i; answers = o; list = h }; bad = λ z. absurd (z refl) }
 
-          module _ (o : 8240 ≤ na) where
-            -- 14
-            pub list-short : nl < 192 → (q : Refused) → q ≡ record { number = 14; place = 0 } → InputTested b s ni na nl q
-            list-short h q w =
-                let (a, g) = check-accepted b r e z in
-                refusing 14 q w (λ x. omega arith) (run-unlisted b s ni a g (sym t ∙ y) i na nl o h)
+-- ---- and of the form
+module _ (b s : List ℕ) (ni na nl : ℕ) (r : Refused) (e : r ≡ checkCode (checkForm b)) where
+  -- 1 to 4
+  pub form-refused : (r .number ≡ 0 → ⊥) → InputTested b s ni na nl r
+  form-refused z = go (checkForm b) refl
+    where
+      go : (c : Tested Accepted) → checkForm b ≡ c → InputTested b s ni na nl r
+      go (accepted a) g = absurd (z (ap (λ (y : Refused). y .number) (e ∙ ap checkCode g)))
+      go (refusedAt m k) g =
+          rw (e ∙ ap checkCode g) (record {
+            good = λ y. absurd (z (ap (λ (y : Refused). y .number) (e ∙ ap checkCode g) ∙ y));
+            bad = λ _. run-form b s ni m k g na nl ∙ ap (λ (j : Option ℕ). ok (refusedInput ni na nl m j)) (sym (place-code k));
+          })
 
-            pub all-good : 192 ≤ nl → (q : Refused) → q ≡ record { number = 0; place = 0 } → InputTested b s ni na nl q
-            all-good h q w =
-                let (a, g) = check-accepted b r e z in
-                rw w (record {
-                  good = λ _ items answers list l m n. record {
-                    ready = record { result = a; accepts = g; checked = sym t ∙ y; room = omega (arith, i, l) };
-                    space = omega (arith, o, m);
-                    entries = omega (arith, h, n);
-                  };
-                  bad = λ x. absurd (x refl);
-                })
+  module _ (z : r .number ≡ 0) where
+    line-bad : (n : ℕ) → LineFault s ni na nl n → run b s ni na nl ≡ ok (refusedInput ni na nl n none)
+    line-bad n (sheet h) = let (a, g) = check-accepted b r e z in run-sheet b s ni a g h na nl
+    line-bad n (items t h) = let (a, g) = check-accepted b r e z in run-short b s ni a g t h na nl
+    line-bad n (answers t i h) = let (a, g) = check-accepted b r e z in run-cramped b s ni a g t i na nl h
+    line-bad n (list t i o h) = let (a, g) = check-accepted b r e z in run-unlisted b s ni a g t i na nl o h
+
+    -- the line's refusals have no place
+    pub line-tested : (n : ℕ) → LineTested s ni na nl n → (q : Refused) → q ≡ record { number = n; place = 0 } → InputTested b s ni na nl q
+    unfolding placeOf
+    line-tested n t q w =
+        let (a, g) = check-accepted b r e z in
+        rw w (record {
+          good = λ y items answers list l m k.
+              let f = t .good y in
+              record {
+                ready = record { result = a; accepts = g; checked = f .checked; room = omega (arith, f .items, l) };
+                space = omega (arith, f .answers, m);
+                entries = omega (arith, f .list, k);
+              };
+          bad = λ y. line-bad n (t .bad y);
+        })
 
 -- refused, with what the slices then hold
 pub input-refused :
@@ -169,11 +158,6 @@ pub input-refused :
     → runAnswer (ok (refusedInput ni na nl (q .number) (placeOf (q .place)))) ≡ x
     → runAnswer (run b s ni na nl) ≡ x
 input-refused b s ni na nl q t z x h = ap runAnswer (t .bad z) ∙ h
-
--- ---- what splitting gave
-refusal-there : (o : Option Refusal) → (refusalNumber o ≡ 0 → ⊥) → (e : Refusal) × (o ≡ some e)
-refusal-there none z = absurd (z refl)
-refusal-there (some e) z = (e, refl)
 
 -- ---- what is reported
 run-is :
@@ -227,6 +211,47 @@ reached-fits b a e is s = go (runAll 0 is (a .fields) s .outcome) refl
     go (refused x) h = rw (h, missingOf) (omega (arith, list-length (x .missing), missing-told .fits b a e 0 is s x h))
     go (fault x) h = rw (h, missingOf) (omega (arith, list-length []))
 
+-- a line's fields ran from a state over its items on: what is reported stands in the slices, which were cleared before
+module _ (b : List ℕ) (a : Accepted) (accepts : checkForm b ≡ accepted a) (area words : List ℕ) (ni na nl : ℕ) (l : Line) (m : List ℕ) (p : Numbers)
+    (items : Items area words p (l .items)) (long : length m ≡ 256) (m′ a′ a″ k′ k″ : List ℕ) (r : Reached)
+    (ran : RunsListed area words 0 (a .fields) m p m′ a′ a″ k′ k″ r) where
+  pub fields-answer : words ≡ padded ni (l .records) → a′ ≡ replicate na 0 → k′ ≡ replicate nl 0 → 8240 ≤ na → 192 ≤ nl
+      → runAnswer (report ni na nl l (runAll 0 (l .items) (a .fields) (stateOf m p))) ≡ ended (answerOf r m′) words a″ k″
+  fields-answer written cleared unlisted space room =
+      let u = ran .reached in
+      let told = u .same (l .items) items in
+      let fits = reached-fits b a accepts (l .items) (stateOf m p) in
+      let entries = listWords (missingOf (runAll 0 (l .items) (a .fields) (stateOf m p))) in
+      reported-told ni na nl l (runAll 0 (l .items) (a .fields) (stateOf m p)) _ told
+      ∙ answer-same refl refl refl (sym (u .count))
+      (raw-back m′ (r .numbers) (u .left .fine) (u .left .long ∙ long))
+      (sym written)
+      (sym (u .put ∙ ap (λ (o : List ℕ). sets o 0 (u .values)) cleared ∙ padded-words (u .values) na (omega (arith, u .few, space))))
+      (sym (ran .listed (l .items) items ∙ ap (λ (o : List ℕ). sets o 0 entries) unlisted ∙ padded-words entries nl (omega (arith, fits, room))))
+
+  pub answers-long : length a″ ≡ length a′
+  answers-long = let u = ran .reached in ap length (u .put) ∙ length-sets a′ 0 (u .values)
+
+  pub list-long : length k″ ≡ length k′
+  list-long =
+      let entries = listWords (missingOf (runAll 0 (l .items) (a .fields) (stateOf m p))) in
+      ap length (ran .listed (l .items) items) ∙ length-sets k′ 0 entries
+
+-- a line that was refused before any try, with what the slices then hold
+pub refused-line :
+    (ni na nl : ℕ) (l : Line) (e : Refusal) (s : State) (m : List ℕ) (p : Numbers) (words : List ℕ) (number place : ℕ) (r : Reached)
+    → e .number ≡ number
+    → placeCode (e .place) ≡ place
+    → e .missing ≡ []
+    → rawOf m p ≡ toRaw s
+    → words ≡ padded ni (l .records)
+    → r ≡ refusedWith number place 0 0 p
+    → runAnswer (report ni na nl l (eval.ended (refused e) s)) ≡ ended (answerOf r m) words (replicate na 0) (replicate nl 0)
+unfolding report reportWith runAnswer eval.ended
+refused-line ni na nl l e s m p words number place r numbered placed plain state written h =
+    rw h
+    (answer-same numbered placed refl refl (sym state) (sym written) (nothing-padded na) (no-entries-listed nl (e .missing) plain))
+
 -- ---- a checked input, its answer slice and its list cleared, its sheet split
 module _ (form sheet i a k : List ℕ) (c : CheckedInput form sheet i a k) (a′ : List ℕ) (z : a′ ≡ sets a 0 (replicate (length a) 0))
     (k′ : List ℕ) (v : k′ ≡ sets k 0 (replicate (length k) 0)) (i′ : List ℕ) (x : Split)
@@ -237,16 +262,9 @@ module _ (form sheet i a k : List ℕ) (c : CheckedInput form sheet i a k) (a′
   unlisted : k′ ≡ replicate (length k) 0
   unlisted = v ∙ all-zero k (length k) refl
 
-  state : rawOf m p ≡ toRaw (w .line .state)
-  state = q ∙ w .state
-
   splits : split (c .ready .result .form) sheet ≡ ok (w .line)
   unfolding split
   splits = rw (accepted-form form (c .ready .result) (c .ready .accepts)) (w .same)
-
-  form-splits : split (readForm form) sheet ≡ ok (w .line)
-  unfolding split
-  form-splits = w .same
 
   runs : run form sheet (length i) (length a) (length k)
       ≡ report (length i) (length a) (length k) (w .line) (runLine (c .ready .result .fields) (w .line))
@@ -257,48 +275,17 @@ module _ (form sheet i a k : List ℕ) (c : CheckedInput form sheet i a k) (a′
   -- 8 or 9
   pub splitting-refused : (x .number ≡ 0 → ⊥) → (r : Reached) → r ≡ refusedWith (x .number) (x .place) 0 0 p
       → runAnswer (run form sheet (length i) (length a) (length k)) ≡ ended (answerOf r m) i′ a′ k′
-  unfolding report reportWith runAnswer runLine eval.ended
+  unfolding runLine report reportWith
   splitting-refused y r h =
-      let (e, there) = refusal-there (w .line .refusal) (λ n. y (w .number ∙ n)) in
-      let number : e .number ≡ x .number = sym (w .number ∙ ap refusalNumber there) in
-      let place : placeCode (e .place) ≡ x .place = sym (w .place ∙ ap refusalPlace there) in
-      let plain = line-plain form sheet (w .line) e there form-splits in
-      ap runAnswer runs ∙ rw (there, runLine, h)
-      (answer-same number place refl refl (sym state) (sym (w .words)) (nothing-padded (length a) ∙ sym cleared)
-      (no-entries-listed (length k) (e .missing) plain ∙ sym unlisted))
+      let e = line-refused (lettersOf (readForm form)) sheet (length i) i′ x w y in
+      let state = state-is (lettersOf (readForm form)) sheet (length i) i′ x w m p q in
+      rw (cleared, unlisted, runs, e .there, runLine)
+      (refused-line (length i) (length a) (length k) (w .line) (e .refusal) (w .line .state) m p i′ (x .number) (x .place) r
+      (e .number) (e .place) (e .plain) state (w .words) h)
 
   module _ (y : x .number ≡ 0) where
-    free : w .line .refusal ≡ none
-    free = go (w .line .refusal) refl
-      where
-        go : (o : Option Refusal) → w .line .refusal ≡ o → w .line .refusal ≡ none
-        go none e = e
-        go (some e) h =
-            let number : e .number ≡ 0 = sym (w .number ∙ ap refusalNumber h) ∙ y in
-            absurd (⊎-elim (λ (n : e .number ≡ 8). omega arith) (λ (n : e .number ≡ 9). omega arith) (line-refusal (c .ready .result .form) sheet (w .line) e splits h))
-
-    good : LineGood (arguments sheet) (w .line)
-    good = line-accepted (c .ready .result .form) sheet (w .line) splits free
-
-    table : Table (sheetArea sheet) i′ (w .line .items)
-    table = rw (w .words) (line-table (c .ready .result .form) sheet (w .line) (length i) (c .ready .checked) splits free (c .ready .room))
-
-    fine : Fine m p
-    fine =
-        subst (λ (u : Raw). Fine (u .marks) (numbersOf u)) (sym state)
-        (raw-fine (length (w .line .items)) (w .line .state) (good .few) (good .good))
-
-    long : length m ≡ 256
-    unfolding toRaw
-    long = ap (λ (u : Raw). length (u .marks)) state ∙ padded-long 256 (w .line .state .marks) (omega (arith, good .good .long, good .few))
-
-    count : length (w .line .items) ≡ p .count
-    unfolding toRaw
-    count = sym (good .good .long) ∙ sym (ap (λ (u : Raw). u .count) state)
-
-    same-state : stateOf m p ≡ w .line .state
-    unfolding stateOf
-    same-state = rw state (from-to (w .line .state))
+    begins : LineBegins sheet i′ m p (w .line)
+    begins = line-begins (lettersOf (readForm form)) sheet (length i) i′ x w m p q y (c .ready .checked) (c .ready .room)
 
     pub fields-start : (codes : List ℕ) → CodedNames form codes → ItemsBegin form codes sheet i′ m p 0 a′ k′
     fields-start codes h = record {
@@ -306,51 +293,36 @@ module _ (form sheet i a k : List ℕ) (c : CheckedInput form sheet i a k) (a′
       accepts = c .ready .accepts;
       coded = h;
       made = c .ready .checked;
-      state = record { items = w .line .items; table = table; same = count; fine = fine; told = field-parsed 0 };
+      state = record { items = w .line .items; table = begins .table; same = begins .count; fine = begins .fine; told = field-parsed 0 };
       small = omega arith;
       room = omega (arith, c .space, ap length cleared ∙ length-replicate {A = ℕ} (length a) 0);
       zeros = λ j. ap (λ (l : List ℕ). getD l j 0) cleared ∙ zero-at (length a) j;
       entries = omega (arith, c .entries, fill-long k′ k 0 (length k) v);
     }
 
-    pub fields-end :
-        (m′ a″ k″ : List ℕ) (r : Reached)
-        → ((b : Accepted) → checkForm form ≡ accepted b → RunsListed (sheetArea sheet) i′ 0 (b .fields) m p m′ a′ a″ k′ k″ r)
-        → runAnswer (run form sheet (length i) (length a) (length k)) ≡ ended (answerOf r m′) i′ a″ k″
-    unfolding runLine
-    fields-end m′ a″ k″ r reaches =
-        let both = reaches (c .ready .result) (c .ready .accepts) in
-        let u = both .reached in
-        let l = w .line in
-        let all : runLine (c .ready .result .fields) l ≡ runAll 0 (l .items) (c .ready .result .fields) (stateOf m p) = rw (free, runLine, same-state) in
-        let told = u .same (l .items) (table, count) in
-        let fits = reached-fits form (c .ready .result) (c .ready .accepts) (l .items) (stateOf m p) in
-        let entries = listWords (missingOf (runAll 0 (l .items) (c .ready .result .fields) (stateOf m p))) in
-        ap runAnswer (runs ∙ ap (report (length i) (length a) (length k) l) all)
-        ∙ reported-told (length i) (length a) (length k) l (runAll 0 (l .items) (c .ready .result .fields) (stateOf m p)) _ told
-        ∙ answer-same refl refl refl (sym (u .count))
-        (raw-back m′ (r .numbers) (u .left .fine) (u .left .long ∙ long))
-        (sym (w .words))
-        (sym (u .put ∙ ap (λ (o : List ℕ). sets o 0 (u .values)) cleared ∙ padded-words (u .values) (length a) (omega (arith, u .few, c .space))))
-        (sym (both .listed (l .items) (table, count) ∙ ap (λ (o : List ℕ). sets o 0 entries) unlisted
-        ∙ padded-words entries (length k) (omega (arith, fits, c .entries))))
+    module _ (m′ a″ k″ : List ℕ) (r : Reached)
+        (reaches : (b : Accepted) → checkForm form ≡ accepted b → RunsListed (sheetArea sheet) i′ 0 (b .fields) m p m′ a′ a″ k′ k″ r) where
+      pub fields-end : runAnswer (run form sheet (length i) (length a) (length k)) ≡ ended (answerOf r m′) i′ a″ k″
+      unfolding runLine
+      fields-end =
+          let l = w .line in
+          let b = c .ready .result in
+          let all : runLine (b .fields) l ≡ runAll 0 (l .items) (b .fields) (stateOf m p) = rw (begins .free, runLine, begins .same) in
+          ap runAnswer (runs ∙ ap (report (length i) (length a) (length k) l) all)
+          ∙ fields-answer form b (c .ready .accepts) (sheetArea sheet) i′ (length i) (length a) (length k) l m p (begins .table, begins .count)
+          (begins .long) m′ a′ a″ k′ k″ r (reaches b (c .ready .accepts)) (w .words) cleared unlisted (c .space) (c .entries)
 
-    pub fields-long :
-        (m′ a″ k″ : List ℕ) (r : Reached)
-        → ((b : Accepted) → checkForm form ≡ accepted b → RunsListed (sheetArea sheet) i′ 0 (b .fields) m p m′ a′ a″ k′ k″ r)
-        → length a″ ≡ length a
-    fields-long m′ a″ k″ r reaches =
-        let u = reaches (c .ready .result) (c .ready .accepts) .reached in
-        ap length (u .put) ∙ length-sets a′ 0 (u .values) ∙ fill-long a′ a 0 (length a) z
+      pub answers-kept : length a″ ≡ length a
+      answers-kept =
+          answers-long form (c .ready .result) (c .ready .accepts) (sheetArea sheet) i′ (length i) (length a) (length k) (w .line) m p
+          (begins .table, begins .count) (begins .long) m′ a′ a″ k′ k″ r (reaches (c .ready .result) (c .ready .accepts))
+          ∙ fill-long a′ a 0 (length a) z
 
-    pub list-long :
-        (m′ a″ k″ : List ℕ) (r : Reached)
-        → ((b : Accepted) → checkForm form ≡ accepted b → RunsListed (sheetArea sheet) i′ 0 (b .fields) m p m′ a′ a″ k′ k″ r)
-        → length k″ ≡ length k
-    list-long m′ a″ k″ r reaches =
-        let u = reaches (c .ready .result) (c .ready .accepts) in
-        let entries = listWords (missingOf (runAll 0 (w .line .items) (c .ready .result .fields) (stateOf m p))) in
-        ap length (u .listed (w .line .items) (table, count)) ∙ length-sets k′ 0 entries ∙ fill-long k′ k 0 (length k) v
+      pub list-kept : length k″ ≡ length k
+      list-kept =
+          list-long form (c .ready .result) (c .ready .accepts) (sheetArea sheet) i′ (length i) (length a) (length k) (w .line) m p
+          (begins .table, begins .count) (begins .long) m′ a′ a″ k′ k″ r (reaches (c .ready .result) (c .ready .accepts))
+          ∙ fill-long k′ k 0 (length k) v
 
 -- ---- which nodes each item matches
 module _ (b codes s words m : List ℕ) (p : Numbers) (first : ℕ) (o l : List ℕ) (g : ItemsBegin b codes s words m p first o l) (n : ℕ) (e : n ≡ p .count) where

@@ -2,7 +2,7 @@
 use mathlib.Core.List.{List}
 use mathlib.Core.Option.{Option, some, none}
 use mathlib.Core.Path.{_≡_}
-use Prim.Native.Nat.{ℕ, _≤_}
+use Prim.Native.Nat.{ℕ, _≤_, _<_}
 use lib.ListN.{length, getD}
 use lib.Seq.{sets}
 use Rattle.rules.specs.Outcome.{Outcome, ok, refused, fault, listWords}
@@ -66,6 +66,24 @@ pub record CheckedInput (form sheet items answers list : List ℕ) : Type 0 wher
   pub ready : Splittable form sheet items
   pub space : 8240 ≤ length answers
   pub entries : 192 ≤ length list
+
+-- why a line is refused before it is split: its sheet, a slice that is too short, or a list
+pub data LineFault (s : List ℕ) (ni na nl : ℕ) : ℕ → Type 0 where
+  sheet : (sheetFault s ≡ 0 → ⊥) → LineFault s ni na nl (sheetFault s)
+  items : sheetFault s ≡ 0 → ni < 1792 → LineFault s ni na nl 7
+  answers : sheetFault s ≡ 0 → 1792 ≤ ni → na < 8240 → LineFault s ni na nl 7
+  list : sheetFault s ≡ 0 → 1792 ≤ ni → 8240 ≤ na → nl < 192 → LineFault s ni na nl 14
+
+-- a line that is not
+pub record LineFits (s : List ℕ) (ni na nl : ℕ) : Type 0 where
+  pub checked : sheetFault s ≡ 0
+  pub items : 1792 ≤ ni
+  pub answers : 8240 ≤ na
+  pub list : 192 ≤ nl
+
+pub record LineTested (s : List ℕ) (ni na nl r : ℕ) : Type 0 where
+  pub good : r ≡ 0 → LineFits s ni na nl
+  pub bad : (r ≡ 0 → ⊥) → LineFault s ni na nl r
 
 -- what the tests of the input tell: number 0, or the refusal
 pub record InputTested (form sheet : List ℕ) (ni na nl : ℕ) (r : Refused) : Type 0 where

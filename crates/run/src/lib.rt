@@ -11,7 +11,7 @@ ghost use Rattle.rules.specs.Run as Run;
 ghost use Rattle.rules.specs.Codes.{placeOf};
 ghost use Rattle.split_args.specs.Construct.{Unmarked};
 ghost use Rattle.run_fields.specs.Line.{Starts};
-ghost use Rattle.run.specs.Runner.{runAnswer, ended, answerOf, CheckedInput, InputTested, ItemsBegin, RunsListed};
+ghost use Rattle.run.specs.Runner.{runAnswer, ended, answerOf, CheckedInput, InputTested, LineTested, ItemsBegin, RunsListed};
 use eval_missing::MISSING;
 use eval_missing::MISSING_WORDS;
 use rules::Refused;
@@ -38,7 +38,7 @@ fn refusal(number: u32) -> Refused
 }
 
 // Refused because of the input: all three slices all 0, an empty state.
-fn refused_input(
+pub fn refused_input(
     number: u32,
     place: u32,
     items: &mut [u32],
@@ -143,7 +143,27 @@ fn run_checked(
     run_items(form, &codes, sheet, items, marks, p, 0, answers, list)
 }
 
-// Refusals 1 to 7, then 14, in this order, of a form, a sheet and the lengths of the slices; number 0 if there is none.
+// Refusals 6, 5, 7, then 14, in this order, of a sheet and the lengths of the slices; 0 if there is none.
+pub fn line_fault(sheet: &[u8], items: usize, answers: usize, list: usize) -> u32
+    ensures { λ r. ⌜ LineTested (now (sheet .entry)) items answers list r ⌝ }
+{
+    let fault = split_sheet::check(sheet);
+    if fault != 0 {
+        return fault;
+    }
+    if items < ITEM_WORDS {
+        return SHORT_SLICE;
+    }
+    if answers < ANSWER_WORDS {
+        return SHORT_SLICE;
+    }
+    if list < MISSING_WORDS {
+        return SHORT_LIST;
+    }
+    0
+}
+
+// The form's refusals, 1 to 4, before those of the line; number 0 if there is none.
 fn input_fault(form: &[u8], sheet: &[u8], items: usize, answers: usize, list: usize) -> Refused
     ensures { λ r. ⌜ InputTested (now (form .entry)) (now (sheet .entry)) items answers list r ⌝ }
 {
@@ -151,20 +171,7 @@ fn input_fault(form: &[u8], sheet: &[u8], items: usize, answers: usize, list: us
     if checked.number != 0 {
         return checked;
     }
-    let fault = split_sheet::check(sheet);
-    if fault != 0 {
-        return refusal(fault);
-    }
-    if items < ITEM_WORDS {
-        return refusal(SHORT_SLICE);
-    }
-    if answers < ANSWER_WORDS {
-        return refusal(SHORT_SLICE);
-    }
-    if list < MISSING_WORDS {
-        return refusal(SHORT_LIST);
-    }
-    refusal(0)
+    refusal(line_fault(sheet, items, answers, list))
 }
 
 // The run over marks that are 0.

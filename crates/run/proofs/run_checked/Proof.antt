@@ -3,7 +3,7 @@ use lib.ListN.{length}
 use Rattle.split_args.proofs.States.{fill-long}
 use Rattle.form_codes.proofs.NameCodes.{codes-room}
 use Rattle.split_line.proofs.Lines.{splittable-names}
-use Rattle.run.proofs.Runs.{splitting-refused, fields-start, fields-end, fields-long, list-long}
+use Rattle.run.proofs.Runs.{splitting-refused, fields-start, fields-end, answers-kept, list-kept}
 use Rattle.run.proofs.run_checked.Statement.{statement}
 use Rattle.run.proofs.run_checked.Tie as tie
 
@@ -106,7 +106,7 @@ same-length-5 c =
     let by-fill = by-fill2 .before .before .before .before in
     let fill = by-fill .fill in
     let pre = by-fill .before .before .before .before .before .before .before .pre in
-    fields-long _ _ _ _ _ (pre .0) _ (fill .ensures) _ (fill2 .ensures) _ _ (split .ensures) _ _ (begin .ensures) (if1 .left) _ _ _ _
+    answers-kept _ _ _ _ _ (pre .0) _ (fill .ensures) _ (fill2 .ensures) _ _ (split .ensures) _ _ (begin .ensures) (if1 .left) _ _ _ _
     (run-items .ensures)
 
 same-length-6 : tie.Need-same-length-6
@@ -124,7 +124,7 @@ same-length-6 c =
     let by-fill = by-fill2 .before .before .before .before in
     let fill = by-fill .fill in
     let pre = by-fill .before .before .before .before .before .before .before .pre in
-    list-long _ _ _ _ _ (pre .0) _ (fill .ensures) _ (fill2 .ensures) _ _ (split .ensures) _ _ (begin .ensures) (if1 .left) _ _ _ _
+    list-kept _ _ _ _ _ (pre .0) _ (fill .ensures) _ (fill2 .ensures) _ _ (split .ensures) _ _ (begin .ensures) (if1 .left) _ _ _ _
     (run-items .ensures)
 
 returns-2 : tie.Need-returns-2

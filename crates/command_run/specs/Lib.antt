@@ -1,0 +1,2 @@
+pub mod Commanded
+pub mod Chosen
