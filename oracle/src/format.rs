@@ -73,6 +73,36 @@ pub struct Name {
     pub length: u16,
 }
 
+impl Name {
+    /// The record that begins at a byte.
+    pub fn read(b: &[u8], at: usize) -> Name {
+        let [ty, offset, length] = [0, 2, 4].map(|k| u16_at(b, at + k) as u16);
+        Name { ty, offset, length }
+    }
+
+    pub fn write(&self, out: &mut Vec<u8>) {
+        [self.ty, self.offset, self.length].iter().for_each(|x| out.extend(x.to_le_bytes()));
+    }
+
+    /// The bytes of a record whose part lies in the area.
+    pub fn bytes<'a>(&self, area: &'a [u8]) -> &'a [u8] {
+        &area[self.offset as usize..self.offset as usize + self.length as usize]
+    }
+
+    /// Whether its type is known, its part lies in the area, and its bytes are as its type asks.
+    pub fn good(&self, area: &[u8]) -> bool {
+        if self.ty > TEXT || self.offset as usize + self.length as usize > area.len() {
+            return false;
+        }
+        let text = std::str::from_utf8(self.bytes(area));
+        match self.ty {
+            SHORT => text.is_ok_and(|t| t.chars().count() == 1),
+            LONG => text.is_ok(),
+            _ => true,
+        }
+    }
+}
+
 #[derive(Clone, Debug, Default, PartialEq, Eq)]
 pub struct Form {
     pub fields: Vec<u16>,
@@ -165,7 +195,7 @@ pub fn u16_at(b: &[u8], i: usize) -> usize {
     b[i] as usize + 256 * b[i + 1] as usize
 }
 
-fn u32_at(b: &[u8], i: usize) -> u32 {
+pub fn u32_at(b: &[u8], i: usize) -> u32 {
     u16_at(b, i) as u32 + 65536 * u16_at(b, i + 2) as u32
 }
 
@@ -210,16 +240,7 @@ impl Form {
                     }
                 })
                 .collect(),
-            names: (0..m)
-                .map(|k| {
-                    let at = names + 6 * k;
-                    Name {
-                        ty: u16_at(b, at) as u16,
-                        offset: u16_at(b, at + 2) as u16,
-                        length: u16_at(b, at + 4) as u16,
-                    }
-                })
-                .collect(),
+            names: (0..m).map(|k| Name::read(b, names + 6 * k)).collect(),
             area: b[area..].to_vec(),
         })
     }
@@ -233,23 +254,20 @@ impl Form {
             [n.kind, n.p, n.q, n.r].iter().for_each(|x| out.extend(x.to_le_bytes()));
             [n.lo, n.hi].iter().for_each(|x| out.extend(x.to_le_bytes()));
         }
-        for n in &self.names {
-            [n.ty, n.offset, n.length].iter().for_each(|x| out.extend(x.to_le_bytes()));
-        }
+        self.names.iter().for_each(|n| n.write(&mut out));
         out.extend(&self.area);
         out
     }
 
     /// The bytes of a name record whose part lies in the area.
     pub fn name(&self, record: usize) -> &[u8] {
-        let n = self.names[record];
-        &self.area[n.offset as usize..n.offset as usize + n.length as usize]
+        self.names[record].bytes(&self.area)
     }
 
     /// The form of these bytes, or the first of refusals 1 to 4.
     pub fn check(b: &[u8]) -> Result<Form, Refusal> {
         let form = Form::read(b)?;
-        if let Some(k) = (0..form.names.len()).find(|k| !form.name_good(*k)) {
+        if let Some(k) = form.names.iter().position(|n| !n.good(&form.area)) {
             return Err(Refusal::at(2, k));
         }
         form.kinds()?;
@@ -260,19 +278,6 @@ impl Form {
         match uses.iter().position(|u| *u != 1) {
             Some(k) => Err(Refusal::at(4, k)),
             None => Ok(form),
-        }
-    }
-
-    fn name_good(&self, record: usize) -> bool {
-        let n = self.names[record];
-        if n.ty > TEXT || n.offset as usize + n.length as usize > self.area.len() {
-            return false;
-        }
-        let text = std::str::from_utf8(self.name(record));
-        match n.ty {
-            SHORT => text.is_ok_and(|t| t.chars().count() == 1),
-            LONG => text.is_ok(),
-            _ => true,
         }
     }
 

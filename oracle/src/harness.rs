@@ -6,6 +6,8 @@
 //!
 //! bpaf knows that a place is used, and not by which field. `Numbers` finds that out: the fields run one after the other on one
 //! state, and what became used between two looks at it has the number of the field that ran between them.
+//!
+//! An entry of a command table becomes bpaf's own command, with the fields of its form inside it.
 
 use std::{
     cell::{Cell, RefCell},
@@ -17,19 +19,23 @@ use std::{
     rc::Rc,
 };
 
-use line::{format::*, marks};
+use line::{
+    commands::{Command, Table},
+    format::*,
+    marks,
+};
 
 use crate::{
     args::{Arg, Args, State},
     error::{Message, MissingItem},
     item::Item,
     meta_help::Metavar,
-    params::NamedArg,
+    params::{NamedArg, ParseCommand},
     positional,
     structs::{
         ParseCount, ParseFallback, ParseGuard, ParseLast, ParseMany, ParseOptional, ParseOrElse, ParseSome,
     },
-    Error, Meta, Parser,
+    Error, Meta, ParseFailure, Parser,
 };
 
 /// `only_once` is private to error.rs, so the file is compiled once more, beside one function that hands it out.
@@ -75,7 +81,7 @@ fn used(state: &State, place: usize) -> bool {
 }
 
 /// The mark of each used place, and 0 for the others.
-#[derive(Clone)]
+#[derive(Clone, Default)]
 struct Numbers(Vec<u16>);
 
 impl Numbers {
@@ -515,10 +521,10 @@ pub fn combine_with(first: Refusal, second: Refusal) -> Option<Refusal> {
     Some(refusal(&message(first)?.combine_with(message(second)?)))
 }
 
-/// The letters that bpaf itself collects for the fields: of flags, of arguments.
-fn letters(fields: &[Node]) -> (Vec<char>, Vec<char>) {
+/// The letters that bpaf itself collects for fields or commands: of flags, of arguments.
+fn letters<T>(parsers: &[impl Parser<T>]) -> (Vec<char>, Vec<char>) {
     let (mut flags, mut args) = (Vec::new(), Vec::new());
-    fields.iter().for_each(|f| f.meta().collect_shorts(&mut flags, &mut args));
+    parsers.iter().for_each(|p| p.meta().collect_shorts(&mut flags, &mut args));
     (flags, args)
 }
 
@@ -648,8 +654,16 @@ pub fn run(form: &Form, sheet: &Sheet, wanted: Wanted) -> Run {
         None => run_fields(&fields, &mut held, watch),
     };
     if wanted.probe {
-        probe_run(form, sheet, &flags, &args, watch, &held.state, refused.is_none());
+        probe_letters(std::slice::from_ref(form), &flags, &args, watch);
+        if refused.is_none() {
+            probe_counts(form, unused_by_split(sheet, &held.state), watch);
+        }
     }
+    reported(ran, records, &held, watch)
+}
+
+/// All that is shown of fields that were run.
+fn reported(ran: Ran, records: Vec<Record>, held: &Held, watch: &Watch) -> Run {
     let (answer, missing) = ended(ran, watch.tries.get());
     Run {
         answer,
@@ -666,12 +680,15 @@ pub fn run(form: &Form, sheet: &Sheet, wanted: Wanted) -> Run {
 /// A refusal, and what is missing with it.
 type Refused = (Refusal, Vec<Entry>);
 
+/// The answer words of all fields, or a refusal.
+type Ran = Result<Vec<u32>, Refused>;
+
 fn refused_with(Error(message): Error) -> Refused {
     (refusal(&message), entries(&message))
 }
 
 /// The answer to words or a refusal, and what is missing.
-fn ended(ran: Result<Vec<u32>, Refused>, tries: u64) -> (Answer, Vec<Entry>) {
+fn ended(ran: Ran, tries: u64) -> (Answer, Vec<Entry>) {
     match ran {
         Ok(words) => (Answer { number: 0, place: None, tries, words }, Vec::new()),
         Err((r, missing)) => (Answer::refused(r, tries), missing),
@@ -679,7 +696,7 @@ fn ended(ran: Result<Vec<u32>, Refused>, tries: u64) -> (Answer, Vec<Entry>) {
 }
 
 /// Each field's `eval` on one state, then `items_iter`. Between two fields the state is looked at.
-fn run_fields(fields: &[Node], held: &mut Held, watch: &Watch) -> Result<Vec<u32>, Refused> {
+fn run_fields(fields: &[Node], held: &mut Held, watch: &Watch) -> Ran {
     let mut words = Vec::new();
     for (k, field) in fields.iter().enumerate() {
         watch.field_begins(&held.state);
@@ -693,21 +710,209 @@ fn run_fields(fields: &[Node], held: &mut Held, watch: &Watch) -> Result<Vec<u32
     }
 }
 
-/// What holds of a whole run: the letters, R, the bounds on tries and on lists.
-fn probe_run(form: &Form, sheet: &Sheet, flags: &[char], args: &[char], watch: &Watch, state: &State, split: bool) {
+/// bpaf collects the letters of all forms.
+fn probe_letters(forms: &[Form], flags: &[char], args: &[char], watch: &Watch) {
+    let all = |kind: u16| forms.iter().flat_map(|form| form.letters(kind)).collect::<HashSet<char>>();
     let set = |letters: &[char]| letters.iter().copied().collect::<HashSet<char>>();
-    watch.must(set(flags) == set(&form.letters(FLAG)), || "letters of flags".to_string());
-    watch.must(set(args) == set(&form.letters(ARGUMENT)), || "letters of arguments".to_string());
-    if !split {
-        return;
-    }
-    let dashes = sheet.arguments.iter().any(|a| a == b"--");
-    let r = state.items.len() - usize::from(dashes);
+    watch.must(set(flags) == all(FLAG), || "letters of flags".to_string());
+    watch.must(set(args) == all(ARGUMENT), || "letters of arguments".to_string());
+}
+
+/// R of a line that was split: its items, but for an opening `--`.
+fn unused_by_split(sheet: &Sheet, state: &State) -> usize {
+    state.items.len() - usize::from(sheet.arguments.iter().any(|a| a == b"--"))
+}
+
+/// What holds of a whole run on R places: the bounds on tries and on lists.
+fn probe_counts(form: &Form, r: usize, watch: &Watch) {
     let (tries, leaves) = (watch.tries.get() as usize, form.leaves());
     watch.must(tries <= (r + 2) * leaves, || format!("{tries} tries, R {r}, L {leaves}"));
     watch.must(tries <= (r + 1).max(2) * leaves, || format!("{tries} tries, R {r}, L {leaves}: the sharper bound"));
     let longest = watch.longest.get();
     watch.must(longest <= r.max(1), || format!("a list of {longest} elements, R {r}"));
+}
+
+/// The run of a table: that of the form whose command was taken; how many names were compared; and the entry, for 1 to 4 the one
+/// whose form is at fault.
+#[derive(Clone, Debug, PartialEq, Eq)]
+pub struct Commanded {
+    pub run: Run,
+    pub comparisons: usize,
+    pub entry: Option<usize>,
+}
+
+impl Commanded {
+    /// Refused before any name was compared.
+    pub fn refused(refusal: Refusal, entry: Option<usize>) -> Commanded {
+        Commanded { run: refused_run(refusal), comparisons: 0, entry }
+    }
+}
+
+/// What a command and the run around it hand to each other, past bpaf: the marks, and how the fields ended.
+#[derive(Default)]
+struct Handed {
+    numbers: RefCell<Numbers>,
+    ran: RefCell<Option<Ran>>,
+}
+
+/// The fields of a form, inside a command. They are run as those of a form alone, and how they ended is handed over: of a refusal
+/// bpaf would look for a help option next, which changes the state, and then render it. It does not if a failure is final.
+struct Inside {
+    entry: usize,
+    fields: Vec<Node>,
+    watch: Rc<Watch>,
+    handed: Rc<Handed>,
+}
+
+impl Parser<usize> for Inside {
+    fn eval(&self, args: &mut State) -> Result<usize, Error> {
+        let mut held = Held { state: args.clone(), numbers: self.handed.numbers.take() };
+        held.marked(marks::COMMAND, |_| ());
+        let ran = run_fields(&self.fields, &mut held, &self.watch);
+        *args = held.state;
+        self.handed.numbers.replace(held.numbers);
+        let accepted = ran.is_ok();
+        self.handed.ran.replace(Some(ran));
+        match accepted {
+            true => Ok(self.entry),
+            false => Err(Error(Message::ParseFailure(ParseFailure::Completion(String::new())))),
+        }
+    }
+
+    fn meta(&self) -> Meta {
+        Meta::And(self.fields.iter().map(|f| f.meta()).collect())
+    }
+}
+
+/// The command of an entry. bpaf keeps long and short names apart, each in the order of the records.
+fn command(entry: &Command, inside: Inside) -> ParseCommand<usize> {
+    let mut longs = entry.of_type(LONG).map(intern);
+    let first = inside.to_options().command(longs.next().expect("an entry has a long name"));
+    let named = longs.fold(first, ParseCommand::long);
+    entry.of_type(SHORT).flat_map(str::chars).fold(named, ParseCommand::short)
+}
+
+/// The names of a command that are compared until one is taken, on a state on which one is.
+fn compared(command: &ParseCommand<usize>, given: &State) -> usize {
+    let shorts = command.shorts.iter().map(char::to_string);
+    let mut names = command.longs.iter().map(|long| long.to_string()).chain(shorts);
+    1 + names.position(|name| given.clone().take_cmd(&name)).expect("the name that was taken")
+}
+
+/// Each command's `eval` on one state, until one takes its word: its entry, and the names that were compared.
+fn try_commands(commands: &[ParseCommand<usize>], state: &mut State) -> (Option<usize>, usize) {
+    let mut comparisons = 0;
+    for (entry, command) in commands.iter().enumerate() {
+        let given = state.clone();
+        match command.eval(state) {
+            Err(Error(Message::Missing(_))) => comparisons += command.longs.len() + command.shorts.len(),
+            _ => return (Some(entry), comparisons + compared(command, &given)),
+        }
+    }
+    (None, comparisons)
+}
+
+/// The commands of a table, and the letters that bpaf collects for all of them.
+struct Commands<'a> {
+    table: &'a Table,
+    builders: Vec<Builder<'a>>,
+    parsers: Vec<ParseCommand<usize>>,
+    handed: Rc<Handed>,
+    flags: Vec<char>,
+    args: Vec<char>,
+}
+
+impl Commands<'_> {
+    fn new(table: &Table, wanted: Wanted) -> Commands<'_> {
+        let handed = Rc::new(Handed::default());
+        let builders: Vec<Builder> = table.forms.iter().map(|form| Builder::new(form, wanted)).collect();
+        let inside = |entry: usize, b: &Builder| {
+            let (fields, watch, handed) = (b.fields(), b.watch.clone(), handed.clone());
+            command(&table.commands[entry], Inside { entry, fields, watch, handed })
+        };
+        let parsers: Vec<_> = builders.iter().enumerate().map(|(entry, b)| inside(entry, b)).collect();
+        let (flags, args) = letters(&parsers);
+        Commands { table, builders, parsers, handed, flags, args }
+    }
+
+    /// After the split: the names are tried, and the form of the entry that is taken has run then.
+    fn run(&self, mut held: Held, records: Vec<Record>) -> Commanded {
+        self.handed.numbers.replace(held.numbers.clone());
+        let (entry, comparisons) = try_commands(&self.parsers, &mut held.state);
+        let run = match entry {
+            None => Run { records, state: held.view(), ..refused_run(Refusal::new(31)) },
+            Some(k) => {
+                held.numbers = self.handed.numbers.take();
+                let ran = self.handed.ran.take().expect("a command that is taken runs its fields");
+                reported(ran, records, &held, &self.builders[k].watch)
+            }
+        };
+        Commanded { run, comparisons, entry }
+    }
+
+    /// What holds of a run in which `entry` was taken: as of a form alone, but R does not count the command word.
+    fn probe(&self, entry: usize, r: usize) {
+        let watch = &self.builders[entry].watch;
+        probe_letters(&self.table.forms, &self.flags, &self.args, watch);
+        probe_counts(&self.table.forms[entry], r - 1, watch);
+    }
+}
+
+/// A table and a sheet in bytes, run by the real bpaf; 11 and 1 to 6 are those of `line`, and `short` refuses slices that are too
+/// short.
+pub fn run_table(table: &[u8], sheet: &[u8], short: Option<Refusal>, wanted: Wanted) -> Commanded {
+    let sheets = |table: Table| Ok((table, Sheet::check(sheet)?));
+    match (Table::check(table).and_then(sheets), short) {
+        (Err(refused), _) => Commanded::refused(refused.refusal, refused.entry),
+        (_, Some(refusal)) => Commanded::refused(refusal, None),
+        (Ok((table, sheet)), None) => run_commands(&table, &sheet, wanted),
+    }
+}
+
+/// An accepted table on a sheet: bpaf's own commands, in the order of the entries.
+fn run_commands(table: &Table, sheet: &Sheet, wanted: Wanted) -> Commanded {
+    let commands = Commands::new(table, wanted);
+    let (flags, args) = (&commands.flags, &commands.args);
+    let (state, refused) = construct(&sheet.arguments, flags, args);
+    if refused.is_some_and(|r| r.number == 8) {
+        return Commanded::refused(Refusal::new(8), None);
+    }
+    let records = if wanted.items { records(sheet, &state, flags, args) } else { Vec::new() };
+    let held = Held::after_split(state);
+    if let Some(refusal) = refused {
+        let run = Run { records, state: held.view(), ..refused_run(refusal) };
+        return Commanded { run, comparisons: 0, entry: None };
+    }
+    let r = unused_by_split(sheet, &held.state);
+    let mut ran = commands.run(held, records);
+    if let (true, Some(entry)) = (wanted.probe, ran.entry) {
+        commands.probe(entry, r);
+        ran.run.broken.extend(commands.builders[entry].watch.broken.take());
+    }
+    ran
+}
+
+/// What bpaf's own choice of several commands ends with.
+#[derive(Clone, Copy, Debug, PartialEq, Eq)]
+pub enum Chosen {
+    Accepted(usize),
+    Refused,
+    Unmatched,
+}
+
+/// bpaf's own choice of all commands of a table, on a line that was split, and the state that it leaves. It runs every command
+/// that has the word, each on a copy: where no two have it, that is the run of a table. All used places have the same mark.
+pub fn choose(table: &Table, sheet: &Sheet) -> (Chosen, View) {
+    let commands = Commands::new(table, Wanted::default());
+    let mut state = construct(&sheet.arguments, &commands.flags, &commands.args).0;
+    let boxed = commands.parsers.into_iter().map(|p| Box::new(p) as Box<dyn Parser<usize>>);
+    let choice = boxed.reduce(|this, that| Box::new(ParseOrElse { this, that })).expect("a table has an entry");
+    let chosen = match choice.eval(&mut state) {
+        Ok(entry) => Chosen::Accepted(entry),
+        Err(Error(Message::Missing(_))) => Chosen::Unmatched,
+        Err(_) => Chosen::Refused,
+    };
+    (chosen, view(&state, &Numbers::all(&state, marks::FIELD)))
 }
 
 /// What `run_inner` makes of a line, for the findings about it in docs/DIFFERENCES.md; a run is never compared with it.
@@ -733,7 +938,7 @@ pub fn run_inner(form: &Form, sheet: &Sheet) -> Whole {
     let os: Vec<OsString> = sheet.arguments.iter().map(|a| OsString::from_vec(a.clone())).collect();
     match Fields(Builder::new(form, Wanted::default()).fields()).to_options().run_inner(&os[..]) {
         Ok(words) => Whole::Words(words),
-        Err(crate::ParseFailure::Stdout(..)) => Whole::Printed,
+        Err(ParseFailure::Stdout(..)) => Whole::Printed,
         Err(_) => Whole::Refused,
     }
 }

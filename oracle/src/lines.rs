@@ -1,8 +1,11 @@
 //! Lines with known answers, as tests of the oracle: those of the bench and its hex example first, then one for each
 //! doubtful word of the rules (docs/DECISIONS.md has the readings).
 
-use bpaf::doc::harness::{run_bytes, run_inner, PutBack, Record, Run, Wanted, Whole};
-use line::{format::*, notation};
+use bpaf::doc::harness::{
+    choose, run_bytes, run_inner, run_table, Chosen, Commanded, PutBack, Record, Run, Wanted, Whole,
+};
+use line::commands::{self, Command, Table};
+use line::{cases, format::*, notation};
 
 /// Flags v, q; number argument w; letter b both.
 const LETTERS: &str = "switch(-v); switch(-q); optional(number(-w)); switch(-b); optional(text(-b)); many(operand)";
@@ -79,6 +82,8 @@ pub fn all() -> Tests {
     doubtful_inputs(&mut tests);
     known_lists(&mut tests);
     known_marks(&mut tests);
+    known_commands(&mut tests);
+    choice_findings(&mut tests);
     run_inner_findings(&mut tests);
     tests
 }
@@ -359,6 +364,127 @@ fn known_marks(t: &mut Tests) {
 /// What was put back, as field and place.
 pub fn places(put_back: &[PutBack]) -> Vec<[usize; 2]> {
     put_back.iter().map(|p| [p.field, p.place]).collect()
+}
+
+/// A table, a line, and what is known of its run.
+pub struct CommandLine {
+    pub table: Vec<u8>,
+    pub sheet: Sheet,
+    number: u32,
+    place: Option<usize>,
+    entry: Option<usize>,
+    comparisons: usize,
+    current: Option<usize>,
+    marks: Vec<u16>,
+    words: Vec<u32>,
+}
+
+impl CommandLine {
+    fn new(table: &[u8], arguments: &[&[u8]], marks: &[u16]) -> CommandLine {
+        let sheet = Sheet { arguments: arguments.iter().map(|a| a.to_vec()).collect() };
+        let (table, marks, words) = (table.to_vec(), marks.to_vec(), Vec::new());
+        CommandLine { table, sheet, number: 0, place: None, entry: None, comparisons: 0, current: None, marks, words }
+    }
+
+    /// Accepted: the entry, and the place that was used last.
+    fn answered(self, entry: usize, comparisons: usize, current: usize, words: &[u32]) -> CommandLine {
+        CommandLine { entry: Some(entry), comparisons, current: Some(current), words: words.to_vec(), ..self }
+    }
+
+    /// No command: this many names were compared.
+    fn unmatched(self, comparisons: usize) -> CommandLine {
+        CommandLine { number: 31, comparisons, ..self }
+    }
+
+    fn refused(self, number: u32, place: Option<usize>, entry: Option<usize>) -> CommandLine {
+        CommandLine { number, place, entry, ..self }
+    }
+
+    /// Whether a run has all that is known of it.
+    pub fn is(&self, ran: &Commanded) -> bool {
+        let (answer, state) = (&ran.run.answer, &ran.run.state);
+        (answer.number, answer.place, &answer.words) == (self.number, self.place, &self.words)
+            && (ran.entry, ran.comparisons) == (self.entry, self.comparisons)
+            && (state.current, &state.marks) == (self.current, &self.marks)
+    }
+}
+
+/// The lines of crates/rules/specs/CommandLines.antt: `wear` with the flag v, `log` with the argument v.
+fn wear_and_log() -> Vec<CommandLine> {
+    let (good, [wear, log]) = (commands::write(&cases::wear_log()), cases::wear_log());
+    let unformed = commands::write(&[wear.clone(), Command { form: Vec::new(), ..log.clone() }]);
+    let unnamed = commands::write(&[Command { form: Vec::new(), ..wear }, Command { names: Vec::new(), ..log }]);
+    let line = |arguments: &[&[u8]], marks: &[u16]| CommandLine::new(&good, arguments, marks);
+    vec![
+        line(&[b"wear"], &[511]).answered(0, 1, 0, &[0]),
+        line(&[b"w", b"-v"], &[511, 512]).answered(0, 2, 1, &[1]),
+        line(&[b"log"], &[511]).answered(1, 3, 0, &[0]),
+        // a letter that is a flag in one form and an argument in another is ambiguous in a cluster, under every command
+        line(&[b"wear", b"-vv"], &[0, 0]).refused(9, Some(1), None),
+        // no command: another word, none, an option first, one behind `--`
+        line(&[b"a"], &[0]).unmatched(4),
+        line(&[], &[]).unmatched(4),
+        line(&[b"-v", b"wear"], &[0, 0]).unmatched(4),
+        line(&[b"--", b"wear"], &[510, 0]).unmatched(4),
+        // 11 of the last entry comes before 1 of the first form
+        CommandLine::new(&unformed, &[b"wear"], &[]).refused(1, None, Some(1)),
+        CommandLine::new(&unnamed, &[b"wear"], &[]).refused(11, None, None),
+    ]
+}
+
+/// Names with dashes, which are those of Short and Long items; the order of names; letters of the other forms.
+fn dashes_and_letters() -> Vec<CommandLine> {
+    let command = |names: &[(u16, &str)], form: &str| Command::new(names, notation::parse(form).expect("a form").write());
+    let dashed = command(&[(LONG, "-w"), (SHORT, "-"), (LONG, "--wear"), (LONG, "")], "switch(-v); many(operand)");
+    let cluster = command(&[(LONG, "-vq"), (LONG, "--wear=x")], "switch(-q); optional(operand)");
+    let dashes = commands::write(&[dashed, cluster]);
+    let dashed = |arguments: &[&[u8]], marks: &[u16]| CommandLine::new(&dashes, arguments, marks);
+    let first = command(&[(SHORT, "w"), (LONG, "wear"), (SHORT, "l"), (LONG, "w")], "switch(-v)");
+    let second = command(&[(LONG, "l"), (LONG, "log")], "switch(-q); many(operand); optional(text(-x))");
+    let shared = commands::write(&[first, second]);
+    let shared = |arguments: &[&[u8]], marks: &[u16]| CommandLine::new(&shared, arguments, marks);
+    vec![
+        // a Short item, a Long one, one with a value, a lone dash, nothing
+        dashed(&[b"-w"], &[511]).answered(0, 1, 0, &[0, 0]),
+        dashed(&[b"--wear", b"a"], &[511, 513]).answered(0, 2, 1, &[0, 1, 1]),
+        dashed(&[b"--wear=x"], &[0, 0]).unmatched(6),
+        dashed(&[b"-"], &[511]).answered(0, 4, 0, &[0, 0]),
+        dashed(&[b""], &[511]).answered(0, 3, 0, &[0, 0]),
+        // the first letter of a cluster has the text of all, and the others are left to the form
+        dashed(&[b"-vq", b"a"], &[511, 512, 513]).answered(1, 5, 2, &[1, 1, 2]),
+        // long before short in an entry; an entry before the next
+        shared(&[b"w"], &[511]).answered(0, 2, 0, &[0]),
+        shared(&[b"l"], &[511]).answered(0, 4, 0, &[0]),
+        // v is no letter of `log`, and splits what would be a word; x is none of `wear`
+        shared(&[b"log", b"-qv"], &[511, 512, 0]).answered(1, 6, 1, &[]).refused(27, Some(2), Some(1)),
+        shared(&[b"wear", b"-vx7"], &[511, 512, 0, 0]).answered(0, 1, 1, &[]).refused(27, Some(2), Some(0)),
+    ]
+}
+
+/// Lines under a table whose runs are known.
+pub fn command_lines() -> Vec<CommandLine> {
+    wear_and_log().into_iter().chain(dashes_and_letters()).collect()
+}
+
+fn known_commands(t: &mut Tests) {
+    for known in command_lines() {
+        let wanted = Wanted { items: true, probe: true, ..Wanted::default() };
+        let ran = run_table(&known.table, &known.sheet.write(), None, wanted);
+        let name = format!("commands on {:?}", String::from_utf8_lossy(&known.sheet.arguments.join(&b' ')));
+        t.equal(&format!("{name}: {ran:?}"), known.is(&ran), true);
+        t.equal(&format!("{name}: probed facts"), ran.run.broken, Vec::new());
+    }
+}
+
+/// Why the commands of a table are tried one after the other, and not by bpaf's choice, which runs all that have the word.
+fn choice_findings(t: &mut Tests) {
+    let command = |form: &str| Command::new(&[(LONG, "a")], notation::parse(form).expect("a form").write());
+    let table = commands::write(&[command("flag(-v)"), command("switch(-v)")]);
+    let sheet = Sheet { arguments: vec![b"a".to_vec()] };
+    let ran = run_table(&table, &sheet.write(), None, Wanted::default());
+    t.equal("the first entry with the word is the one", (ran.run.answer.number, ran.entry), (20, Some(0)));
+    let chosen = choose(&Table::check(&table).expect("a table"), &sheet).0;
+    t.equal("a choice gives the second if the first is refused", chosen, Chosen::Accepted(1));
 }
 
 /// Why a run is compared with `construct`, `eval` and `items_iter`, and never with `run_inner`.

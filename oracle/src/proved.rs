@@ -1,12 +1,13 @@
-//! The proved code, linked from its two static libraries: every call, declared once, as a safe function over slices.
+//! The proved code, linked from its static libraries: every call, declared once, as a safe function over slices.
 //!
 //! A slice is two arguments here, a pointer and a count; declared as one it would pass wrongly where one register is left.
 //! The structs have the names of c/silverpoise.h, and the wrappers those of the calls.
 
+use line::commands::TableRefusal;
 use line::forged::{Lent, State};
 use line::format::Refusal;
 
-/// A place as it is handed over: itself plus 1, or 0 for none.
+/// A place or an entry as it is handed over: itself plus 1, or 0 for none.
 pub fn code(place: Option<usize>) -> u32 {
     place.map_or(0, |p| p as u32 + 1)
 }
@@ -77,6 +78,37 @@ pub struct RunAnswer {
     pub state: State,
 }
 
+/// `entry` is plus 1, or 0 for none, as a place is.
+#[repr(C)]
+#[derive(Clone, Copy, Debug, PartialEq, Eq)]
+pub struct CommandAnswer {
+    pub number: u32,
+    pub place: u32,
+    pub tries: u32,
+    pub words: u32,
+    pub comparisons: u32,
+    pub entry: u32,
+    pub state: State,
+}
+
+#[repr(C)]
+#[derive(Clone, Copy, Debug, PartialEq, Eq)]
+pub struct TableRefused {
+    pub number: u32,
+    pub place: u32,
+    pub entry: u32,
+}
+
+/// `offset` counts from the table's first byte.
+#[repr(C)]
+#[derive(Clone, Copy, Debug, PartialEq, Eq)]
+pub struct FormPart {
+    pub number: u32,
+    pub place: u32,
+    pub offset: usize,
+    pub length: usize,
+}
+
 /// `source` is 0 for the sheet and 1 for the form.
 #[repr(C)]
 #[derive(Clone, Copy, Debug, PartialEq, Eq)]
@@ -91,6 +123,12 @@ pub struct TextPart {
 impl From<Refusal> for Refused {
     fn from(r: Refusal) -> Refused {
         Refused { number: r.number, place: code(r.place) }
+    }
+}
+
+impl From<TableRefusal> for TableRefused {
+    fn from(r: TableRefusal) -> TableRefused {
+        TableRefused { number: r.refusal.number, place: code(r.refusal.place), entry: code(r.entry) }
     }
 }
 
@@ -129,6 +167,24 @@ extern "C" {
         list: *mut u32,
         p: usize,
     ) -> RunAnswer;
+}
+
+#[link(name = "exports_commands", kind = "static", modifiers = "-bundle")]
+extern "C" {
+    fn silverpoise_run_commands(
+        table: *const u8,
+        k: usize,
+        sheet: *const u8,
+        n: usize,
+        items: *mut u32,
+        m: usize,
+        answers: *mut u32,
+        l: usize,
+        list: *mut u32,
+        p: usize,
+    ) -> CommandAnswer;
+    fn silverpoise_commands_check(table: *const u8, k: usize) -> TableRefused;
+    fn silverpoise_command_form(table: *const u8, k: usize, entry: usize) -> FormPart;
 }
 
 #[link(name = "exports_calls", kind = "static", modifiers = "-bundle")]
@@ -281,6 +337,26 @@ pub fn run(form: &[u8], sheet: &[u8], items: &mut [u32], answers: &mut [u32], li
     let (f, s) = ((form.as_ptr(), form.len()), (sheet.as_ptr(), sheet.len()));
     let (i, a) = ((items.as_mut_ptr(), items.len()), (answers.as_mut_ptr(), answers.len()));
     unsafe { silverpoise_run(f.0, f.1, s.0, s.1, i.0, i.1, a.0, a.1, list.as_mut_ptr(), list.len()) }
+}
+
+pub fn run_commands(
+    table: &[u8],
+    sheet: &[u8],
+    items: &mut [u32],
+    answers: &mut [u32],
+    list: &mut [u32],
+) -> CommandAnswer {
+    let (t, s) = ((table.as_ptr(), table.len()), (sheet.as_ptr(), sheet.len()));
+    let (i, a) = ((items.as_mut_ptr(), items.len()), (answers.as_mut_ptr(), answers.len()));
+    unsafe { silverpoise_run_commands(t.0, t.1, s.0, s.1, i.0, i.1, a.0, a.1, list.as_mut_ptr(), list.len()) }
+}
+
+pub fn commands_check(table: &[u8]) -> TableRefused {
+    unsafe { silverpoise_commands_check(table.as_ptr(), table.len()) }
+}
+
+pub fn command_form(table: &[u8], entry: usize) -> FormPart {
+    unsafe { silverpoise_command_form(table.as_ptr(), table.len(), entry) }
 }
 
 pub fn eval(lent: &Lent, answers: &mut [u32], list: &mut [u32], node: usize) -> RunAnswer {

@@ -1,21 +1,25 @@
-//! Test cases: well-made and damaged forms and sheets from a seed, cases at the limits, and all short lines.
+//! Test cases: well-made and damaged forms, sheets and command tables from a seed, cases at the limits, and all short lines.
 //!
 //! The same seed gives the same bytes on every machine: the only source of choice is `Rng`.
 
+mod commands;
 mod contested;
 mod damaged;
 mod forms;
 mod limits;
 mod sheets;
 mod short_lines;
+mod tables;
 #[cfg(test)]
 mod tests;
 mod wanting;
 
+pub use commands::{commanded, damaged_commands, TableCase};
 pub use contested::contested;
 pub use damaged::damaged;
 pub use limits::{chain, limits, shared};
 pub use short_lines::{sample_forms, short_lines};
+pub use tables::{each_byte, good_tables, limit_tables, wear_log};
 pub use wanting::wanting;
 
 use crate::format::*;

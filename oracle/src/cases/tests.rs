@@ -5,6 +5,7 @@ use std::collections::{BTreeMap, BTreeSet};
 use super::forms::{written, CROSSED, LISTING};
 use super::limits::{good_forms, limit_forms, limit_sheets, longest};
 use super::*;
+use crate::commands::{Command, Table, ENTRIES};
 use crate::notation;
 
 const CASES: usize = 20_000;
@@ -330,5 +331,54 @@ fn sample_forms_are_accepted() {
         .chain(&written(&CROSSED))
     {
         assert!(Form::check(&form.write()).is_ok(), "{}", notation::show(form));
+    }
+}
+
+/// The number that a table is refused with, or else its sheet.
+fn refused_commands(case: &TableCase) -> u32 {
+    let sheet = |_| Sheet::check(&case.sheet).map(drop);
+    Table::check(&case.table).map_err(|r| r.refusal).and_then(sheet).map_or_else(|r| r.number, |()| 0)
+}
+
+#[test]
+fn commanded_cases_are_well_made() {
+    let mut rng = Rng::new(1);
+    let (mut entries, mut names, mut first) = (BTreeSet::new(), BTreeSet::new(), 0);
+    for _ in 0..CASES / 4 {
+        let case = commanded(&mut rng);
+        assert_eq!(refused_commands(&case), 0);
+        let table = Table::check(&case.table).expect("a table");
+        let sheet = Sheet::check(&case.sheet).expect("a sheet");
+        entries.insert(table.commands.len());
+        names.extend(table.commands.iter().map(|c| c.names.len()));
+        let named = |c: &Command| c.tried().any(|name| sheet.arguments.first().is_some_and(|a| a == name.as_bytes()));
+        first += usize::from(table.commands.iter().any(named));
+    }
+    assert!(entries.contains(&ENTRIES) && (1..=6).all(|n| entries.contains(&n)), "{entries:?}");
+    assert!(names.contains(&NAMES) && (1..=9).all(|n| names.contains(&n)), "{names:?}");
+    assert!((CASES / 8..CASES / 4 - CASES / 20).contains(&first), "{first}");
+}
+
+#[test]
+fn damaged_commands_are_refused_in_every_way() {
+    let mut rng = Rng::new(1);
+    let mut numbers: BTreeMap<u32, usize> = BTreeMap::new();
+    for _ in 0..CASES / 4 {
+        *numbers.entry(refused_commands(&damaged_commands(&mut rng))).or_default() += 1;
+    }
+    assert_eq!(numbers.keys().copied().collect::<Vec<u32>>(), [0, 1, 2, 3, 4, 5, 6, 11]);
+    assert!(numbers.values().all(|n| *n > CASES / 2000), "{numbers:?}");
+    assert!(numbers[&0] < CASES / 8, "{numbers:?}");
+}
+
+#[test]
+fn tables_at_their_limits() {
+    for (table, refused) in limit_tables() {
+        assert_eq!(Table::check(&table).is_err_and(|r| r.refusal == Refusal::new(11)), refused, "{} bytes", table.len());
+    }
+    for (_, table) in good_tables() {
+        assert!(Table::check(&table).is_ok());
+        let changed: BTreeSet<Vec<u8>> = each_byte(&table).collect();
+        assert!(!changed.contains(&table) && changed.len() > 5 * table.len());
     }
 }

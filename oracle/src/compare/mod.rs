@@ -2,6 +2,10 @@
 
 mod calls;
 mod checks;
+#[cfg(live)]
+mod command_slices;
+#[cfg(live)]
+mod commands;
 mod forged_marks;
 mod lent;
 #[cfg(live)]
@@ -90,6 +94,8 @@ pub fn compare(layer: &str, seed: u64, count: Option<u64>) -> Option<Compared> {
         "eval" => run::compare_eval(seed, count.unwrap_or(300_000)),
         #[cfg(live)]
         "run" => run::compare(seed, count.unwrap_or(300_000)),
+        #[cfg(live)]
+        "commands" => commands::compare(seed, count.unwrap_or(300_000)),
         #[cfg(live)]
         "missing" => missing::compare(seed, count.unwrap_or(1_000_000)),
         #[cfg(live)]

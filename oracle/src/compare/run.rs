@@ -116,14 +116,14 @@ fn expected(case: &Case, [items, answers, list]: Lengths) -> Run {
 
 /// Every word that a run must leave in its three slices.
 #[cfg(live)]
-fn left(ran: &Run, [items, answers, list]: Lengths) -> [Vec<u32>; 3] {
+pub fn left(ran: &Run, [items, answers, list]: Lengths) -> [Vec<u32>; 3] {
     let (records, missing) = (ran.records.concat(), ran.missing.concat());
     [padded(&records, items), padded(&ran.answer.words, answers), padded(&missing, list)]
 }
 
 /// The stated lengths mostly, longer in a third of the cases, and those about the limits now and then.
 #[cfg(live)]
-fn lengths(k: u64) -> Lengths {
+pub fn lengths(k: u64) -> Lengths {
     let spare = if k % 3 == 0 { 1 + k as usize % 29 } else { 0 };
     let [items, answers, list] = LEAST.map(|length| length + spare);
     match (k / 7) % 24 {

@@ -5,6 +5,7 @@ mod benchmarks;
 #[cfg(beside)]
 mod beside;
 mod clock;
+mod commands;
 mod counts;
 mod growth;
 mod others;
@@ -27,6 +28,7 @@ measure others          other readers on lines of one form
 measure growth PLOT     growth of the cost
 measure stack           the deepest use of the stack
 measure slowest         inputs that take long; fails if one takes over 20 ms
+measure commands        lines of commands, and clusters under the largest tables; fails if one takes over 20 ms
 measure profile [NAME]  the functions that the instructions of a benchmark, or of each, are in
 measure count           runs every side a few times, for callgrind to count
 ";
@@ -65,6 +67,13 @@ const SLOWEST: &str = "
 ## The slowest inputs
 
 Milliseconds. Families of inputs from small to large; a family ends with the first that takes over a second.
+";
+
+const COMMANDS: &str = "
+## Commands
+
+Nanoseconds, as for lines: the run of a form alone, the same line behind its command under a table of three, and the check of that
+table alone. Then milliseconds of processor time: a command word and one cluster that fills the sheet.
 ";
 
 fn same() -> bool {
@@ -116,6 +125,11 @@ fn slowest() -> bool {
     slowest::print()
 }
 
+fn commands() -> bool {
+    println!("{COMMANDS}");
+    commands::print()
+}
+
 /// What callgrind is to count.
 fn count() -> bool {
     table::count();
@@ -126,7 +140,7 @@ fn main() -> ExitCode {
     let words: Vec<String> = std::env::args().skip(1).collect();
     let words: Vec<&str> = words.iter().map(String::as_str).collect();
     let good = match words[..] {
-        ["all", file] => lines() & others() & growth(file) & stack() & slowest(),
+        ["all", file] => lines() & others() & growth(file) & stack() & slowest() & commands(),
         ["same"] => same(),
         ["lines"] => lines(),
         ["beside", _] => beside(),
@@ -134,6 +148,7 @@ fn main() -> ExitCode {
         ["growth", file] => growth(file),
         ["stack"] => stack(),
         ["slowest"] => slowest(),
+        ["commands"] => commands(),
         ["profile"] => table::print_profile(None),
         ["profile", name] => table::print_profile(Some(name)),
         ["count"] => count(),

@@ -43,11 +43,16 @@ pub struct Line<'a> {
 
 impl<'a> Line<'a> {
     pub fn new(rng: &'a mut Rng, form: &'a Form) -> Line<'a> {
+        Line::among(rng, form, form.letters(FLAG), form.letters(ARGUMENT))
+    }
+
+    /// A line whose clusters are made of these letters, whichever the form has.
+    pub fn among(rng: &'a mut Rng, form: &'a Form, flags: Vec<char>, arguments: Vec<char>) -> Line<'a> {
         Line {
             rng,
             form,
-            flags: form.letters(FLAG),
-            arguments: form.letters(ARGUMENT),
+            flags,
+            arguments,
             longs: (0..form.names.len()).filter(|k| form.names[*k].ty == LONG).collect(),
             out: Vec::new(),
             strict: Vec::new(),
