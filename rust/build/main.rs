@@ -1,32 +1,39 @@
-//! Links the proved code: the folder of `libexports.a` is `SILVERPOISE_LIB`, or else `rt staticlib exports` makes it.
+//! Links the proved code: the folder of its two libraries is `SILVERPOISE_LIB`, or else `rt staticlib` makes them.
 
 mod prove;
 
 use std::{env, path::Path, path::PathBuf, process::Command};
 
+/// Lines of one form, and lines of commands.
+const LIBRARIES: [&str; 2] = ["exports", "exports_commands"];
+
 fn main() {
     println!("cargo::rerun-if-env-changed=SILVERPOISE_LIB");
     let folder = env::var_os("SILVERPOISE_LIB").map_or_else(build, given);
     println!("cargo::rustc-link-search=native={}", folder.display());
-    println!("cargo::rustc-link-lib=static=exports");
+    for library in LIBRARIES {
+        println!("cargo::rustc-link-lib=static={library}");
+    }
 }
 
 fn given(folder: std::ffi::OsString) -> PathBuf {
-    let archive = Path::new(&folder).join("libexports.a");
-    assert!(archive.is_file(), "SILVERPOISE_LIB: there is no {}", archive.display());
-    println!("cargo::rerun-if-changed={}", archive.display());
+    for library in LIBRARIES {
+        let archive = Path::new(&folder).join(format!("lib{library}.a"));
+        assert!(archive.is_file(), "SILVERPOISE_LIB: there is no {}", archive.display());
+        println!("cargo::rerun-if-changed={}", archive.display());
+    }
     PathBuf::from(folder)
 }
 
-/// Proves and builds the library in the project's root; its folder. The archive is newer than this run, so cargo is told to
-/// look at its sources alone.
+/// Proves and builds the libraries in the project's root; their folder. The archives are newer than this run, so cargo is told to
+/// look at their sources alone.
 fn build() -> PathBuf {
     let manifest = env::var_os("CARGO_MANIFEST_DIR").expect("cargo sets CARGO_MANIFEST_DIR");
     let root = Path::new(&manifest).parent().expect("the crate stands in the project's root");
     println!("cargo::rerun-if-changed={}", root.join("crates").display());
     println!("cargo::rerun-if-changed={}", root.join("crates.txt").display());
-    prove::side_by_side(root, "exports", jobs());
-    rt(root, &["staticlib", "exports"]);
+    prove::side_by_side(root, &LIBRARIES, jobs());
+    LIBRARIES.iter().for_each(|library| rt(root, &["staticlib", library]));
     root.join("target/staticlib")
 }
 
@@ -39,6 +46,6 @@ fn jobs() -> usize {
 fn rt(root: &Path, words: &[&str]) {
     match Command::new("rt").args(words).current_dir(root).status() {
         Ok(status) => assert!(status.success(), "`rt {}` failed", words.join(" ")),
-        Err(error) => panic!("`rt` cannot be run ({error}): set SILVERPOISE_LIB to the folder of libexports.a"),
+        Err(error) => panic!("`rt` cannot be run ({error}): set SILVERPOISE_LIB to the folder of the libraries"),
     }
 }

@@ -1,4 +1,4 @@
-//! Proves what a crate rests on, several crates at a time.
+//! Proves what some crates rest on, several at a time.
 //!
 //! `rt` goes level by level, and waits for the last crate of a level before the next begins. Here a crate begins as soon as all
 //! that it names is proved, the one with the longest way still behind it first. Each is proved by `rt check` in a folder of its
@@ -25,10 +25,10 @@ struct Work {
     stopped: bool,
 }
 
-pub fn side_by_side(root: &Path, name: &str, jobs: usize) {
+pub fn side_by_side(root: &Path, names: &[&str], jobs: usize) {
     let Ok(text) = fs::read_to_string(root.join("crates.txt")) else { return };
     let crates = read(&text);
-    let mut waiting: Vec<String> = beneath(&crates, name).into_iter().collect();
+    let mut waiting: Vec<String> = beneath(&crates, names).into_iter().collect();
     let ways = ways(root, &crates, &waiting);
     waiting.sort_by_key(|c| std::cmp::Reverse(ways[c]));
     let work = Mutex::new(Work { waiting, proved: BTreeSet::new(), running: 0, stopped: false });
@@ -49,10 +49,10 @@ fn read(text: &str) -> Crates {
     pairs.iter().map(|(name, words)| (name.trim().to_string(), ours(words))).collect()
 }
 
-/// All that a crate rests on, without itself.
-fn beneath(crates: &Crates, name: &str) -> BTreeSet<String> {
+/// All that some crates rest on, without themselves.
+fn beneath(crates: &Crates, names: &[&str]) -> BTreeSet<String> {
     let mut found = BTreeSet::new();
-    let mut open = vec![name];
+    let mut open = names.to_vec();
     while let Some(next) = open.pop() {
         for d in crates.get(next).into_iter().flatten() {
             if found.insert(d.clone()) {
@@ -102,7 +102,7 @@ fn prove_all(root: &Path, crates: &Crates, work: &Mutex<Work>, changed: &Condvar
         let name = now.waiting.remove(k);
         now.running += 1;
         drop(now);
-        let good = prove(root, &name, &beneath(crates, &name)).unwrap_or(false);
+        let good = prove(root, &name, &beneath(crates, &[&name])).unwrap_or(false);
         now = work.lock().unwrap_or_else(PoisonError::into_inner);
         now.running -= 1;
         now.stopped |= !good;

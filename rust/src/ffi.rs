@@ -50,6 +50,36 @@ pub struct RunAnswer {
     pub state: State,
 }
 
+/// The answer of a run of commands; `entry` is handed over plus 1, as a place is.
+#[repr(C)]
+#[derive(Clone, Copy, Debug, PartialEq, Eq)]
+pub struct CommandAnswer {
+    pub number: u32,
+    pub place: u32,
+    pub tries: u32,
+    pub words: u32,
+    pub comparisons: u32,
+    pub entry: u32,
+    pub state: State,
+}
+
+#[repr(C)]
+#[derive(Clone, Copy, Debug, PartialEq, Eq)]
+pub struct TableRefused {
+    pub number: u32,
+    pub place: u32,
+    pub entry: u32,
+}
+
+#[repr(C)]
+#[derive(Clone, Copy, Debug, PartialEq, Eq)]
+pub struct FormPart {
+    pub number: u32,
+    pub place: u32,
+    pub offset: usize,
+    pub length: usize,
+}
+
 extern "C" {
     fn silverpoise_form_check(form: *const u8, form_count: usize) -> Refused;
     fn silverpoise_kind(form: *const u8, form_count: usize, node: usize) -> Told;
@@ -66,6 +96,20 @@ extern "C" {
         list: *mut u32,
         list_count: usize,
     ) -> RunAnswer;
+    fn silverpoise_commands_check(table: *const u8, table_count: usize) -> TableRefused;
+    fn silverpoise_command_form(table: *const u8, table_count: usize, entry: usize) -> FormPart;
+    fn silverpoise_run_commands(
+        table: *const u8,
+        table_count: usize,
+        sheet: *const u8,
+        sheet_count: usize,
+        items: *mut u32,
+        item_count: usize,
+        answers: *mut u32,
+        answer_count: usize,
+        list: *mut u32,
+        list_count: usize,
+    ) -> CommandAnswer;
 }
 
 pub fn form_check(form: &[u8]) -> Refused {
@@ -90,6 +134,35 @@ pub fn run(form: &[u8], sheet: &[u8], items: &mut [u32], answers: &mut [u32], li
         silverpoise_run(
             form.as_ptr(),
             form.len(),
+            sheet.as_ptr(),
+            sheet.len(),
+            items.as_mut_ptr(),
+            items.len(),
+            answers.as_mut_ptr(),
+            answers.len(),
+            list.as_mut_ptr(),
+            list.len(),
+        )
+    }
+}
+
+pub fn commands_check(table: &[u8]) -> TableRefused {
+    // SAFETY: as said above
+    unsafe { silverpoise_commands_check(table.as_ptr(), table.len()) }
+}
+
+pub fn command_form(table: &[u8], entry: usize) -> FormPart {
+    // SAFETY: as said above
+    unsafe { silverpoise_command_form(table.as_ptr(), table.len(), entry) }
+}
+
+/// The whole run of a line of commands, which checks all that it is given, as `run` does.
+pub fn run_commands(table: &[u8], sheet: &[u8], items: &mut [u32], answers: &mut [u32], list: &mut [u32]) -> CommandAnswer {
+    // SAFETY: as said above
+    unsafe {
+        silverpoise_run_commands(
+            table.as_ptr(),
+            table.len(),
             sheet.as_ptr(),
             sheet.len(),
             items.as_mut_ptr(),
@@ -139,6 +212,49 @@ mod tests {
         assert_eq!((s.count, s.remaining, s.current, s.start, s.end), (2, 0, 2, 0, 2));
         assert_eq!((s.marks[..3].to_vec(), items[..7].to_vec()), (vec![512, 512, 0], vec![1, 0, 118, 0, 0, 0, 3]));
         assert!(items[14..].iter().chain(&answers[1..]).chain(&list).all(|word| *word == 0));
+    }
+
+    /// A table of one entry: the long name `a`, and the form above.
+    fn table() -> Vec<u8> {
+        let entry = [&b"\x01\0\x01\0\x01\0\0\0\x01\0a"[..], FORM].concat();
+        [&b"\x01\0\0\0\0\0"[..], &[entry.len() as u8, 0, 0, 0], &entry].concat()
+    }
+
+    #[test]
+    fn layouts_of_commands() {
+        assert_eq!((size_of::<CommandAnswer>(), align_of::<CommandAnswer>()), (556, 4));
+        assert_eq!((size_of::<TableRefused>(), align_of::<TableRefused>()), (12, 4));
+        assert_eq!((size_of::<FormPart>(), align_of::<FormPart>()), (24, 8));
+        assert_eq!((offset_of!(CommandAnswer, tries), offset_of!(CommandAnswer, words)), (8, 12));
+        assert_eq!((offset_of!(CommandAnswer, comparisons), offset_of!(CommandAnswer, entry)), (16, 20));
+        assert_eq!((offset_of!(CommandAnswer, state), offset_of!(TableRefused, entry)), (24, 8));
+        assert_eq!((offset_of!(FormPart, number), offset_of!(FormPart, offset), offset_of!(FormPart, length)), (0, 8, 16));
+    }
+
+    /// `a` `-vv` under the table, and each way in which it is refused before a command is looked for.
+    #[test]
+    fn known_answers_of_commands() {
+        let table = table();
+        assert_eq!(commands_check(&table), TableRefused { number: 0, place: 0, entry: 0 });
+        assert_eq!(command_form(&table, 0), FormPart { number: 0, place: 0, offset: 21, length: FORM.len() });
+        assert_eq!(command_form(&table, 1), FormPart { number: 28, place: 0, offset: 0, length: 0 });
+        let (mut items, mut answers, mut list) = ([9; ITEM_WORDS], [9; ANSWER_WORDS], [9; LIST_WORDS]);
+        let ran = run_commands(&table, b"\x02\0\0\0\x01\0\x04\0a-vv", &mut items, &mut answers, &mut list);
+        assert_eq!((ran.number, ran.place, ran.tries, ran.words, ran.comparisons, ran.entry), (0, 0, 3, 1, 1, 1));
+        let s = ran.state;
+        assert_eq!((s.count, s.remaining, s.current, s.start, s.end), (3, 0, 3, 0, 3));
+        assert_eq!((&s.marks[..4], &items[..7], answers[0]), (&[511, 512, 512, 0][..], &[4, 0, 0, 0, 0, 0, 1][..], 2));
+        assert!(items[21..].iter().chain(&answers[1..]).chain(&list).all(|word| *word == 0));
+
+        let mut number = |table: &[u8], sheet: &[u8], list: &mut [u32]| {
+            let ran = run_commands(table, sheet, &mut items, &mut answers, list);
+            (ran.number, ran.comparisons, ran.entry)
+        };
+        assert_eq!((number(&table, SHEET, &mut list), number(&[], SHEET, &mut list)), ((31, 1, 0), (11, 0, 0)));
+        assert_eq!((number(&table, &[], &mut list), number(&table, SHEET, &mut [])), ((5, 0, 0), (14, 0, 0)));
+        let mut at_fault = table.clone();
+        at_fault[31] = 0;
+        assert_eq!((number(&at_fault, SHEET, &mut list), commands_check(&at_fault).entry), ((3, 0, 1), 1));
     }
 
     /// What is missing: node plus 1, scope start, scope end, and zeros behind. Here the flag itself, on `-x` and `a`.

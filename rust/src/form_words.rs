@@ -2,7 +2,7 @@
 
 use crate::form_error::FormError;
 use crate::kind::{Base, Kind};
-use crate::layout::{Layout, AREA, FIELDS, NAMES, NODES};
+use crate::layout::{area_length, Layout, AREA, FIELDS, NAMES, NODES};
 use crate::node::{kind, Node, Record, LONG, MISPLACED, SHORT, TEXT};
 use crate::shown::{quoted, shown};
 
@@ -11,12 +11,11 @@ const DEPTH: usize = 4;
 
 /// Refusal 1 of nodes and names that do not fit into a form.
 pub(crate) fn within_limits(all: &Node, fields: usize) -> Result<(), FormError> {
-    let area = all.names.iter().map(|(_, bytes)| bytes.len()).sum();
     let over = [
         (fields, 1, FIELDS, "fields"),
         (all.nodes.len(), 1, NODES, "nodes (flags, arguments, positionals and what stands over them)"),
         (all.names.len(), 0, NAMES, "names and fallback texts"),
-        (area, 0, AREA, "bytes of names and fallback texts"),
+        (area_length(&all.names), 0, AREA, "bytes of names and fallback texts"),
     ];
     match over.iter().find(|(count, least, most, _)| count < least || count > most) {
         None => Ok(()),

@@ -70,7 +70,7 @@ pub enum UsedBy {
     Field(usize),
     /// nobody: it is the first `--`, which is used from the start
     Marker,
-    /// it is a command word, taken by the call `take_cmd` (docs/FORMAT.md, section 10); no read of a form takes one
+    /// nobody: it is the command word of a line of commands (docs/FORMAT.md, section 12)
     Command,
 }
 

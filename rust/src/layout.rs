@@ -1,6 +1,6 @@
 //! A form's bytes: written from records, and read back as records.
 
-use crate::node::{Node, Record};
+use crate::node::{NameRecord, Node, Record};
 
 /// The limits of a form: nodes, fields, name records, bytes of the area.
 pub(crate) const NODES: usize = 64;
@@ -10,22 +10,31 @@ pub(crate) const AREA: usize = 4096;
 
 /// A form's bytes. All numbers must fit into two bytes, which the limits see to.
 pub(crate) fn write(all: &Node, fields: &[usize]) -> Vec<u8> {
-    let area: Vec<u8> = all.names.iter().flat_map(|(_, bytes)| bytes).copied().collect();
     let mut out = Vec::new();
     let mut put = |number: usize| out.extend((number as u16).to_le_bytes());
-    [all.nodes.len(), fields.len(), all.names.len(), area.len()].into_iter().for_each(&mut put);
+    [all.nodes.len(), fields.len(), all.names.len(), area_length(&all.names)].into_iter().for_each(&mut put);
     fields.iter().copied().for_each(put);
     for node in &all.nodes {
         [node.kind as usize, node.p, node.q, node.r].iter().for_each(|n| out.extend((*n as u16).to_le_bytes()));
         [node.lo, node.hi].iter().for_each(|n| out.extend(n.to_le_bytes()));
     }
+    write_names(&mut out, &all.names);
+    out
+}
+
+/// Name records, and the area with their bytes behind them.
+pub(crate) fn write_names(out: &mut Vec<u8>, names: &[NameRecord]) {
     let mut offset = 0;
-    for (ty, bytes) in &all.names {
+    for (ty, bytes) in names {
         [*ty as usize, offset, bytes.len()].iter().for_each(|n| out.extend((*n as u16).to_le_bytes()));
         offset += bytes.len();
     }
-    out.extend(area);
-    out
+    names.iter().for_each(|(_, bytes)| out.extend(bytes));
+}
+
+/// The bytes of the area of these names.
+pub(crate) fn area_length(names: &[NameRecord]) -> usize {
+    names.iter().map(|(_, bytes)| bytes.len()).sum()
 }
 
 /// The records of a form of the right length and counts: any but one that is refused with 1.

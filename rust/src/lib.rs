@@ -32,7 +32,9 @@
 //!   collects this program's arguments first.
 //! - **Types**: [`TypedForm`] over [`Parser`]s; wrong combinations do not compile, and what types cannot say is a
 //!   [`FormError`]. [`TypedForm::with_help`] adds `-h` and `-V`.
-//! - **Without types**: [`Form`] over [`Node`]s, for options that are known only at run time; its values are [`Value`]s.
+//! - **Commands**, each with its own options: [`Commands`] over typed forms gives an enum of yours.
+//! - **Without types**: [`Form`] over [`Node`]s and [`CommandTable`] over forms, for options that are known only at run time;
+//!   their values are [`Value`]s.
 //! - **What was read**: [`TypedForm::read_line`] and [`ReadError`] have the items, which field used each of them ([`Mark`]), and
 //!   the tries; [`ReadError::missing`] what looked in vain.
 //! - **Many lines**: a [`Reader`] keeps the buffers.
@@ -41,10 +43,10 @@
 //!
 //! # What is proved
 //!
-//! The form check, the splitting and the run are the proved code, and every read runs all of it: a form is checked again each
-//! time, and a line is never run unchecked. Writing the arguments as a sheet, reading the answer words as values and all texts
-//! for people are this crate's, in safe Rust, and compared with the real bpaf by `rust/test`. The calls themselves are in one
-//! file, `src/ffi.rs`, the only one with `unsafe`.
+//! The form check, the splitting and the run are the proved code, and every read runs all of it: a form or a table is checked
+//! again each time, and a line is never run unchecked. Writing the arguments as a sheet, reading the answer words as values and
+//! all texts for people are this crate's, in safe Rust, and compared with the real bpaf by `rust/test`. The calls themselves are
+//! in one file, `src/ffi.rs`, the only one with `unsafe`.
 #![deny(unsafe_code)]
 #![warn(missing_docs)]
 
@@ -69,6 +71,13 @@ mod form_words;
 mod form;
 mod needs;
 
+// command tables
+mod table_layout;
+
+mod table_words;
+
+mod table;
+
 // lines: run, and what is told of them
 mod missing;
 
@@ -87,8 +96,10 @@ mod parser;
 
 mod typed;
 
+mod commands;
 mod help;
 
+pub use commands::{Chosen, Command, Commands, Values};
 pub use form::Form;
 pub use form_error::FormError;
 pub use help::{Answer, HelpForm};
@@ -100,6 +111,7 @@ pub use node::{Fallback, Node, Takes};
 pub use parser::{positional, Base, Element, Kind, Parser, Taken, Text};
 pub use read_error::ReadError;
 pub use reader::Reader;
+pub use table::CommandTable;
 pub use typed::{Fields, Kinds, TypedForm};
 pub use value::Value;
 

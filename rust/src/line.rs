@@ -9,11 +9,14 @@ pub struct Line<'a, V> {
     values: V,
     items: Vec<Item<'a>>,
     tries: u32,
+    command: Option<usize>,
+    comparisons: u32,
 }
 
 impl<'a, V> Line<'a, V> {
     pub(crate) fn new(values: V, run: &Run<'_, 'a>) -> Line<'a, V> {
-        Line { values, items: run.items(), tries: run.answer.tries }
+        let (command, comparisons) = (run.command(), run.comparisons());
+        Line { values, items: run.items(), tries: run.answer.tries, command, comparisons }
     }
 
     /// The values of the fields, in order.
@@ -34,5 +37,16 @@ impl<'a, V> Line<'a, V> {
     /// How often a flag, an argument or a positional was evaluated.
     pub fn tries(&self) -> u32 {
         self.tries
+    }
+
+    /// The number of the command that was given, counted from 0; none for a line that was read by a form alone.
+    pub fn command(&self) -> Option<usize> {
+        self.command
+    }
+
+    /// How many names of commands were compared with the line's first word: the number of the name that is that word, counted
+    /// from 1 in the order of the table, in each command the long names before the short ones. 0 for a form alone.
+    pub fn comparisons(&self) -> u32 {
+        self.comparisons
     }
 }

@@ -2,7 +2,7 @@
 
 use crate::form_words::names;
 use crate::layout::Layout;
-use crate::node::{kind, Record};
+use crate::node::{kind, Record, SHORT};
 
 /// What an unrestricted, a strict and a non-strict positional look for.
 const OPERANDS: [&str; 3] = ["an operand", "an operand behind `--`", "an operand before `--`"];
@@ -58,7 +58,17 @@ pub(crate) fn either(parts: &[String]) -> String {
 
 /// Whether a flag or an argument of the form has this short or long name.
 pub(crate) fn has_option(layout: Layout, ty: u16, name: &[u8]) -> bool {
-    let named = |record: &Record| matches!(record.kind, kind::FLAG | kind::ARGUMENT);
-    let nodes = (0..layout.nodes()).map(|node| layout.node(node)).filter(named);
-    nodes.flat_map(|record| record.p..record.p + record.q).any(|k| layout.name(k) == (ty, name))
+    [kind::FLAG, kind::ARGUMENT].iter().any(|kind| option_names(layout, *kind).any(|given| given == (ty, name)))
+}
+
+/// The short names of the flags of a form, or of its arguments.
+pub(crate) fn letters(layout: Layout, kind: u16) -> Vec<char> {
+    let shorts = option_names(layout, kind).filter(|(ty, _)| *ty == SHORT);
+    shorts.filter_map(|(_, name)| std::str::from_utf8(name).ok()?.chars().next()).collect()
+}
+
+/// The types and bytes of the names of all flags, or of all arguments.
+fn option_names(layout: Layout<'_>, kind: u16) -> impl Iterator<Item = (u16, &[u8])> {
+    let nodes = (0..layout.nodes()).map(move |node| layout.node(node)).filter(move |record| record.kind == kind);
+    nodes.flat_map(|record| record.p..record.p + record.q).map(move |k| layout.name(k))
 }

@@ -120,7 +120,19 @@ impl Record {
 #[derive(Clone, Debug, PartialEq, Eq)]
 pub struct Node {
     pub(crate) nodes: Vec<Record>,
-    pub(crate) names: Vec<(u16, Vec<u8>)>,
+    pub(crate) names: Vec<NameRecord>,
+}
+
+/// The type of a name record, and its bytes.
+pub(crate) type NameRecord = (u16, Vec<u8>);
+
+/// The records of names, in order.
+pub(crate) fn name_records(names: Names) -> Vec<NameRecord> {
+    let record = |name| match name {
+        Name::Short(name) => (SHORT, char::to_string(&name).into_bytes()),
+        Name::Long(name) => (LONG, name.into_bytes()),
+    };
+    names.names.into_iter().map(record).collect()
 }
 
 impl Node {
@@ -129,14 +141,7 @@ impl Node {
     }
 
     fn named(kind: u16, names: Names, r: usize) -> Node {
-        let names: Vec<(u16, Vec<u8>)> = names
-            .names
-            .into_iter()
-            .map(|name| match name {
-                Name::Short(name) => (SHORT, name.to_string().into_bytes()),
-                Name::Long(name) => (LONG, name.into_bytes()),
-            })
-            .collect();
+        let names = name_records(names);
         Node { nodes: vec![Record { kind, q: names.len(), r, ..Record::default() }], names }
     }
 

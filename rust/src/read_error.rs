@@ -13,7 +13,8 @@ use crate::run::Run;
 use crate::shown::{underlined, ShownArgument};
 
 /// Why a line was refused. Its `Display` says in words what was refused, and shows the line with the place underlined. Where
-/// something is missing (20) an option that the form does not have is said before it, since it may be that, mistyped.
+/// something is missing (20) an option that the form does not have is said before it, since it may be that, mistyped. Where a
+/// command was given, each sentence begins with its name.
 ///
 /// It owns what it shows, so that it can be handed up with `?`.
 #[derive(Clone, PartialEq, Eq)]
@@ -24,6 +25,8 @@ struct Inner {
     number: u32,
     place: Option<usize>,
     tries: u32,
+    command: Option<usize>,
+    comparisons: u32,
     missing: Vec<Missing>,
     said: Vec<Said>,
     program: Option<OsString>,
@@ -42,6 +45,8 @@ impl ReadError {
             number: answer.number,
             place,
             tries: answer.tries,
+            command: run.command(),
+            comparisons: run.comparisons(),
             said: said(run, &items, place, &missing),
             missing,
             program: None,
@@ -70,6 +75,18 @@ impl ReadError {
     /// How often a flag, an argument or a positional was evaluated.
     pub fn tries(&self) -> u32 {
         self.0.tries
+    }
+
+    /// The number of the command that was given, counted from 0. None for a line that was read by a form alone, and where no
+    /// command was found (31) or looked for (5 to 9).
+    pub fn command(&self) -> Option<usize> {
+        self.0.command
+    }
+
+    /// How many names of commands were compared with the line's first word, as [`Line`](crate::Line) has it: all names where none
+    /// is that word (31), and 0 where none was looked for.
+    pub fn comparisons(&self) -> u32 {
+        self.0.comparisons
     }
 
     /// What is missing, where the refusal is 20 (docs/FORMAT.md, section 9): each flag, argument and positional that looked in

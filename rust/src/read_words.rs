@@ -3,12 +3,13 @@
 use std::ops::Range;
 use std::os::unix::ffi::OsStrExt;
 
-use crate::item::{Item, ItemKind, Mark};
+use crate::item::{Item, ItemKind, Mark, UsedBy};
 use crate::missing::Missing;
 use crate::needs::{either, has_option, some_required};
-use crate::node::{LONG, SHORT};
-use crate::run::{Run, ARGUMENTS};
-use crate::shown::quoted;
+use crate::node::{kind, LONG, SHORT};
+use crate::run::{Run, Tried, ARGUMENTS};
+use crate::shown::{quoted, shown_word};
+use crate::table::CommandTable;
 
 /// A sentence, and the argument and the bytes of it that are shown below it.
 #[derive(Clone, PartialEq, Eq)]
@@ -18,12 +19,23 @@ pub(crate) struct Said {
 }
 
 /// What is said of a refused line, in order: what was refused, and where something is missing an unknown option before it. No
-/// field takes such an option, so it stays wrong when what is missing is given; and it may be just that, mistyped.
+/// field takes such an option, so it stays wrong when what is missing is given; and it may be just that, mistyped. What is
+/// wrong under a command has its name before it.
 pub(crate) fn said(run: &Run, items: &[Item], place: Option<usize>, missing: &[Missing]) -> Vec<Said> {
     let refused = Said { sentence: sentence(run, items, place, missing), spot: spot(run, items, place) };
     let first = items.iter().find(|item| run.answer.number == 20 && unknown(run, item));
     let mistyped = first.map(|item| Said { sentence: not_known(item), spot: Some((item.argument, item.part.clone())) });
-    mistyped.into_iter().chain([refused]).collect()
+    let under = under(run);
+    let named = |Said { sentence, spot }| Said { sentence: format!("{under}{sentence}"), spot };
+    mistyped.into_iter().chain([refused]).map(named).collect()
+}
+
+/// The command that was given, as it stands before a sentence.
+fn under(run: &Run) -> String {
+    match run.commands {
+        Some(Tried { table, command: Some(number), .. }) => format!("{}: ", shown_word(table.names()[number].as_bytes())),
+        _ => String::new(),
+    }
 }
 
 /// What was refused, in a sentence.
@@ -35,8 +47,9 @@ fn sentence(run: &Run, items: &[Item], place: Option<usize>, missing: &[Missing]
         (7 | 14, _) => "a buffer is too short".to_string(),
         (8, _) => "the arguments are more than 256 options and words".to_string(),
         (9, Some(item)) => ambiguous(run, items, item),
+        (31, _) => no_command(run, items),
         (20, _) => not_found(&[either(&missing.iter().map(Missing::to_string).collect::<Vec<_>>())]),
-        (21, _) => not_found(&some_required(run.form.layout())),
+        (21, _) => not_found(&run.form.map_or_else(Vec::new, |form| some_required(form.layout()))),
         (22, Some(key)) => no_value(key, place.and_then(|place| items.get(place + 1))),
         (23, Some(item)) => format!("{} must stand behind `--`", name(item)),
         (24, Some(item)) => format!("{} stands behind `--`, and must stand before it", name(item)),
@@ -50,7 +63,10 @@ fn sentence(run: &Run, items: &[Item], place: Option<usize>, missing: &[Missing]
 
 /// The argument and the bytes of it that a refusal is about.
 fn spot(run: &Run, items: &[Item], place: Option<usize>) -> Option<(usize, Range<usize>)> {
-    let item = items.get(place?)?;
+    let item = match run.answer.number {
+        31 => first_present(items)?,
+        _ => items.get(place?)?,
+    };
     let part = if run.answer.number == 9 { ambiguous_letter(run, items, item) } else { item.part.clone() };
     Some((item.argument, part))
 }
@@ -78,11 +94,37 @@ fn ambiguous_letter(run: &Run, items: &[Item], word: &Item) -> Range<usize> {
 
 fn ambiguous(run: &Run, items: &[Item], word: &Item) -> String {
     let letter = &word.text.as_bytes()[ambiguous_letter(run, items, word)];
-    format!(
-        "the letter {} in {} may be a flag and may take a value: it must be given apart",
-        quoted(letter),
-        quoted(word.text.as_bytes())
-    )
+    let named = format!("the letter {} in {}", quoted(letter), quoted(word.text.as_bytes()));
+    match (run.commands, std::str::from_utf8(letter).ok().and_then(|letter| letter.chars().next())) {
+        (Some(tried), Some(letter)) => format!("{named} {}", ambiguous_in(tried.table, letter)),
+        _ => format!("{named} may be a flag and may take a value: it must be given apart"),
+    }
+}
+
+/// Which commands make a letter ambiguous: a line is split before its command is known.
+fn ambiguous_in(table: &CommandTable, letter: char) -> String {
+    let names = |kind: u16| table.with_letter(kind, letter).iter().map(|name| shown_word(name.as_bytes())).collect::<Vec<_>>();
+    let (flags, arguments) = (names(kind::FLAG).join(", "), names(kind::ARGUMENT).join(", "));
+    format!("is a flag of {flags} and takes a value in {arguments}: under every command it must be given apart")
+}
+
+/// The first item that is not used: the only one that may be a command.
+fn first_present<'i, 'a>(items: &'i [Item<'a>]) -> Option<&'i Item<'a>> {
+    items.iter().find(|item| !item.mark.is_used())
+}
+
+fn no_command(run: &Run, items: &[Item]) -> String {
+    let names = run.commands.map_or(&[][..], |tried| tried.table.names());
+    let names: Vec<String> = names.iter().map(|name| shown_word(name.as_bytes())).collect();
+    let all = names.join(", ");
+    let there_are = if names.len() == 1 { format!("the command is {all}") } else { format!("the commands are {all}") };
+    match first_present(items) {
+        None => format!("a command is required: {all}"),
+        Some(item) if item.kind == ItemKind::PosWord => {
+            format!("{} stands behind `--`, and a command must stand before it; {there_are}", name(item))
+        }
+        Some(item) => format!("{} is not a command; {there_are}", name(item)),
+    }
 }
 
 fn not_found(required: &[String]) -> String {
@@ -142,9 +184,12 @@ fn not_known(option: &Item) -> String {
 
 /// Whether this is an option, and the form has none of its name.
 fn unknown(run: &Run, item: &Item) -> bool {
+    let has = |ty: u16, name: &[u8]| run.form.is_some_and(|form| has_option(form.layout(), ty, name));
     match item.kind {
-        ItemKind::Short(letter) => !has_option(run.form.layout(), SHORT, letter.to_string().as_bytes()),
-        ItemKind::Long(name) => !has_option(run.form.layout(), LONG, name.as_bytes()),
+        // a command word may look like an option
+        _ if item.mark == Mark::Used(UsedBy::Command) => false,
+        ItemKind::Short(letter) => !has(SHORT, letter.to_string().as_bytes()),
+        ItemKind::Long(name) => !has(LONG, name.as_bytes()),
         _ => false,
     }
 }

@@ -7,11 +7,12 @@ use crate::ffi;
 use crate::form::Form;
 use crate::line::Line;
 use crate::read_error::ReadError;
-use crate::run::{Run, ARGUMENTS};
+use crate::run::{Run, Tried, ARGUMENTS};
+use crate::table::CommandTable;
 use crate::value::{Value, Words};
 
 /// The buffers of a read, kept from line to line: [`read`](Reader::read) then allocates nothing but its values and a list of
-/// references to its arguments, [`read_values`](Reader::read_values) the items besides.
+/// references to its arguments, [`read_values`](Reader::read_values) the items besides. The same holds of lines of commands.
 #[derive(Debug)]
 pub struct Reader {
     sheet: Vec<u8>,
@@ -33,22 +34,55 @@ impl Reader {
         form: &'a Form,
         args: &'a [A],
     ) -> Result<Line<'a, Vec<Value<'a>>>, ReadError> {
-        let run = self.run(form, args)?;
-        let mut words = Words::new(&run);
-        let values = form.kinds().iter().map(|kind| words.value(*kind)).collect();
-        Ok(Line::new(values, &run))
+        Ok(values_of(&self.run(form, args)?))
+    }
+
+    /// Reads a line of commands under an untyped table, as [`CommandTable::read_values`] does.
+    pub fn read_command_values<'a, A: AsRef<OsStr>>(
+        &mut self,
+        table: &'a CommandTable,
+        args: &'a [A],
+    ) -> Result<Line<'a, Vec<Value<'a>>>, ReadError> {
+        Ok(values_of(&self.run_commands(table, args)?))
     }
 
     /// Runs a form on a line, to its values or its refusal.
     pub(crate) fn run<'r, 'a, A: AsRef<OsStr>>(&'r mut self, form: &'a Form, args: &'a [A]) -> Result<Run<'r, 'a>, ReadError> {
         let args: Vec<&OsStr> = args.iter().map(AsRef::as_ref).collect();
         self.write_sheet(&args);
-        let (items, rest) = self.words.split_at_mut(ffi::ITEM_WORDS);
-        let (answers, list) = rest.split_at_mut(ffi::ANSWER_WORDS);
+        let Slices { items, answers, list } = slices(&mut self.words);
         let answer = ffi::run(form.bytes(), &self.sheet, items, answers, list);
-        let records = &items[..7 * answer.state.count as usize];
-        let words = &answers[..answer.words as usize];
-        let run = Run { form, args, answer, starts: &self.starts, records, words, list };
+        self.ran(args, Some(form), None, answer)
+    }
+
+    /// Runs the form of the command that a line begins with, to its values or its refusal.
+    pub(crate) fn run_commands<'r, 'a, A: AsRef<OsStr>>(
+        &'r mut self,
+        table: &'a CommandTable,
+        args: &'a [A],
+    ) -> Result<Run<'r, 'a>, ReadError> {
+        let args: Vec<&OsStr> = args.iter().map(AsRef::as_ref).collect();
+        self.write_sheet(&args);
+        let Slices { items, answers, list } = slices(&mut self.words);
+        let answer = ffi::run_commands(table.bytes(), &self.sheet, items, answers, list);
+        let ffi::CommandAnswer { number, place, tries, words, comparisons, entry, state } = answer;
+        let tried = Tried { table, command: ffi::place(entry), comparisons };
+        let form = tried.command.and_then(|command| table.forms().get(command));
+        self.ran(args, form, Some(tried), ffi::RunAnswer { number, place, tries, words, state })
+    }
+
+    /// What a run left in the buffers, as a run or as its refusal.
+    fn ran<'r, 'a>(
+        &'r self,
+        args: Vec<&'a OsStr>,
+        form: Option<&'a Form>,
+        commands: Option<Tried<'a>>,
+        answer: ffi::RunAnswer,
+    ) -> Result<Run<'r, 'a>, ReadError> {
+        let (records, rest) = self.words.split_at(ffi::ITEM_WORDS);
+        let (words, list) = rest.split_at(ffi::ANSWER_WORDS);
+        let (records, words) = (&records[..7 * answer.state.count as usize], &words[..answer.words as usize]);
+        let run = Run { form, commands, args, answer, starts: &self.starts, records, words, list };
         match answer.number {
             0 => Ok(run),
             _ => Err(ReadError::new(&run)),
@@ -76,6 +110,26 @@ impl Reader {
     }
 }
 
+/// The slices that a run writes.
+struct Slices<'r> {
+    items: &'r mut [u32],
+    answers: &'r mut [u32],
+    list: &'r mut [u32],
+}
+
+fn slices(words: &mut [u32]) -> Slices<'_> {
+    let (items, rest) = words.split_at_mut(ffi::ITEM_WORDS);
+    let (answers, list) = rest.split_at_mut(ffi::ANSWER_WORDS);
+    Slices { items, answers, list }
+}
+
+/// A line that was accepted, with a value for each field of its form.
+fn values_of<'a>(run: &Run<'_, 'a>) -> Line<'a, Vec<Value<'a>>> {
+    let mut words = Words::new(run);
+    let kinds = run.form.map_or(&[][..], Form::kinds);
+    Line::new(kinds.iter().map(|kind| words.value(*kind)).collect(), run)
+}
+
 impl Default for Reader {
     fn default() -> Reader {
         Reader::new()
@@ -88,6 +142,15 @@ impl Form {
     /// A [`Reader`] does the same and keeps its buffers from line to line.
     pub fn read_values<'a, A: AsRef<OsStr>>(&'a self, args: &'a [A]) -> Result<Line<'a, Vec<Value<'a>>>, ReadError> {
         Reader::new().read_values(self, args)
+    }
+}
+
+impl CommandTable {
+    /// Reads a line whose first argument is a command: a value for each field of its form, in order, and the command's number.
+    ///
+    /// A [`Reader`] does the same and keeps its buffers from line to line.
+    pub fn read_values<'a, A: AsRef<OsStr>>(&'a self, args: &'a [A]) -> Result<Line<'a, Vec<Value<'a>>>, ReadError> {
+        Reader::new().read_command_values(self, args)
     }
 }
 
@@ -111,7 +174,9 @@ mod tests {
         let (items, rest) = reader.words.split_at_mut(ffi::ITEM_WORDS - 1);
         let answer = ffi::run(form.bytes(), &reader.sheet, items, rest, &mut []);
         let args = vec![OsStr::new("-v")];
-        refused(ReadError::new(&Run { form: &form, args, answer, starts: &[0], records: &[], words: &[], list: &[] }), 7);
+        let (form, commands) = (Some(&form), None);
+        let run = Run { form, commands, args, answer, starts: &[0], records: &[], words: &[], list: &[] };
+        refused(ReadError::new(&run), 7);
     }
 
     /// What is missing on one line is gone from the list on the next.

@@ -7,13 +7,17 @@ use crate::ffi::RunAnswer;
 use crate::form::Form;
 use crate::item::{Area, Item};
 use crate::missing::{self, Missing};
+use crate::table::CommandTable;
 
 /// The most arguments of a line.
 pub(crate) const ARGUMENTS: usize = 256;
 
 /// What a run left, with what it was run on.
 pub struct Run<'r, 'a> {
-    pub(crate) form: &'a Form,
+    /// the form that was run; none where a line of commands was refused before one was chosen
+    pub(crate) form: Option<&'a Form>,
+    /// of a line of commands
+    pub(crate) commands: Option<Tried<'a>>,
     pub(crate) args: Vec<&'a OsStr>,
     pub(crate) answer: RunAnswer,
     /// where each argument begins in the sheet's area
@@ -25,7 +29,25 @@ pub struct Run<'r, 'a> {
     pub(crate) list: &'r [u32],
 }
 
+/// Which command a line began with.
+#[derive(Clone, Copy)]
+pub(crate) struct Tried<'a> {
+    pub table: &'a CommandTable,
+    /// the number of the command; none where none was found
+    pub command: Option<usize>,
+    pub comparisons: u32,
+}
+
 impl<'a> Run<'_, 'a> {
+    /// The number of the command whose form was run.
+    pub(crate) fn command(&self) -> Option<usize> {
+        self.commands.and_then(|tried| tried.command)
+    }
+
+    pub(crate) fn comparisons(&self) -> u32 {
+        self.commands.map_or(0, |tried| tried.comparisons)
+    }
+
     pub(crate) fn area(&self) -> Area<'_, 'a> {
         Area { args: &self.args, starts: self.starts }
     }
@@ -35,13 +57,16 @@ impl<'a> Run<'_, 'a> {
     }
 
     pub(crate) fn missing(&self) -> Vec<Missing> {
-        missing::read(self.form.layout(), self.list)
+        self.form.map_or_else(Vec::new, |form| missing::read(form.layout(), self.list))
     }
 
     /// The text that an answer word stands for: an item's, or from 256 on a name record's.
     pub(crate) fn text(&self, word: u32) -> &'a OsStr {
         match word.checked_sub(256) {
-            Some(record) => OsStr::from_bytes(self.form.layout().name(record as usize).1),
+            Some(record) => {
+                let form = self.form.expect("a line that was accepted has its form");
+                OsStr::from_bytes(form.layout().name(record as usize).1)
+            }
             None => {
                 let at = 7 * word as usize;
                 self.area().part(self.records[at + 5], self.records[at + 6])

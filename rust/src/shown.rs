@@ -73,6 +73,11 @@ impl ShownArgument {
     }
 }
 
+/// A word as it stands in a shown line.
+pub(crate) fn shown_word(bytes: &[u8]) -> String {
+    ShownArgument::new(bytes, usize::MAX).text
+}
+
 /// A line, and below it carets under some of its columns.
 pub(crate) fn underlined(line: &str, columns: Range<usize>) -> String {
     let (line, columns) = window(line, columns);

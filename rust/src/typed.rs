@@ -124,6 +124,10 @@ impl<K: Kinds> TypedForm<K> {
         &self.form
     }
 
+    pub(crate) fn into_form(self) -> Form {
+        self.form
+    }
+
     pub(crate) fn fields(&self) -> &[Node] {
         &self.fields
     }

@@ -6,7 +6,7 @@ use std::os::unix::ffi::OsStrExt;
 use std::path::{Path, PathBuf};
 use std::process::{Command, Output, Stdio};
 
-use silverpoise::{long, short, Form, Node, Takes};
+use silverpoise::{long, short, CommandTable, Form, Node, Takes};
 
 /// Runs a program with this on its standard input.
 fn run(program: impl AsRef<OsStr>, args: &[impl AsRef<OsStr>], input: &[u8]) -> Output {
@@ -144,6 +144,132 @@ refused with 27 at place 1 in 4 tries
        ^
 ";
     shows("bench.form", &["-v=7"], 1, expected);
+}
+
+#[test]
+fn a_command_of_the_workshop() {
+    let expected = r#"
+line  pair -f lock chain
+   0  ^^^^                Word   the command pair
+   1       ^^             Short  used by force
+   2          ^^^^        Word   used by first
+   3               ^^^^^  Word   used by second
+
+values of pair in 3 tries, 3 comparisons
+  force   yes
+  first   "lock"
+  second  "chain"
+"#;
+    shows("workshop.form", &["pair", "-f", "lock", "chain"], 0, expected);
+    let short = r#"
+line  w lock
+   0  ^       Word  the command wear
+   1    ^^^^  Word  used by label
+
+values of wear in 9 tries, 2 comparisons
+  limit     absent
+  cradle-1  no
+  cradle-2  no
+  cradle-3  no
+  cradle-4  no
+  cradle-5  no
+  cradle-6  no
+  label     "lock"
+  parts     []
+"#;
+    shows("workshop.form", &["w", "lock"], 0, short);
+}
+
+#[test]
+fn a_line_that_is_no_command() {
+    let expected = "
+line  wera lock
+   0  ^^^^       Word  not used
+   1       ^^^^  Word  not used
+
+refused with 31 in 0 tries, 4 comparisons
+  `wera` is not a command; the commands are wear, pair, log
+    wera lock
+    ^^^^
+";
+    shows("workshop.form", &["wera", "lock"], 1, expected);
+    let empty = "
+line  (no arguments)
+
+refused with 31 in 0 tries, 4 comparisons
+  a command is required: wear, pair, log
+";
+    shows("workshop.form", &[], 1, empty);
+}
+
+/// Each sentence has the command before it.
+#[test]
+fn a_command_that_is_refused() {
+    let expected = "
+line  pair --forc lock
+   0  ^^^^              Word  the command pair
+   1       ^^^^^^       Long  not used
+   2              ^^^^  Word  used by first
+
+refused with 20 in 3 tries, 3 comparisons
+  pair: `--forc` is not a known option
+    pair --forc lock
+         ^^^^^^
+  pair: an operand is required, and was not found
+";
+    shows("workshop.form", &["pair", "--forc", "lock"], 1, expected);
+    let number = "
+line  w lock -l 10000
+   0  ^                Word   the command wear
+   1    ^^^^           Word   not used
+   2         ^^        Short  used by limit
+   3            ^^^^^  Word   used by limit
+
+refused with 26 at place 3 in 1 try, 2 comparisons
+  wear: a number is out of its bounds; the word that was taken last is shown
+    w lock -l 10000
+              ^^^^^
+note: place 3 stays used: a word is not given back when it is refused
+";
+    shows("workshop.form", &["w", "lock", "-l", "10000"], 1, number);
+}
+
+/// The letters of all commands split a line, whichever is given.
+#[test]
+fn letters_of_another_command() {
+    let form = b"[wear]\nlimit: number -l, optional\nrest: text, many\n[log]\nlong: switch -l\n";
+    let printed = command(&["-", "wear", "-l7"], form);
+    let expected = "line  wear -l7
+   0  ^^^^      Word  not used
+   1       ^^^  Word  not used
+
+refused with 9 at place 1 in 0 tries, 0 comparisons
+  the letter `l` in `-l7` is a flag of log and takes a value in wear: under every command it must be given apart
+    wear -l7
+          ^
+";
+    assert_eq!((printed.status.code(), String::from_utf8_lossy(&printed.stdout).as_ref()), (Some(1), expected));
+    // a letter that only another command has is no unknown letter: the cluster is no word
+    let printed = |word: &str| {
+        String::from_utf8(command(&["-", "a", word], b"[a1]\na: switch -a\nr: text, many\n[b1 a]\nb: switch -b\n").stdout)
+    };
+    assert!(printed("-bb").expect("UTF-8").contains("b1: `-b` is not expected here"));
+    assert!(printed("-bx").expect("UTF-8").contains("note: `-bx` is one word, not options: no option has the letter `x`"));
+}
+
+/// Where no word was taken, the place of 26 is that of the command, which is not refused.
+#[test]
+fn a_number_that_no_word_gave() {
+    let printed = command(&["-", "ab"], b"[ab]\nn: number -n, else 9, 1..5\n");
+    let expected = "line  ab
+   0  ^^  Word  the command ab
+
+refused with 26 at place 0 in 1 try, 1 comparison
+  ab: a number is out of its bounds; the word that was taken last is shown
+    ab
+    ^^
+";
+    assert_eq!((printed.status.code(), String::from_utf8_lossy(&printed.stdout).as_ref()), (Some(1), expected));
 }
 
 /// Each that looked in vain is named, in order.
@@ -422,6 +548,11 @@ fn the_portable_mark() {
     assert_eq!(said(b"parts: text, many\n"), (Some(0), yes.into()));
     let no = "not portable:\n  `-W` is reserved for vendor options\n  `-+` is none of 0..9, A..Z, a..z\n";
     assert_eq!(said(b"a: switch -W --wide\nb: text -+, optional\nc: flag -v, count\n"), (Some(1), no.into()));
+    // of commands every form must be so; the commands' own short names do not matter
+    assert_eq!(said(b"[wear +]\na: switch -a\n[log W]\nb: switch -b\n"), (Some(0), yes.into()));
+    let no = "not portable:\n  log: `-W` is reserved for vendor options\n  pair: `-+` is none of 0..9, A..Z, a..z\n";
+    let commands = b"[wear]\na: switch -a\n[log]\nb: switch -W\n[p pair]\nc: switch -+\n";
+    assert_eq!(said(commands), (Some(1), no.into()));
 }
 
 /// The words behind the form are the line, those of the command's own options included.
@@ -491,6 +622,46 @@ fn every_error_of_the_notation() {
     }
     let not_utf8 = "2:5: this byte is not UTF-8; in quotes it can be written as in `\"\\xff\"`";
     assert_eq!(fault(b"v: switch -v\nw: \xc3\xa9\xff"), not_utf8);
+}
+
+#[test]
+fn every_error_of_a_heading() {
+    let name = "a command's name or `]` must be here, as in `[wear w]`";
+    let no_long = "a command has a name of two characters or more, as in `[wear w]`";
+    let expected: &[(&str, &str)] = &[
+        ("[]\na: text", &format!("1:1: {no_long}")),
+        ("[w]\na: text", &format!("1:1: {no_long}")),
+        ("[wear", &format!("1:6: {name}")),
+        ("[wear: w]", &format!("1:6: {name}")),
+        ("[[wear]", &format!("1:2: {name}")),
+        ("[wear] a: text", "1:8: the line of a command ends with `]`"),
+        ("[wear -w]", "1:7: a command's name has no dashes; in quotes it is taken as it is"),
+        ("[wear \"\\xff\"]", "1:7: a name must be UTF-8"),
+        ("[wear wear]", "1:7: this name is a command's already"),
+        ("[wear w]\na: text\n[w log]", "3:2: this name is a command's already"),
+        ("a: text\n[wear]\nb: text", "2:1: fields stand above the first command: they belong to none"),
+        ("[wear]\n# nothing\n[log]\na: text", "1:1: the command has no field"),
+        ("[wear]\na: text\n  [log]", "3:3: the command has no field"),
+        // each form has its own fields, and its faults their own lines
+        ("[wear]\na: text\n[log]\na: text\na: text", "5:1: a field before this one is called `a` too"),
+        ("[wear]\na: text\n[log]\nb: number, 9..1", "4:12: nothing is within 9..1"),
+    ];
+    for (text, words) in expected {
+        assert_eq!(fault(text.as_bytes()), *words, "{text}");
+    }
+}
+
+#[test]
+fn limits_of_commands() {
+    let commands = |count: usize| -> String { (0..count).map(|k| format!("[c{k}]\na: switch -v\n")).collect() };
+    assert_eq!(emitted(commands(32).as_bytes()).0, Some(0));
+    assert_eq!(fault(commands(33).as_bytes()), "65:1: a file has at most 32 commands");
+    let names = |count: usize| format!("[{}]\na: text", (0..count).map(|k| format!(" n{k}")).collect::<String>());
+    assert_eq!(emitted(names(128).as_bytes()).0, Some(0));
+    assert_eq!(fault(names(129).as_bytes()), "1:1: it has 129 names, and at most 128 are allowed");
+    // the limits of a form are those of each command's
+    let two: String = ["ab", "cd"].map(|name| format!("[{name}]\nv: switch{}\n", " -v".repeat(128))).concat();
+    assert_eq!(emitted(two.as_bytes()).0, Some(0));
 }
 
 /// What the form check refuses is found again in the text: the place is that of the word that made the node.
@@ -587,6 +758,17 @@ fn emitted_forms_are_those_of_the_crate() {
     assert_eq!(Form::from_bytes(form.bytes()), Ok(form));
 }
 
+/// Names of every kind, and square brackets, which mean nothing on other lines.
+#[test]
+fn emitted_commands_are_those_of_the_crate() {
+    let text = "# two\n [wear w \"two words\" \"-w\" \u{e9}] # names\n  a]: switch -[ --[x]\n[\"\" log]\nb: text\n";
+    let wear = Form::of([Node::switch(short('[').long("[x]"))]).expect("accepted");
+    let log = Form::of([Node::positional(Takes::Text)]).expect("accepted");
+    let names = long("wear").short('w').long("two words").long("-w").short('\u{e9}');
+    let table = CommandTable::of([(names, wear), (long("").long("log"), log)]).expect("accepted");
+    assert_eq!(emitted(text.as_bytes()), (Some(0), table.bytes().to_vec()));
+}
+
 /// The forms of rust/forms are accepted, and what is emitted is read back.
 #[test]
 fn forms_of_the_folder() {
@@ -596,10 +778,22 @@ fn forms_of_the_folder() {
         let path = file.expect("a file").path();
         let Output { status, stdout, stderr } = command(&[OsStr::new("--emit"), path.as_os_str()], b"");
         assert_eq!((status.code(), stderr), (Some(0), Vec::new()), "{path:?}");
-        assert_eq!(Form::from_bytes(&stdout).expect("accepted").bytes(), stdout);
+        match path.ends_with("workshop.form") {
+            true => assert_eq!(CommandTable::from_bytes(&stdout).expect("accepted").bytes(), stdout),
+            false => assert_eq!(Form::from_bytes(&stdout).expect("accepted").bytes(), stdout),
+        }
         count += 1;
     }
-    assert_eq!(count, 5);
+    assert_eq!(count, 6);
+}
+
+/// The wear order is the same alone and as a command.
+#[test]
+fn the_wear_order_of_the_workshop() {
+    let emitted = |name: &str| command(&[OsStr::new("--emit"), form_file(name).as_os_str()], b"").stdout;
+    let table = CommandTable::from_bytes(&emitted("workshop.form")).expect("accepted");
+    assert_eq!(table.names(), ["wear", "pair", "log"]);
+    assert_eq!(table.forms()[0].bytes(), emitted("wear.form"));
 }
 
 /// The proved program `bench` reads what is emitted, a sheet behind it. It is left out where `rt check bench` was not run.

@@ -1,9 +1,11 @@
 //! Every public call, wrong use, and the words of every refusal.
 
+mod commands;
 mod errors;
 mod forms;
 mod help;
 mod lines;
 mod marks;
+mod tables;
 mod typed;
 mod wrong_use;

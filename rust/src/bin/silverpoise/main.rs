@@ -3,6 +3,7 @@
 
 mod notation;
 mod notes;
+mod sections;
 mod show;
 // the library's own file
 #[path = "../../shown.rs"]
@@ -11,16 +12,17 @@ mod source;
 #[cfg(test)]
 mod tests;
 mod tokens;
+mod written;
 
 use std::ffi::{OsStr, OsString};
 use std::io::{self, IsTerminal, Read, Write};
 use std::os::unix::ffi::OsStrExt;
 use std::process::ExitCode;
 
-use notation::Written;
-use show::Paint;
-use silverpoise::Form;
+use show::{Counts, Paint};
+use silverpoise::{Form, Line, ReadError};
 use source::{Fault, Spot};
+use written::{What, Written};
 
 const USAGE: &str = "usage: silverpoise [--emit | --portable] [--] FORM WORD...";
 
@@ -31,7 +33,7 @@ usage: silverpoise [--emit | --portable] [--] FORM WORD...
 
   FORM        a file with one field a line; - is standard input
   WORD...     the line; all words behind FORM belong to it
-  --emit      write the form as bytes, for `bench` and other programs; no words
+  --emit      write the form or the commands as bytes, for other programs; no words
   --portable  say whether POSIX has such short options; no words
   --help      print this
   --version   print the version
@@ -51,6 +53,13 @@ A form:
   behind a comma: optional, many, some, count, last, LO..HI, else VALUE, and
   catch (behind optional, many, some), adjacent (of text NAMES and number NAMES),
   strict and non-strict (of text and number without names)
+
+Several commands, each with its names and a form below them; a name of one character is short:
+
+  [wear w]
+  limit:   number -l, optional
+  [log]
+  parts:   text, many
 
 Exit status: 0 values, 1 the line is refused or the form is not portable, 2 wrong use or a form at fault.
 docs/COMMAND.md says more.
@@ -114,9 +123,9 @@ fn run(wanted: Use) -> Result<(u8, Vec<u8>), String> {
     match wanted {
         Use::Help => Ok((0, HELP.into())),
         Use::Version => Ok((0, concat!("silverpoise ", env!("CARGO_PKG_VERSION"), "\n").into())),
-        Use::Emit(file) => Ok((0, form(file)?.form.bytes().to_vec())),
+        Use::Emit(file) => Ok((0, form(file)?.bytes().to_vec())),
         Use::Portable(file) => {
-            let (status, text) = portable(&form(file)?.form);
+            let (status, text) = portable(&form(file)?);
             Ok((status, text.into_bytes()))
         }
         Use::Read(file, line) => {
@@ -126,17 +135,23 @@ fn run(wanted: Use) -> Result<(u8, Vec<u8>), String> {
     }
 }
 
-/// The portable mark, and the short names that take it away.
-fn portable(form: &Form) -> (u8, String) {
-    if form.is_portable() {
+/// The portable mark, and the short names that take it away, each behind its command if there are commands.
+fn portable(written: &Written) -> (u8, String) {
+    if written.forms().iter().all(Form::is_portable) {
         return (0, "portable: every short option is one of 0..9, A..Z, a..z, and none is W\n".into());
     }
     let why = |name| match name {
         'W' => "is reserved for vendor options",
         _ => "is none of 0..9, A..Z, a..z",
     };
-    let row = |name: char| format!("  `-{}` {}\n", shown::shown_char(name), why(name));
-    (1, format!("not portable:\n{}", form.unportable_names().into_iter().map(row).collect::<String>()))
+    let row = |under: &str, name: char| format!("  {under}`-{}` {}\n", shown::shown_char(name), why(name));
+    let mut text = "not portable:\n".to_string();
+    for (number, form) in written.forms().iter().enumerate() {
+        let command = written.under(Some(number)).command;
+        let under = command.map_or(String::new(), |command| format!("{}: ", shown::shown_word(command.as_bytes())));
+        text.extend(form.unportable_names().into_iter().map(|name| row(&under, name)));
+    }
+    (1, text)
 }
 
 fn print(bytes: &[u8]) -> Result<(), String> {
@@ -158,7 +173,7 @@ fn named(file: &OsStr) -> String {
     shown::shown(file.as_bytes())
 }
 
-/// The form that a file has.
+/// The form or the commands that a file has.
 fn form(file: &OsStr) -> Result<Written, String> {
     let mut bytes = Vec::new();
     let (name, got) = match file == "-" {
@@ -183,18 +198,24 @@ fn not_utf8(before: &[u8]) -> Fault {
 
 /// The exit status of a line, and what is shown of it.
 fn read(written: &Written, line: &[OsString], paint: Paint) -> (u8, String) {
-    let answer = written.form.read_values(line);
+    let answer = written.read_values(line);
+    let under = written.under(answer.as_ref().map_or_else(ReadError::command, Line::command));
     let (status, items, answered, notes) = match &answer {
         Ok(read) => {
-            let values = show::values(paint, &written.fields, read.values(), read.tries());
-            (0, read.items().to_vec(), values, notes::notes(written, line, read.items(), Ok(read.values())))
+            let values = show::values(paint, under, read.values(), counts(written, read.tries(), read.comparisons()));
+            (0, read.items().to_vec(), values, notes::notes(under, line, read.items(), Ok(read.values())))
         }
         Err(error) => {
             let items = error.items();
-            let notes = notes::notes(written, line, &items, Err(error));
-            (1, items, show::refusal(paint, error), notes)
+            let notes = notes::notes(under, line, &items, Err(error));
+            (1, items, show::refusal(paint, error, counts(written, error.tries(), error.comparisons())), notes)
         }
     };
     let notes: String = notes.iter().map(|words| show::note(paint, words)).collect();
-    (status, format!("{}\n{answered}{notes}", show::line(paint, &written.fields, line, &items)))
+    (status, format!("{}\n{answered}{notes}", show::line(paint, under, line, &items)))
+}
+
+fn counts(written: &Written, tries: u32, comparisons: u32) -> Counts {
+    let commands = matches!(written.what, What::Commands(_));
+    Counts { tries, comparisons: commands.then_some(comparisons) }
 }

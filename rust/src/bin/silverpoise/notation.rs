@@ -1,13 +1,15 @@
-//! Forms written as text: one field a line. docs/COMMAND.md has the notation with examples.
+//! Forms written as text: one field a line, several forms under headings. docs/COMMAND.md has the notation with examples.
 
 use std::ffi::OsString;
 use std::os::unix::ffi::OsStringExt;
 
-use silverpoise::{Fallback, Form, FormError, Names, Node, Takes};
+use silverpoise::{Fallback, Names, Node, Takes};
 
+use crate::sections::{crate_names, written, Heading, Section, START};
 use crate::shown::quoted;
 use crate::source::{Fault, Spot};
 use crate::tokens::{tokens, Token, Tokens};
+use crate::written::{Field, Letters, OptionName, Written};
 
 /// The limits of a form. They are tested here too, where the line and the column are known.
 const NODES: usize = 64;
@@ -18,52 +20,24 @@ const AREA: usize = 4096;
 /// How deep brackets may stand in each other. A form of 64 nodes needs no more.
 const DEPTH: usize = 64;
 
-/// A form, with what its text says beyond it.
-pub struct Written {
-    pub form: Form,
-    pub fields: Vec<Field>,
-    pub letters: Letters,
-}
+/// The most commands of a file.
+const COMMANDS: usize = 32;
 
-pub struct Field {
-    pub name: String,
-    /// of a field that counts a switch: the names of the switch
-    pub counted_switch: Vec<OptionName>,
-}
-
-/// The short names of all flags and switches, and those of all arguments.
-#[derive(Default)]
-pub struct Letters {
-    pub flags: Vec<char>,
-    pub arguments: Vec<char>,
-}
-
-#[derive(Clone, Debug, PartialEq, Eq)]
-pub enum OptionName {
-    Short(char),
-    Long(String),
-}
-
-/// The form that is written in the text.
+/// The form, or the commands with their forms, that the text has.
 pub fn parse(text: &str) -> Result<Written, Fault> {
-    let start = Spot { line: 1, column: 1 };
-    let line = Tokens { tokens: Vec::new(), end: start };
-    let mut parser = Parser { line, at: 0, depth: 0, nodes: Vec::new(), names: 0, area: 0, letters: Letters::default() };
-    let (mut fields, mut roots) = (Vec::<Field>::new(), Vec::new());
+    let line = Tokens { tokens: Vec::new(), end: START };
+    let (section, letters) = (Section::default(), Letters::default());
+    let mut parser = Parser { line, at: 0, depth: 0, above: Vec::new(), section, letters };
     for (k, line) in text.lines().enumerate() {
         (parser.line, parser.at) = (tokens(line, k + 1)?, 0);
-        if parser.line.tokens.is_empty() {
-            continue;
+        match parser.peek() {
+            None => {}
+            Some(Token::OpenCommand) => parser.heading()?,
+            Some(_) => parser.field()?,
         }
-        let (field, root) = parser.field(&fields)?;
-        fields.push(field);
-        roots.push(root);
     }
-    if fields.is_empty() {
-        return Err(Fault::new(start, "the form has no field"));
-    }
-    let form = Form::of(roots).map_err(|error| parser.refused(error, start))?;
-    Ok(Written { form, fields, letters: parser.letters })
+    parser.above.push(parser.section);
+    written(parser.above, parser.letters)
 }
 
 /// What was read of a field so far.
@@ -87,11 +61,10 @@ struct Parser {
     line: Tokens,
     at: usize,
     depth: usize,
-    /// where each node was written, in the order of the form's nodes: children first, the first side of a choice first
-    nodes: Vec<Spot>,
-    /// how many name records there are, and how many bytes they have together
-    names: usize,
-    area: usize,
+    /// the commands above the one that is read
+    above: Vec<Section>,
+    /// the form that is read
+    section: Section,
     letters: Letters,
 }
 
@@ -124,14 +97,72 @@ impl Parser {
         Err(Fault::new(self.spot(), words))
     }
 
-    /// `NAME: PARSER`, the whole line.
-    fn field(&mut self, before: &[Field]) -> Result<(Field, Node), Fault> {
+    /// `[NAMES]`, the whole line: a command's section begins.
+    fn heading(&mut self) -> Result<(), Fault> {
         let spot = self.spot();
-        if before.len() == FIELDS {
+        self.at += 1;
+        match (&self.section.heading, self.section.fields.is_empty()) {
+            (Some(_), _) => self.above.push(std::mem::take(&mut self.section)),
+            (None, true) => {}
+            (None, false) => return Err(Fault::new(spot, "fields stand above the first command: they belong to none")),
+        }
+        if self.above.len() == COMMANDS {
+            return Err(Fault::new(spot, format!("a file has at most {COMMANDS} commands")));
+        }
+        let names = self.command_names()?;
+        if !names.iter().any(|name| matches!(name, OptionName::Long(_))) {
+            return Err(Fault::new(spot, "a command has a name of two characters or more, as in `[wear w]`"));
+        }
+        self.section.heading = Some(Heading { spot, names });
+        Ok(())
+    }
+
+    /// The names of a command up to the bracket that ends the line.
+    fn command_names(&mut self) -> Result<Vec<OptionName>, Fault> {
+        let mut names = Vec::new();
+        while let Some(name) = self.command_name()? {
+            let mut headings = self.above.iter().filter_map(|section| section.heading.as_ref());
+            if names.contains(&name) || headings.any(|heading| heading.names.contains(&name)) {
+                return self.fault("this name is a command's already");
+            }
+            self.at += 1;
+            names.push(name);
+        }
+        if !self.accept(&Token::CloseCommand) {
+            return self.fault("a command's name or `]` must be here, as in `[wear w]`");
+        }
+        match self.at == self.line.tokens.len() {
+            true => Ok(names),
+            false => self.fault("the line of a command ends with `]`"),
+        }
+    }
+
+    /// The name that comes next, if one does: of one character it is short. In quotes it is taken as it is.
+    fn command_name(&self) -> Result<Option<OptionName>, Fault> {
+        let bytes = match self.peek() {
+            Some(Token::Word(word)) if word.starts_with('-') => {
+                return self.fault("a command's name has no dashes; in quotes it is taken as it is");
+            }
+            Some(Token::Word(word)) => word.as_bytes().to_vec(),
+            Some(Token::Quoted { bytes, .. }) => bytes.clone(),
+            _ => return Ok(None),
+        };
+        let Ok(name) = String::from_utf8(bytes) else { return self.fault("a name must be UTF-8") };
+        let mut characters = name.chars();
+        match (characters.next(), characters.next()) {
+            (Some(letter), None) => Ok(Some(OptionName::Short(letter))),
+            _ => Ok(Some(OptionName::Long(name))),
+        }
+    }
+
+    /// `NAME: PARSER`, the whole line.
+    fn field(&mut self) -> Result<(), Fault> {
+        let spot = self.spot();
+        if self.section.fields.len() == FIELDS {
             return self.fault(format!("a form has at most {FIELDS} fields"));
         }
         let Some(name) = self.word() else { return self.fault("a field begins with its name, as in `limit: number -l`") };
-        if before.iter().any(|field| field.name == name) {
+        if self.section.fields.iter().any(|field| field.name == name) {
             return Err(Fault::new(spot, format!("a field before this one is called {} too", quoted(name.as_bytes()))));
         }
         if !self.accept(&Token::Colon) {
@@ -142,7 +173,9 @@ impl Parser {
             return self.fault("a comma, `or` or the end of the line must be here");
         }
         let counted_switch = if let Last::CountedSwitch(names) = last { names } else { Vec::new() };
-        Ok((Field { name, counted_switch }, node))
+        self.section.fields.push(Field { name, counted_switch });
+        self.section.roots.push(node);
+        Ok(())
     }
 
     /// One part, or several with `or` between them: `a or b or c` is `(a or b) or c`.
@@ -285,32 +318,24 @@ impl Parser {
 
     /// Counts the node that is written at the spot.
     fn over(&mut self, spot: Spot, node: Node, last: Last) -> Result<Part, Fault> {
-        if self.nodes.len() == NODES {
+        if self.section.nodes.len() == NODES {
             return Err(Fault::new(spot, format!("a form has at most {NODES} nodes: {NODE_WORDS}")));
         }
-        self.nodes.push(spot);
+        self.section.nodes.push(spot);
         Ok(Part { node, last })
     }
 
     /// Counts a name or a text of this many bytes, which is the next token.
     fn name_record(&mut self, bytes: usize) -> Result<(), Fault> {
-        self.names += 1;
-        self.area += bytes;
-        if self.names > NAMES {
+        self.section.names += 1;
+        self.section.area += bytes;
+        if self.section.names > NAMES {
             return self.fault(format!("a form has at most {NAMES} names and texts behind `else`"));
         }
-        if self.area > AREA {
+        if self.section.area > AREA {
             return self.fault(format!("the names and the texts behind `else` have at most {AREA} bytes together"));
         }
         Ok(())
-    }
-
-    /// What the form check refused, at the node that is at fault.
-    fn refused(&self, error: FormError, start: Spot) -> Fault {
-        let node = error.place().filter(|_| error.number() >= 3);
-        let spot = node.and_then(|node| self.nodes.get(node)).copied().unwrap_or(start);
-        // the text is shown with the reason, so the node need not be named
-        Fault::new(spot, error.reason())
     }
 }
 
@@ -336,13 +361,6 @@ fn short_names(names: &[OptionName]) -> impl Iterator<Item = char> + '_ {
     names.iter().filter_map(|name| match name {
         OptionName::Short(letter) => Some(*letter),
         OptionName::Long(_) => None,
-    })
-}
-
-fn crate_names(names: &[OptionName]) -> Names {
-    names.iter().fold(Names::default(), |all, name| match name {
-        OptionName::Short(letter) => all.short(*letter),
-        OptionName::Long(name) => all.long(name),
     })
 }
 

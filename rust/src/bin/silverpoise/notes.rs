@@ -5,15 +5,15 @@ use std::os::unix::ffi::OsStrExt;
 
 use silverpoise::{Item, ItemKind, ReadError, Value};
 
-use crate::notation::{Field, Letters, OptionName, Written};
 use crate::shown::{quoted, shown};
+use crate::written::{Field, Letters, OptionName, Under};
 
-pub fn notes(written: &Written, args: &[OsString], items: &[Item], answer: Result<&[Value], &ReadError>) -> Vec<String> {
-    let mut notes: Vec<String> = items.iter().filter_map(|item| withdrawn(&written.letters, args, item)).collect();
+pub fn notes(under: Under, args: &[OsString], items: &[Item], answer: Result<&[Value], &ReadError>) -> Vec<String> {
+    let mut notes: Vec<String> = items.iter().filter_map(|item| withdrawn(under.letters, args, item)).collect();
     notes.extend(items.windows(2).filter_map(|pair| rest_taken(args, &pair[0], &pair[1])));
     match answer {
         Ok(values) => {
-            let counts = written.fields.iter().zip(values);
+            let counts = under.fields.iter().zip(values);
             notes.extend(counts.filter_map(|(field, value)| counted_nothing(field, value, items)));
         }
         Err(error) => notes.extend(stays_used(error, items)),
@@ -73,6 +73,7 @@ fn matches(name: &OptionName, item: &Item) -> bool {
 /// What was taken stays used where the taken word itself is refused.
 fn stays_used(error: &ReadError, items: &[Item]) -> Option<String> {
     let place = error.place().filter(|_| (23..=26).contains(&error.number()))?;
-    let used = items.get(place)?.mark.is_used();
+    // with 26 the place may be that of the command, which is not refused
+    let used = items.get(place)?.mark.field().is_some();
     used.then(|| format!("place {place} stays used: a word is not given back when it is refused"))
 }

@@ -7,8 +7,8 @@ use std::os::unix::ffi::OsStrExt;
 
 use silverpoise::{Item, ItemKind, Mark, ReadError, UsedBy, Value};
 
-use crate::notation::Field;
-use crate::shown::{shown, ShownArgument};
+use crate::shown::{shown, shown_word, ShownArgument};
+use crate::written::Under;
 
 /// Columns of the arguments on one row; more arguments go to further rows.
 const ROOM: usize = 56;
@@ -40,7 +40,7 @@ impl Paint {
 }
 
 /// The arguments, and below them a row for each item, with carets under what the item stands for, and who used it.
-pub fn line(paint: Paint, fields: &[Field], args: &[OsString], items: &[Item]) -> String {
+pub fn line(paint: Paint, under: Under, args: &[OsString], items: &[Item]) -> String {
     let label = paint.bold("line");
     if args.is_empty() {
         return format!("{label}  (no arguments)\n");
@@ -62,7 +62,7 @@ pub fn line(paint: Paint, fields: &[Field], args: &[OsString], items: &[Item]) -
             let before: usize = shown[row.start..item.argument].iter().map(|arg| arg.width + 1).sum();
             let columns = shown[item.argument].columns(&item.part);
             let carets = carets(paint, item.mark, before + columns.start..before + columns.end, wide);
-            let mark = paint.mark(item.mark, &mark(fields, item.mark));
+            let mark = paint.mark(item.mark, &mark(under, item.mark));
             let _ = writeln!(out, "{place:4}  {carets} {:kinds$}  {mark}", kind(item));
         }
     }
@@ -101,24 +101,28 @@ fn kind(item: &Item) -> String {
     format!("{kind}{}", if item.adjacent { ", adjacent" } else { "" })
 }
 
-fn mark(fields: &[Field], mark: Mark) -> String {
+fn mark(under: Under, mark: Mark) -> String {
     match mark {
-        Mark::Used(UsedBy::Field(number)) => match fields.get(number) {
+        Mark::Used(UsedBy::Field(number)) => match under.fields.get(number) {
             Some(field) => format!("used by {}", shown(field.name.as_bytes())),
             None => format!("used by field {number}"),
         },
         Mark::Used(UsedBy::Marker) => "ends the options".to_string(),
-        Mark::Used(UsedBy::Command) => "used as a command".to_string(),
+        Mark::Used(UsedBy::Command) => match under.command {
+            Some(command) => format!("the command {}", shown_word(command.as_bytes())),
+            None => "a command".to_string(),
+        },
         Mark::Unused => "not used".to_string(),
         Mark::Conflict(winner) => format!("conflict with {winner}"),
     }
 }
 
 /// The values of the fields, each behind its name.
-pub fn values(paint: Paint, fields: &[Field], values: &[Value], tries: u32) -> String {
-    let names: Vec<String> = fields.iter().map(|field| shown(field.name.as_bytes())).collect();
+pub fn values(paint: Paint, under: Under, values: &[Value], counts: Counts) -> String {
+    let names: Vec<String> = under.fields.iter().map(|field| shown(field.name.as_bytes())).collect();
     let wide = names.iter().map(|name| name.chars().count()).max().unwrap_or(0);
-    let mut out = format!("{} in {}\n", paint.bold("values"), tries_words(tries));
+    let of = under.command.map_or(String::new(), |command| format!(" of {}", shown_word(command.as_bytes())));
+    let mut out = format!("{} in {}\n", paint.bold(&format!("values{of}")), counts.words());
     for (name, value) in names.iter().zip(values) {
         let _ = writeln!(out, "  {name:wide$}  {}", wrapped(&value_words(value), wide + 4));
     }
@@ -166,15 +170,30 @@ fn wrapped(words: &[String], indent: usize) -> String {
 }
 
 /// The refusal by its number, then in words with the place underlined.
-pub fn refusal(paint: Paint, error: &ReadError) -> String {
+pub fn refusal(paint: Paint, error: &ReadError, counts: Counts) -> String {
     let place = error.place().map_or(String::new(), |place| format!(" at place {place}"));
     let head = format!("refused with {}{place}", error.number());
     let words = error.to_string().replace('\n', "\n  ");
-    format!("{} in {}\n  {words}\n", paint.paint("1;31", &head), tries_words(error.tries()))
+    format!("{} in {}\n  {words}\n", paint.paint("1;31", &head), counts.words())
 }
 
-fn tries_words(tries: u32) -> String {
-    format!("{tries} {}", if tries == 1 { "try" } else { "tries" })
+/// What an answer took.
+#[derive(Clone, Copy)]
+pub struct Counts {
+    pub tries: u32,
+    /// of names, where there are commands
+    pub comparisons: Option<u32>,
+}
+
+impl Counts {
+    fn words(self) -> String {
+        let tries = format!("{} {}", self.tries, if self.tries == 1 { "try" } else { "tries" });
+        match self.comparisons {
+            Some(1) => format!("{tries}, 1 comparison"),
+            Some(comparisons) => format!("{tries}, {comparisons} comparisons"),
+            None => tries,
+        }
+    }
 }
 
 pub fn note(paint: Paint, words: &str) -> String {

@@ -3,7 +3,7 @@
 use std::collections::BTreeSet;
 use std::os::unix::ffi::OsStringExt;
 
-use silverpoise::{Mark, UsedBy};
+use silverpoise::{CommandTable, Mark, UsedBy};
 
 use super::*;
 
@@ -51,8 +51,11 @@ const MODIFIERS: [&str; 16] = [
     "else \"x\\xff\"",
 ];
 
+const HEADINGS: [&str; 4] = ["[wear w]\n", "[log]  # comment\n", "[\"two words\" é]\n", "[p pair]\n"];
+
 /// What damages a text.
-const PIECES: [&str; 14] = [":", ",", "(", ")", " or ", "\"", "\\", "#", "\n", "\t", " -vq", " --a=b", ", 1..", "else"];
+const PIECES: [&str; 16] =
+    [":", ",", "(", ")", " or ", "\"", "\\", "#", "\n", "\t", " -vq", " --a=b", ", 1..", "else", "[", "]"];
 
 fn parser_text(numbers: &mut Numbers, depth: usize) -> String {
     let mut text = match (depth, numbers.below(4)) {
@@ -67,11 +70,19 @@ fn parser_text(numbers: &mut Numbers, depth: usize) -> String {
     text
 }
 
-/// Fields one a line; in every second text a piece too many.
+/// Fields one a line.
 fn form_text(numbers: &mut Numbers) -> String {
     let fields = 1 + numbers.below(3);
     let field = |k| format!("field-{k}: {}  # comment\n", parser_text(numbers, 2));
-    let mut text: String = (0..fields).map(field).collect();
+    (0..fields).map(field).collect()
+}
+
+/// A form, or one or two commands; in every second text a piece too many.
+fn file_text(numbers: &mut Numbers) -> String {
+    let mut text = match numbers.below(2) {
+        0 => form_text(numbers),
+        _ => (0..1 + numbers.below(2)).map(|_| format!("{}{}", numbers.pick(&HEADINGS), form_text(numbers))).collect(),
+    };
     if numbers.below(2) == 0 {
         let at = numbers.below(text.len());
         let at = (0..=at).rev().find(|at| text.is_char_boundary(*at)).unwrap_or(0);
@@ -88,13 +99,18 @@ fn sort_of(words: &str) -> String {
 #[test]
 fn generated_texts_are_answered() {
     let mut numbers = Numbers(1);
-    let (mut accepted, mut sorts) = (0, BTreeSet::new());
-    for _ in 0..1_000 {
-        let text = form_text(&mut numbers);
+    let (mut accepted, mut commands, mut sorts) = (0, 0, BTreeSet::new());
+    for _ in 0..1_500 {
+        let text = file_text(&mut numbers);
         match notation::parse(&text) {
             Ok(written) => {
                 accepted += 1;
-                assert!(silverpoise::Form::from_bytes(written.form.bytes()).is_ok(), "{text:?}");
+                let again = match &written.what {
+                    What::Form(form) => Form::from_bytes(written.bytes()).as_ref() == Ok(form),
+                    What::Commands(table) => CommandTable::from_bytes(written.bytes()).as_ref() == Ok(table),
+                };
+                assert!(again, "{text:?}");
+                commands += usize::from(matches!(written.what, What::Commands(_)));
             }
             Err(fault) => {
                 let line = text.lines().nth(fault.spot.line - 1).unwrap_or_default();
@@ -104,7 +120,7 @@ fn generated_texts_are_answered() {
             }
         }
     }
-    assert!(accepted > 50 && sorts.len() > 15, "{accepted} accepted, {sorts:?}");
+    assert!(accepted > 50 && commands > 20 && sorts.len() > 20, "{accepted} accepted, {commands} commands, {sorts:?}");
 }
 
 const FORM: &str =
@@ -134,7 +150,7 @@ fn generated_lines_are_shown() {
     let (mut seen, mut marks) = ([0; 2], BTreeSet::new());
     for _ in 0..200 {
         let line: Vec<OsString> = (0..1 + numbers.below(12)).map(|_| word(&mut numbers)).collect();
-        let answer = written.form.read_values(&line);
+        let answer = written.read_values(&line);
         let count = answer.as_ref().map_or_else(|error| error.items().len(), |read| read.items().len());
         let (status, text) = read(&written, &line, Paint(false));
         seen[status as usize] += 1;
@@ -174,9 +190,9 @@ fn painted_lines_are_the_plain_ones() {
 fn shown_mark(form: &str, mark: Mark) -> String {
     let written = notation::parse(form).unwrap_or_else(|fault| panic!("{fault:?}"));
     let line = [OsString::from("-v")];
-    let mut items = written.form.read_values(&line).map(|read| read.items().to_vec()).expect("accepted");
+    let mut items = written.read_values(&line).map(|read| read.items().to_vec()).expect("accepted");
     items[0].mark = mark;
-    let text = show::line(Paint(false), &written.fields, &line, &items);
+    let text = show::line(Paint(false), written.under(None), &line, &items);
     text.trim_end().rsplit("  ").next().unwrap_or_default().to_string()
 }
 
@@ -193,5 +209,5 @@ fn every_mark_has_its_words() {
         ("not used".into(), "conflict with 7".into())
     );
     // no read gives these
-    assert_eq!((used(UsedBy::Command), used(UsedBy::Field(3))), ("used as a command".into(), "used by field 3".into()));
+    assert_eq!((used(UsedBy::Command), used(UsedBy::Field(3))), ("a command".into(), "used by field 3".into()));
 }

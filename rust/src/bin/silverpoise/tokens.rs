@@ -15,6 +15,9 @@ pub enum Token {
     Comma,
     Open,
     Close,
+    /// `[` and `]`, which only a command's heading has
+    OpenCommand,
+    CloseCommand,
 }
 
 /// The tokens of a line, and where it ends: at its comment, or behind its last character.
@@ -24,7 +27,8 @@ pub struct Tokens {
 }
 
 pub fn tokens(line: &str, number: usize) -> Result<Tokens, Fault> {
-    let mut lexer = Lexer { line: number, chars: line.chars().collect(), at: 0 };
+    let heading = line.trim_start().starts_with('[');
+    let mut lexer = Lexer { line: number, chars: line.chars().collect(), at: 0, heading };
     let mut tokens = Vec::new();
     loop {
         while lexer.peek().is_some_and(char::is_whitespace) {
@@ -42,6 +46,8 @@ struct Lexer {
     line: usize,
     chars: Vec<char>,
     at: usize,
+    /// whether the line begins with `[`; on any other line square brackets are letters like others
+    heading: bool,
 }
 
 impl Lexer {
@@ -65,6 +71,8 @@ impl Lexer {
             ',' => Token::Comma,
             '(' => Token::Open,
             ')' => Token::Close,
+            '[' if self.heading => Token::OpenCommand,
+            ']' if self.heading => Token::CloseCommand,
             '"' => return self.quoted(),
             '\\' => return Err(Fault::new(self.spot(), "an escape stands in quotes, as in `\"\\xff\"`")),
             _ => return Ok(self.word()),
@@ -75,7 +83,8 @@ impl Lexer {
 
     fn word(&mut self) -> Token {
         let from = self.at;
-        while self.peek().is_some_and(|c| !c.is_whitespace() && !":,()\"\\#".contains(c)) {
+        let marks = if self.heading { ":,()\"\\#[]" } else { ":,()\"\\#" };
+        while self.peek().is_some_and(|c| !c.is_whitespace() && !marks.contains(c)) {
             self.at += 1;
         }
         Token::Word(self.chars[from..self.at].iter().collect())
