@@ -1,4 +1,4 @@
--- The formats of the sheet and of the form: reading what was written, and writing what was read.
+-- The formats of the sheet, of the batch and of the form: reading what was written, and writing what was read.
 use mathlib.Core.Path.{_≡_, refl, sym, _∙_, ap, ap₂}
 use mathlib.Core.Bool.{Bool, true, false, _&&_}
 use mathlib.Core.Logic.{inl}
@@ -13,13 +13,14 @@ use lib.ListN.{length, getD, take, drop, length-append, length-drop, length-map,
 use lib.Seq.{take-at, drop-at, take-append-seam, take-length, drop-append-add, take-add, drop-drop, getD-drop}
 use Rattle.utf8.specs.Utf8.{if_then_else_}
 use Rattle.wire.specs.Wire.{le, numberAt, offset, areaStart, area, neverFall, tableGood, entryOf, HasEntry}
-use Rattle.wire.specs.Laws.{number-bound, GoodTable, good-table, offset-rises, placed, entry-length}
+use Rattle.wire.specs.Laws.{number-bound, rises-more, GoodTable, good-table, offset-rises, placed, entry-length}
 use Rattle.rules.specs.Base.{numbers, concatMap}
 use Rattle.rules.specs.Sheet.{argumentCount, sheetArea, sheetGood, sheetFault, arguments}
 use Rattle.rules.specs.Form.{Node, Name, Form, readNode, readName, readForm}
 use Rattle.rules.specs.Form.{nodeCount, fieldCount, nameCount, areaLength, countsGood, nodesAt, namesAt, areaAt, formLength}
 use Rattle.rules.specs.Accept.{lengthGood}
-use Rattle.rules.specs.Encode.{bytesOf, wordsOf, offsetsFrom, encodeSheet, encodeNode, encodeName, encodeForm}
+use Rattle.rules.specs.Batch.{sheetCount, batchGood, batchSheets}
+use Rattle.rules.specs.Encode.{bytesOf, wordsOf, offsetsFrom, encodeSheet, encodeTable, encodeNode, encodeName, encodeForm}
 use Rattle.rules.specs.Demands.{All, Bytes}
 use Rattle.rules.proofs.Places.{left, right}
 
@@ -82,7 +83,7 @@ all-numbers P R h zero j = tt
 all-numbers P R h (suc n) j = (h j, all-numbers P R h n (suc j))
 
 module _ {A : Type 0} (enc : A → List ℕ) (size : ℕ) (long : (x : A) → length (enc x) ≡ size) where
-  all-length : (xs : List A) → length (concatMap enc xs) ≡ size * length xs
+  pub all-length : (xs : List A) → length (concatMap enc xs) ≡ size * length xs
   unfolding concatMap
   all-length [] = sym (mul-zero size)
   all-length (x ∷ xs) = omega (arith, length-append (enc x) (concatMap enc xs), long x, all-length xs)
@@ -484,7 +485,7 @@ module _ (b : List ℕ) (small : Bytes b) where
         )
         (take-append-drop 8 b)
 
--- ---- the sheet
+-- ---- the sheet and the batch
 
 -- O gives, from j on, the offsets of some arguments
 abbrev Follows : (ℕ → ℕ) → ℕ → ℕ → List (List ℕ) → Type 0
@@ -536,88 +537,121 @@ module _ (O : ℕ → ℕ) where
       (follows-entries area (pre ++ os) (suc j) (begin + length os) rest (h .1)
       (e ∙ sym (append-assoc pre os (flatten rest))) (omega (arith, length-append pre os)))
 
-never-falls : (w : ℕ) (b : List ℕ) (n : ℕ) → ((k : ℕ) → k < n → offset w b k ≤ offset w b (suc k)) → neverFall w b n ≡ true
+never-falls : (w : ℕ) (b : List ℕ) (n : ℕ) → ((k : ℕ) → k < n → offset w b k ≤ offset w b (k + 1)) → neverFall w b n ≡ true
 unfolding neverFall
 never-falls w b zero h = refl
-never-falls w b (suc n) h =
-    rw (never-falls w b n (λ k l. h k (omega arith))) (le-leb (offset w b n) (offset w b (suc n)) (h n (le-refl (suc n))))
+never-falls w b (suc n) h = rw (add-one n) at (rises-more w b n (never-falls w b n (λ k l. h k (omega arith))) (h n (le-refl (suc n))))
+
+-- the converse of `good-table`
+pub made-table :
+    (w n : ℕ) (b : List ℕ)
+    → areaStart w n ≤ length b
+    → offset w b 0 ≡ 0
+    → ((k : ℕ) → k < n → offset w b k ≤ offset w b (k + 1))
+    → areaStart w n + offset w b n ≡ length b
+    → tableGood w n b ≡ true
+unfolding tableGood area
+made-table w n b long first rising last =
+    rw (le-leb (areaStart w n) (length b) long, eq-eqb (offset w b 0) 0 first, never-falls w b n rising)
+    (eq-eqb (offset w b n) (length (drop (areaStart w n) b)) (omega (arith, length-drop (areaStart w n) b)))
 
 offsets-length : (begin : ℕ) (args : List (List ℕ)) → length (offsetsFrom begin args) ≡ suc (length args)
 unfolding offsetsFrom
 offsets-length begin [] = refl
 offsets-length begin (os ∷ rest) = ap suc (offsets-length (begin + length os) rest)
 
-offsets-small : (begin : ℕ) (args : List (List ℕ)) → begin + length (flatten args) ≤ 32768 → All Small (offsetsFrom begin args)
+offsets-below : (m begin : ℕ) (es : List (List ℕ)) → begin + length (flatten es) < m → All (λ (n : ℕ). n < m) (offsetsFrom begin es)
 unfolding offsetsFrom flatten
-offsets-small begin [] h = (omega arith, tt)
-offsets-small begin (os ∷ rest) h =
+offsets-below m begin [] h = (omega arith, tt)
+offsets-below m begin (os ∷ rest) h =
     let more = length-append os (flatten rest) in
-    (omega arith, offsets-small (begin + length os) rest (omega arith))
+    (omega arith, offsets-below m (begin + length os) rest (omega arith))
 
--- the bytes of arguments within the limits
-module _ (args : List (List ℕ)) (few : length args ≤ 256) (fits : length (flatten args) ≤ 32768) where
-  sheet : List ℕ
-  sheet = encodeSheet args
-
+-- the bytes of entries that a count of two bytes and offsets of w bytes can tell
+module _ (w : ℕ) (es : List (List ℕ)) (few : length es < 65536) (fits : length (flatten es) < 256 ^ w) where
   front : List ℕ
-  front = bytesOf 2 (length args) ++ wordsOf 2 (offsetsFrom 0 args)
+  front = bytesOf 2 (length es) ++ wordsOf w (offsetsFrom 0 es)
 
-  front-length : length front ≡ areaStart 2 (length args)
+  front-length : length front ≡ areaStart w (length es)
   unfolding front wordsOf areaStart
   front-length =
-      omega (
-        arith,
-        length-append (bytesOf 2 (length args)) (concatMap (bytesOf 2) (offsetsFrom 0 args)),
-        bytes-length 2 (length args),
-        all-length (bytesOf 2) 2 (bytes-length 2) (offsetsFrom 0 args),
-        offsets-length 0 args,
-      )
+      let more : suc (length es) ≡ length es + 1 = omega arith in
+      length-append (bytesOf 2 (length es)) (concatMap (bytesOf w) (offsetsFrom 0 es))
+      ∙ rw (bytes-length 2 (length es), all-length (bytesOf w) w (bytes-length w) (offsetsFrom 0 es), offsets-length 0 es, more)
 
-  sheet-parted : sheet ≡ front ++ flatten args
-  unfolding sheet front encodeSheet
-  sheet-parted = sym (append-assoc (bytesOf 2 (length args)) (wordsOf 2 (offsetsFrom 0 args)) (flatten args))
+  abbrev written : List ℕ
+  written = bytesOf 2 (length es) ++ (wordsOf w (offsetsFrom 0 es) ++ flatten es)
 
-  sheet-length : length sheet ≡ areaStart 2 (length args) + length (flatten args)
-  sheet-length = ap length sheet-parted ∙ length-append front (flatten args) ∙ rw front-length
+  parted : written ≡ front ++ flatten es
+  unfolding front
+  parted = sym (append-assoc (bytesOf 2 (length es)) (wordsOf w (offsetsFrom 0 es)) (flatten es))
 
-  sheet-count : argumentCount sheet ≡ length args
-  unfolding argumentCount numberAt sheet encodeSheet bytesOf
-  sheet-count = le-bytes 2 (length args) (omega arith)
+  written-length : length written ≡ areaStart w (length es) + length (flatten es)
+  written-length = ap length parted ∙ length-append front (flatten es) ∙ rw front-length
 
-  sheet-area : area 2 (length args) sheet ≡ flatten args
+  written-count : numberAt 2 written 0 ≡ length es
+  unfolding numberAt bytesOf
+  written-count = le-bytes 2 (length es) few
+
+  written-area : area w (length es) written ≡ flatten es
   unfolding area
-  sheet-area = ap (λ (t : List ℕ). drop (areaStart 2 (length args)) t) sheet-parted ∙ drop-at front (flatten args) _ front-length
+  written-area = ap (λ (t : List ℕ). drop (areaStart w (length es)) t) parted ∙ drop-at front (flatten es) _ front-length
 
-  sheet-offsets : Follows (offset 2 sheet) 0 0 args
-  unfolding offset sheet encodeSheet wordsOf
-  sheet-offsets =
-      follows (offset 2 sheet) 0 0 args
-      (read-all (bytesOf 2) 2 (bytes-length 2) (numberAt 2) Small (λ pre post i n h e. number-here 2 pre post i n h e)
-      (offsetsFrom 0 args) sheet (bytesOf 2 (length args)) (flatten args) 2 0 (offsets-small 0 args (omega arith)) refl
-      (bytes-length 2 (length args)))
+  written-offsets : Follows (offset w written) 0 0 es
+  unfolding offset wordsOf
+  written-offsets =
+      follows (offset w written) 0 0 es
+      (read-all (bytesOf w) w (bytes-length w) (numberAt w) (λ n. n < 256 ^ w) (number-here w)
+      (offsetsFrom 0 es) written (bytesOf 2 (length es)) (flatten es) 2 0 (offsets-below (256 ^ w) 0 es (omega (arith, fits))) refl
+      (bytes-length 2 (length es) ∙ rw (mul-zero w)))
 
-  table-good : tableGood 2 (length args) sheet ≡ true
-  unfolding tableGood
+  table-good : tableGood w (length es) written ≡ true
   table-good =
-      let n = length args in
-      let O = offset 2 sheet in
-      let last : O n ≡ length (area 2 n sheet) =
-      ap O (sym (zero-add n)) ∙ follows-last O 0 0 args sheet-offsets ∙ zero-add (length (flatten args)) ∙ ap length (sym sheet-area) in
-      let rise : (k : ℕ) → k < n → O k ≤ O (suc k) = λ k h. rw (zero-add k) at (follows-rise O 0 0 args sheet-offsets k h) in
-      let long = le-leb (areaStart 2 n) (length sheet) (omega (arith, sheet-length)) in
-      rw (long, eq-eqb (O 0) 0 (follows-first O 0 0 args sheet-offsets), never-falls 2 sheet n rise)
-      (eq-eqb (O n) (length (area 2 n sheet)) last)
+      let n = length es in
+      let O = offset w written in
+      let first = follows-first O 0 0 es written-offsets in
+      let last : O n ≡ length (flatten es) = ap O (sym (zero-add n)) ∙ follows-last O 0 0 es written-offsets ∙ zero-add (length (flatten es)) in
+      let rise : (k : ℕ) → k < n → O k ≤ O (k + 1) = λ k h. rw (zero-add k, ← add-one k) at (follows-rise O 0 0 es written-offsets k h) in
+      made-table w n written (omega (arith, written-length)) first rise (omega (arith, written-length))
 
-  sheet-good : sheetGood sheet ≡ true
-  unfolding sheetGood sheetArea
-  sheet-good = rw (sheet-count, table-good, sheet-area) (le-leb (length (flatten args)) 32768 fits)
+  entries-read : map (entryOf w (length es) written) (numbers (length es) 0) ≡ es
+  unfolding entryOf
+  entries-read = follows-entries (offset w written) (area w (length es) written) [] 0 0 es written-offsets written-area refl
 
-  pub arguments-encode : (sheetFault (encodeSheet args) ≡ 0) × (arguments (encodeSheet args) ≡ args)
-  unfolding sheetFault arguments sheet entryOf if_then_else_ areaStart
-  arguments-encode = (
-    rw (le-ltb (length sheet) 2 (omega (arith, sheet-length)), sheet-count, le-ltb 256 (length args) few, sheet-good),
-    rw sheet-count (follows-entries (offset 2 sheet) (area 2 (length args) sheet) [] 0 0 args sheet-offsets sheet-area refl),
-  )
+-- arguments within the limits
+pub arguments-encode :
+    (args : List (List ℕ))
+    → length args ≤ 256
+    → length (flatten args) ≤ 32768
+    → (sheetFault (encodeSheet args) ≡ 0) × (arguments (encodeSheet args) ≡ args)
+unfolding sheetFault sheetGood sheetArea arguments argumentCount encodeSheet areaStart if_then_else_
+arguments-encode args few fits =
+    let many : length args < 65536 = omega arith in
+    let wide : length (flatten args) < 256 ^ 2 = omega arith in
+    let s = written 2 args many wide in
+    let count = written-count 2 args many wide in (
+      rw (
+        le-ltb (length s) 2 (omega (arith, written-length 2 args many wide)),
+        count,
+        le-ltb 256 (length args) few,
+        table-good 2 args many wide,
+        written-area 2 args many wide,
+        le-leb (length (flatten args)) 32768 fits,
+      ),
+      rw count (entries-read 2 args many wide),
+    )
+
+-- at most 32 sheets of less than 2^32 bytes together are a batch
+pub batch-read :
+    (ss : List (List ℕ))
+    → length ss ≤ 32
+    → length (flatten ss) < 4294967296
+    → (batchGood (encodeTable ss) ≡ true) × (batchSheets (encodeTable ss) ≡ ss)
+unfolding batchGood batchSheets sheetCount encodeTable
+batch-read ss few fits =
+    let many : length ss < 65536 = omega arith in
+    let count = written-count 4 ss many fits in
+    (rw (count, le-leb (length ss) 32 few, table-good 4 ss many fits), rw count (entries-read 4 ss many fits))
 
 -- a sheet without a fault
 pub record SheetGood (s : List ℕ) : Type 0 where

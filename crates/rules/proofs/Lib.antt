@@ -62,3 +62,6 @@ pub mod MissingReported
 pub mod CommandLaws
 pub mod CommandForms
 pub mod CommandLinesHold
+-- Batches
+pub mod BatchSteps
+pub mod BatchLaws

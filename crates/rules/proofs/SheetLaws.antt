@@ -2,20 +2,19 @@
 use mathlib.Core.Bool.{Bool, true, false}
 use mathlib.Core.List.{List}
 use mathlib.Core.Path.{_≡_, refl}
-use Prim.Native.Nat.{ℕ, zero, suc, _+_, _*_, _≤_, _<_}
-use native.Mathlib.Numerals.{add-one}
+use Prim.Native.Nat.{ℕ, _+_, _*_, _≤_, _<_}
 use native.Mathlib.Omega.{arith}
-use borrow.Author.Tests.{eq-eqb, le-leb, le-ltb, ltb-true, ltb-false}
+use borrow.Author.Tests.{le-leb, le-ltb, ltb-true, ltb-false}
 use lib.Dec.{ltb}
 use lib.ListN.{length, length-drop}
 use Rattle.utf8.specs.Utf8.{if_then_else_}
-use Rattle.wire.specs.Wire.{offset, areaStart, area, neverFall, tableGood}
-use Rattle.wire.specs.Laws.{rises-more, good-table, offset-rises}
+use Rattle.wire.specs.Wire.{areaStart, area}
+use Rattle.wire.specs.Laws.{good-table, offset-rises}
 use Rattle.rules.specs.Sheet.{argumentCount, sheetArea, sheetGood, sheetFault}
 use Rattle.rules.specs.WellMade.{SheetMade}
 use Rattle.rules.specs.Answered.{SheetFault, manyArguments, badSheet}
 use Rattle.rules.proofs.Acceptance.{both}
-use Rattle.rules.proofs.Formats.{good-sheet}
+use Rattle.rules.proofs.Formats.{made-table, good-sheet}
 
 pub sheet-made : (s : List ℕ) → sheetFault s ≡ 0 → SheetMade s
 unfolding sheetArea area areaStart
@@ -34,26 +33,18 @@ sheet-made s e =
       last = omega (arith, t .last);
     }
 
-rising-all : (s : List ℕ) (n : ℕ) → ((k : ℕ) → k < n → offset 2 s k ≤ offset 2 s (k + 1)) → neverFall 2 s n ≡ true
-unfolding neverFall
-rising-all s zero h = refl
-rising-all s (suc n) h = rw (add-one n) at (rises-more 2 s n (rising-all s n (λ k l. h k (omega arith))) (omega (arith, h n (omega arith))))
-
 module _ (s : List ℕ) (w : SheetMade s) where
-  made-table : sheetGood s ≡ true
-  unfolding sheetGood tableGood sheetArea area areaStart
-  made-table =
-      both
-      (both
-      (both
-      (both (le-leb (2 + 2 * (argumentCount s + 1)) (length s) (omega (arith, w .offsets))) (eq-eqb (offset 2 s 0) 0 (omega (arith, w .first))))
-      (rising-all s (argumentCount s) (λ k l. omega (arith, w .rising k l))))
-      (eq-eqb (offset 2 s (argumentCount s)) (length (sheetArea s)) (omega (arith, w .last))))
+  made-good : sheetGood s ≡ true
+  unfolding sheetGood sheetArea area areaStart
+  made-good =
+      let n = argumentCount s in
+      let rest = length-drop (2 + 2 * (n + 1)) s in
+      both (made-table 2 n s (w .offsets) (w .first) (w .rising) (omega (arith, w .offsets, w .last)))
       (le-leb (length (sheetArea s)) 32768 (omega (arith, w .area)))
 
   pub made-sheet : sheetFault s ≡ 0
   unfolding sheetFault if_then_else_
-  made-sheet = rw (le-ltb (length s) 2 (omega (arith, w .counted)), le-ltb 256 (argumentCount s) (omega (arith, w .count)), made-table)
+  made-sheet = rw (le-ltb (length s) 2 (omega (arith, w .counted)), le-ltb 256 (argumentCount s) (omega (arith, w .count)), made-good)
 
   -- 2 + 2 × 257 + 32,768
   pub made-length : length s ≤ 33284

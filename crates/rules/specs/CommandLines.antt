@@ -1,21 +1,18 @@
 -- Lines under a table of two commands, `wear` with the flag v and `log` with the argument v: what is reported of each.
-use mathlib.Core.List.{List, [], _∷_, _++_, flatten}
+use mathlib.Core.List.{List, [], _∷_, _++_}
 use mathlib.Core.Option.{Option, some, none}
 use Prim.Native.Nat.{ℕ}
 use lib.ListN.{length}
 use Rattle.rules.specs.Base.{concatMap}
 use Rattle.rules.specs.Form.{Name, Form}
 use Rattle.rules.specs.Split.{dash}
-use Rattle.rules.specs.Encode.{bytesOf, wordsOf, offsetsFrom, encodeName, encodeForm}
+use Rattle.rules.specs.Encode.{wordsOf, encodeTable, encodeName, encodeForm}
 use Rattle.rules.specs.Lines.{a, l, v, w, switch, textArgument, optional, letter, long}
 use Rattle.rules.specs.Commands.{CommandReport}
 
--- ---- the bytes of an entry and of a table
+-- ---- the bytes of an entry
 unfoldable pub encodeEntry : List Name → List ℕ → List ℕ → List ℕ
 encodeEntry names area form = wordsOf 2 (length names ∷ length area ∷ []) ++ (concatMap encodeName names ++ (area ++ form))
-
-unfoldable pub encodeTable : List (List ℕ) → List ℕ
-encodeTable es = bytesOf 2 (length es) ++ (wordsOf 4 (offsetsFrom 0 es) ++ flatten es)
 
 -- ---- the table
 abbrev pub wear : List ℕ

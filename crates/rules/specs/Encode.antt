@@ -1,4 +1,4 @@
--- The bytes of a sheet and of a form, as document 01 lays them out: the converse of Sheet and Form.
+-- The bytes of a sheet, of a table and of a form, as documents 01 and 02 lay them out: the converse of reading them.
 use mathlib.Core.List.{List, [], _∷_, _++_, flatten}
 use Prim.Native.Nat.{ℕ, zero, suc, _+_, _/_, _%_}
 use lib.ListN.{length}
@@ -21,6 +21,10 @@ offsetsFrom begin (os ∷ rest) = begin ∷ offsetsFrom (begin + length os) rest
 -- count of arguments, offsets, the byte area
 unfoldable pub encodeSheet : List (List ℕ) → List ℕ
 encodeSheet args = bytesOf 2 (length args) ++ (wordsOf 2 (offsetsFrom 0 args) ++ flatten args)
+
+-- the same with offsets of four bytes: a table of commands, a batch of sheets
+unfoldable pub encodeTable : List (List ℕ) → List ℕ
+encodeTable es = bytesOf 2 (length es) ++ (wordsOf 4 (offsetsFrom 0 es) ++ flatten es)
 
 -- kind, p, q, r, then u32 lo, hi
 unfoldable pub encodeNode : Node → List ℕ

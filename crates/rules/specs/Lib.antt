@@ -13,6 +13,7 @@ pub mod Eval
 pub mod Given
 pub mod Run
 pub mod Commands
+pub mod Batch
 pub mod Bench
 pub mod Codes
 pub mod Calls
@@ -25,6 +26,7 @@ pub mod WellMade
 pub mod Answered
 pub mod CallsAnswered
 pub mod CommandsAnswered
+pub mod BatchAnswered
 pub mod CommandLines
 pub mod Portable
 pub mod Clusters
