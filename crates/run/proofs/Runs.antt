@@ -11,7 +11,7 @@ use Rattle.rules.specs.Outcome.{Outcome, ok, refused, fault, _>>=_, MissingItem
 use Rattle.rules.specs.Value.{Value}
 use Rattle.rules.specs.Codes.{placeCode, checkCode, placeOf}
 use Rattle.rules.specs.Base.{concatMap}
-use Rattle.rules.specs.Form.{fieldCount, readForm}
+use Rattle.rules.specs.Form.{Form, fieldCount, readForm}
 use Rattle.rules.specs.Sheet.{sheetArea, sheetFault}
 use Rattle.rules.specs.Tree.{Tree}
 use Rattle.rules.specs.Accept.{Checked as Tested, accepted, refusedAt, Accepted, checkForm, lengthGood, lettersOf}
@@ -46,7 +46,7 @@ use Rattle.rules.proofs.GivenLaws.{check-accepted}
 use Rattle.run_fields.specs.Line.{Starts, toldAll, missingOf, RunsAll, refusedWith}
 use Rattle.run_fields.proofs.Lacked.{left-items, none-missing, refused-inside, refused-number, refused-marked, refused-field, refused-missing}
 use Rattle.run_fields.specs.declared.Reached.{Reached}
-use Rattle.run.specs.Runner.{Ended, runAnswer, ended, answerOf, CheckedInput, LineFault, sheet, items, answers, list, LineTested, InputTested, ItemsBegin, RunsListed}
+use Rattle.run.specs.Runner.{Ended, runAnswer, ended, answerOf, CheckedInput, AfterSplit, LineFault, sheet, items, answers, list, LineTested, InputTested, ItemsBegin, RunsListed}
 use Rattle.run.proofs.States.{zero-at}
 use Rattle.run.proofs.Begun.{LineBegins, LineRefused, line-refused, state-is, line-begins}
 
@@ -229,14 +229,6 @@ module _ (b : List ℕ) (a : Accepted) (accepts : checkForm b ≡ accepted a) (a
       (sym (u .put ∙ ap (λ (o : List ℕ). sets o 0 (u .values)) cleared ∙ padded-words (u .values) na (omega (arith, u .few, space))))
       (sym (ran .listed (l .items) items ∙ ap (λ (o : List ℕ). sets o 0 entries) unlisted ∙ padded-words entries nl (omega (arith, fits, room))))
 
-  pub answers-long : length a″ ≡ length a′
-  answers-long = let u = ran .reached in ap length (u .put) ∙ length-sets a′ 0 (u .values)
-
-  pub list-long : length k″ ≡ length k′
-  list-long =
-      let entries = listWords (missingOf (runAll 0 (l .items) (a .fields) (stateOf m p))) in
-      ap length (ran .listed (l .items) items) ∙ length-sets k′ 0 entries
-
 -- a line that was refused before any try, with what the slices then hold
 pub refused-line :
     (ni na nl : ℕ) (l : Line) (e : Refusal) (s : State) (m : List ℕ) (p : Numbers) (words : List ℕ) (number place : ℕ) (r : Reached)
@@ -252,19 +244,22 @@ refused-line ni na nl l e s m p words number place r numbered placed plain state
     rw h
     (answer-same numbered placed refl refl (sym state) (sym written) (nothing-padded na) (no-entries-listed nl (e .missing) plain))
 
--- ---- a checked input, its answer slice and its list cleared, its sheet split
-module _ (form sheet i a k : List ℕ) (c : CheckedInput form sheet i a k) (a′ : List ℕ) (z : a′ ≡ sets a 0 (replicate (length a) 0))
-    (k′ : List ℕ) (v : k′ ≡ sets k 0 (replicate (length k) 0)) (i′ : List ℕ) (x : Split)
-    (w : SplitEnds (lettersOf (readForm form)) sheet (length i) i′ x) (m : List ℕ) (p : Numbers) (q : rawOf m p ≡ begun (x .count) (x .marker)) where
-  cleared : a′ ≡ replicate (length a) 0
-  cleared = z ∙ all-zero a (length a) refl
+-- ---- a line that was split
+line-stops : (ts : List Tree) (l : Line) (e : Refusal) → l .refusal ≡ some e → runLine ts l ≡ eval.ended (refused e) (l .state)
+unfolding runLine
+line-stops ts l e h = rw h
 
-  unlisted : k′ ≡ replicate (length k) 0
-  unlisted = v ∙ all-zero k (length k) refl
+module _ (form codes sheet i a k m : List ℕ) (x : Split) (d : AfterSplit form codes sheet i a k m x) (m₁ : List ℕ) (p : Numbers)
+    (q : rawOf m₁ p ≡ begun (x .count) (x .marker)) where
+  c : CheckedInput form sheet i a k
+  c = d .input
+
+  w : SplitEnds (lettersOf (readForm form)) sheet (length i) i x
+  w = d .ends
 
   splits : split (c .ready .result .form) sheet ≡ ok (w .line)
   unfolding split
-  splits = rw (accepted-form form (c .ready .result) (c .ready .accepts)) (w .same)
+  splits = ap (λ (f : Form). split f sheet) (accepted-form form (c .ready .result) (c .ready .accepts)) ∙ w .same
 
   runs : run form sheet (length i) (length a) (length k)
       ≡ report (length i) (length a) (length k) (w .line) (runLine (c .ready .result .fields) (w .line))
@@ -274,55 +269,69 @@ module _ (form sheet i a k : List ℕ) (c : CheckedInput form sheet i a k) (a′
 
   -- 8 or 9
   pub splitting-refused : (x .number ≡ 0 → ⊥) → (r : Reached) → r ≡ refusedWith (x .number) (x .place) 0 0 p
-      → runAnswer (run form sheet (length i) (length a) (length k)) ≡ ended (answerOf r m) i′ a′ k′
-  unfolding runLine report reportWith
+      → runAnswer (run form sheet (length i) (length a) (length k)) ≡ ended (answerOf r m₁) i a k
   splitting-refused y r h =
-      let e = line-refused (lettersOf (readForm form)) sheet (length i) i′ x w y in
-      let state = state-is (lettersOf (readForm form)) sheet (length i) i′ x w m p q in
-      rw (cleared, unlisted, runs, e .there, runLine)
-      (refused-line (length i) (length a) (length k) (w .line) (e .refusal) (w .line .state) m p i′ (x .number) (x .place) r
-      (e .number) (e .place) (e .plain) state (w .words) h)
+      let e = line-refused (lettersOf (readForm form)) sheet (length i) i x w y in
+      let state = state-is (lettersOf (readForm form)) sheet (length i) i x w m₁ p q in
+      let stops = line-stops (c .ready .result .fields) (w .line) (e .refusal) (e .there) in
+      ap runAnswer (runs ∙ ap (report (length i) (length a) (length k) (w .line)) stops)
+      ∙ refused-line (length i) (length a) (length k) (w .line) (e .refusal) (w .line .state) m₁ p i (x .number) (x .place) r
+      (e .number) (e .place) (e .plain) state (w .words) h
+      ∙ answer-same refl refl refl refl refl refl (sym (d .unanswered)) (sym (d .unlisted))
 
   module _ (y : x .number ≡ 0) where
-    begins : LineBegins sheet i′ m p (w .line)
-    begins = line-begins (lettersOf (readForm form)) sheet (length i) i′ x w m p q y (c .ready .checked) (c .ready .room)
+    begins : LineBegins sheet i m₁ p (w .line)
+    begins = line-begins (lettersOf (readForm form)) sheet (length i) i x w m₁ p q y (c .ready .checked) (c .ready .room)
 
-    pub fields-start : (codes : List ℕ) → CodedNames form codes → ItemsBegin form codes sheet i′ m p 0 a′ k′
-    fields-start codes h = record {
+    pub fields-start : ItemsBegin form codes sheet i m₁ p 0 a k
+    fields-start = record {
       result = c .ready .result;
       accepts = c .ready .accepts;
-      coded = h;
+      coded = d .coded;
       made = c .ready .checked;
       state = record { items = w .line .items; table = begins .table; same = begins .count; fine = begins .fine; told = field-parsed 0 };
       small = omega arith;
-      room = omega (arith, c .space, ap length cleared ∙ length-replicate {A = ℕ} (length a) 0);
-      zeros = λ j. ap (λ (l : List ℕ). getD l j 0) cleared ∙ zero-at (length a) j;
-      entries = omega (arith, c .entries, fill-long k′ k 0 (length k) v);
+      room = c .space;
+      zeros = λ j. ap (λ (l : List ℕ). getD l j 0) (d .unanswered) ∙ zero-at (length a) j;
+      entries = c .entries;
     }
 
     module _ (m′ a″ k″ : List ℕ) (r : Reached)
-        (reaches : (b : Accepted) → checkForm form ≡ accepted b → RunsListed (sheetArea sheet) i′ 0 (b .fields) m p m′ a′ a″ k′ k″ r) where
-      pub fields-end : runAnswer (run form sheet (length i) (length a) (length k)) ≡ ended (answerOf r m′) i′ a″ k″
+        (reaches : (b : Accepted) → checkForm form ≡ accepted b → RunsListed (sheetArea sheet) i 0 (b .fields) m₁ p m′ a a″ k k″ r) where
+      pub fields-end : runAnswer (run form sheet (length i) (length a) (length k)) ≡ ended (answerOf r m′) i a″ k″
       unfolding runLine
       fields-end =
           let l = w .line in
           let b = c .ready .result in
-          let all : runLine (b .fields) l ≡ runAll 0 (l .items) (b .fields) (stateOf m p) = rw (begins .free, runLine, begins .same) in
+          let all : runLine (b .fields) l ≡ runAll 0 (l .items) (b .fields) (stateOf m₁ p) = rw (begins .free, runLine, begins .same) in
           ap runAnswer (runs ∙ ap (report (length i) (length a) (length k) l) all)
-          ∙ fields-answer form b (c .ready .accepts) (sheetArea sheet) i′ (length i) (length a) (length k) l m p (begins .table, begins .count)
-          (begins .long) m′ a′ a″ k′ k″ r (reaches b (c .ready .accepts)) (w .words) cleared unlisted (c .space) (c .entries)
+          ∙ fields-answer form b (c .ready .accepts) (sheetArea sheet) i (length i) (length a) (length k) l m₁ p (begins .table, begins .count)
+          (begins .long) m′ a a″ k k″ r (reaches b (c .ready .accepts)) (w .words) (d .unanswered) (d .unlisted) (c .space) (c .entries)
 
-      pub answers-kept : length a″ ≡ length a
-      answers-kept =
-          answers-long form (c .ready .result) (c .ready .accepts) (sheetArea sheet) i′ (length i) (length a) (length k) (w .line) m p
-          (begins .table, begins .count) (begins .long) m′ a′ a″ k′ k″ r (reaches (c .ready .result) (c .ready .accepts))
-          ∙ fill-long a′ a 0 (length a) z
+-- the slices were cleared, and the line split by the form's letters
+module _ (form sheet i a k : List ℕ) (c : CheckedInput form sheet i a k) (a′ : List ℕ) (z : a′ ≡ sets a 0 (replicate (length a) 0))
+    (k′ : List ℕ) (v : k′ ≡ sets k 0 (replicate (length k) 0)) where
+  pub after-split : (codes : List ℕ) → CodedNames form codes → (i′ : List ℕ) → length i′ ≡ length i → (x : Split)
+      → SplitEnds (lettersOf (readForm form)) sheet (length i) i′ x → (m : List ℕ) → Unmarked m → AfterSplit form codes sheet i′ a′ k′ m x
+  after-split codes h i′ l x w m u = record {
+    input = record {
+      ready = record { result = c .ready .result; accepts = c .ready .accepts; checked = c .ready .checked; room = omega (arith, c .ready .room, l) };
+      space = omega (arith, c .space, fill-long a′ a 0 (length a) z);
+      entries = omega (arith, c .entries, fill-long k′ k 0 (length k) v);
+    };
+    coded = h;
+    ends = rw l w;
+    unanswered = zeros a a′ z;
+    unlisted = zeros k k′ v;
+    unmarked = u;
+  }
+    where
+      zeros : (o o′ : List ℕ) → o′ ≡ sets o 0 (replicate (length o) 0) → o′ ≡ replicate (length o′) 0
+      zeros o o′ e = e ∙ all-zero o (length o) refl ∙ ap (λ (n : ℕ). replicate n 0) (sym (fill-long o′ o 0 (length o) e))
 
-      pub list-kept : length k″ ≡ length k
-      list-kept =
-          list-long form (c .ready .result) (c .ready .accepts) (sheetArea sheet) i′ (length i) (length a) (length k) (w .line) m p
-          (begins .table, begins .count) (begins .long) m′ a′ a″ k′ k″ r (reaches (c .ready .result) (c .ready .accepts))
-          ∙ fill-long k′ k 0 (length k) v
+  pub cleared-answer : (n : ℕ) → n ≡ length i → (x : Option Ended)
+      → runAnswer (run form sheet n (length a′) (length k′)) ≡ x → runAnswer (run form sheet (length i) (length a) (length k)) ≡ x
+  cleared-answer n l x h = rw (l, fill-long a′ a 0 (length a) z, fill-long k′ k 0 (length k) v) at h
 
 -- ---- which nodes each item matches
 module _ (b codes s words m : List ℕ) (p : Numbers) (first : ℕ) (o l : List ℕ) (g : ItemsBegin b codes s words m p first o l) (n : ℕ) (e : n ≡ p .count) where

@@ -3,13 +3,14 @@ use mathlib.Core.List.{List}
 use mathlib.Core.Option.{Option, some, none}
 use mathlib.Core.Path.{_≡_}
 use Prim.Native.Nat.{ℕ, _≤_, _<_}
-use lib.ListN.{length, getD}
+use lib.ListN.{length, getD, replicate}
 use lib.Seq.{sets}
 use Rattle.rules.specs.Outcome.{Outcome, ok, refused, fault, listWords}
 use Rattle.rules.specs.Codes.{placeCode, placeOf}
 use Rattle.rules.specs.Sheet.{sheetArea, sheetFault}
+use Rattle.rules.specs.Form.{readForm}
 use Rattle.rules.specs.Tree.{Tree}
-use Rattle.rules.specs.Accept.{Accepted, accepted, checkForm}
+use Rattle.rules.specs.Accept.{Accepted, accepted, checkForm, lettersOf}
 use Rattle.rules.specs.Split.{Item}
 use Rattle.rules.specs.State.{fieldMark}
 use Rattle.rules.specs.Run.{Report, runAll, refusedInput, run}
@@ -21,6 +22,8 @@ use Rattle.form_codes.specs.Codes.{CodedNames}
 use Rattle.take_search.specs.States as states
 use Rattle.run_fields.specs.declared.Reached.{Reached}
 use Rattle.run_fields.specs.Line.{missingOf, RunsAll}
+use Rattle.split_args.specs.declared.Ended.{Ended as Split}
+use Rattle.split_args.specs.Construct.{Unmarked, SplitEnds}
 use Rattle.split_line.specs.Input.{Splittable}
 use Rattle.run_fields.specs.declared.RunAnswer.{RunAnswer}
 
@@ -66,6 +69,15 @@ pub record CheckedInput (form sheet items answers list : List ℕ) : Type 0 wher
   pub ready : Splittable form sheet items
   pub space : 8240 ≤ length answers
   pub entries : 192 ≤ length list
+
+-- what is known once the line is split, by the letters of the form: its records stand in the item slice, nothing in the others
+pub record AfterSplit (form codes sheet items answers list marks : List ℕ) (x : Split) : Type 0 where
+  pub input : CheckedInput form sheet items answers list
+  pub coded : CodedNames form codes
+  pub ends : SplitEnds (lettersOf (readForm form)) sheet (length items) items x
+  pub unanswered : answers ≡ replicate (length answers) 0
+  pub unlisted : list ≡ replicate (length list) 0
+  pub unmarked : Unmarked marks
 
 -- why a line is refused before it is split: its sheet, a slice that is too short, or a list
 pub data LineFault (s : List ℕ) (ni na nl : ℕ) : ℕ → Type 0 where

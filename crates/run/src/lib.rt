@@ -11,7 +11,7 @@ ghost use Rattle.rules.specs.Run as Run;
 ghost use Rattle.rules.specs.Codes.{placeOf};
 ghost use Rattle.split_args.specs.Construct.{Unmarked};
 ghost use Rattle.run_fields.specs.Line.{Starts};
-ghost use Rattle.run.specs.Runner.{runAnswer, ended, answerOf, CheckedInput, InputTested, LineTested, ItemsBegin, RunsListed};
+ghost use Rattle.run.specs.Runner.{runAnswer, ended, answerOf, CheckedInput, AfterSplit, InputTested, LineTested, ItemsBegin, RunsListed};
 use eval_missing::MISSING;
 use eval_missing::MISSING_WORDS;
 use rules::Refused;
@@ -19,6 +19,7 @@ use run_fields::ANSWER_WORDS;
 use run_fields::Reached;
 use run_fields::RunAnswer;
 use split_arg::ITEM_WORDS;
+use split_args::Ended;
 use state_marks::Numbers;
 use wire::wide;
 
@@ -119,7 +120,29 @@ pub fn run_items(
     run_known(form, &known, sheet, items, marks, p, first, answers, list)
 }
 
-// An accepted form, a checked sheet, and room in the slices: the items, then the fields on the state that they start in.
+// A line that was split, over marks, an answer slice and a list that are 0: splitting's refusal, or the fields on the state that the
+// items start in.
+pub fn run_split(
+    form: &[u8],
+    codes: &[u32],
+    sheet: &[u8],
+    items: &[u32],
+    answers: &mut [u32],
+    list: &mut [u32],
+    marks: &mut [u16; 256],
+    split: Ended,
+) -> Reached
+    requires { ⌜ AfterSplit (now form) (now codes) (now sheet) (now items) (now answers) (now list) (now marks) split ⌝ }
+    ensures { λ r. ⌜ runAnswer (Run.run (now (form .entry)) (now (sheet .entry)) (length (now (items .entry))) (length (now (answers .entry))) (length (now (list .entry)))) ≡ ended (answerOf r (now (marks .exit))) (now (items .entry)) (now (answers .exit)) (now (list .exit)) ⌝ }
+{
+    let p = split_args::begin(split.count, split.marker, marks);
+    if split.number != 0 {
+        return run_fields::refused(split.number, split.place, 0, 0, p);
+    }
+    run_items(form, codes, sheet, items, marks, p, 0, answers, list)
+}
+
+// An accepted form, a checked sheet, and room in the slices: the items, then the fields.
 fn run_checked(
     form: &[u8],
     sheet: &[u8],
@@ -136,11 +159,7 @@ fn run_checked(
     let mut codes = form_codes::no_codes();
     form_codes::codes(form, &mut codes);
     let split = split_line::split(form, &codes, sheet, items);
-    let p = split_args::begin(split.count, split.marker, marks);
-    if split.number != 0 {
-        return run_fields::refused(split.number, split.place, 0, 0, p);
-    }
-    run_items(form, &codes, sheet, items, marks, p, 0, answers, list)
+    run_split(form, &codes, sheet, items, answers, list, marks, split)
 }
 
 // Refusals 6, 5, 7, then 14, in this order, of a sheet and the lengths of the slices; 0 if there is none.

@@ -1,9 +1,10 @@
 use borrow.Author.Needs.{needs}
-use lib.ListN.{length}
 use Rattle.split_args.proofs.States.{fill-long}
 use Rattle.form_codes.proofs.NameCodes.{codes-room}
 use Rattle.split_line.proofs.Lines.{splittable-names}
-use Rattle.run.proofs.Runs.{splitting-refused, fields-start, fields-end, answers-kept, list-kept}
+use lib.ListN.{length}
+use mathlib.Core.Path.{_∙_}
+use Rattle.run.proofs.Runs.{after-split, cleared-answer}
 use Rattle.run.proofs.run_checked.Statement.{statement}
 use Rattle.run.proofs.run_checked.Tie as tie
 
@@ -28,122 +29,48 @@ slice-aggregate-split c = search needs
 split-requires : tie.Need-split-requires
 split-requires c κs = search needs
 
-begin-requires : tie.Need-begin-requires
-begin-requires c κs = search needs
+slice-aggregate-run-split : tie.Need-slice-aggregate-run-split
+slice-aggregate-run-split c = search needs
 
-refused-requires : tie.Need-refused-requires
-refused-requires c κs = search needs
+run-split-requires : tie.Need-run-split-requires
+run-split-requires c κs = search after-split
 
 same-length : tie.Need-same-length
 same-length c = search needs
 
 same-length-2 : tie.Need-same-length-2
 same-length-2 c =
-    let by-fill = c .before .before .before .before .before .before .before .before .before .before .before .before .before .before .before .before .before .before .before .before in
+    let by-answers2 = c .before .before .before in
+    let answers2 = by-answers2 .answers2 in
+    let
+    by-fill
+    =
+    by-answers2 .before .before .before .before .before .before .before .before .before .before .before .before .before .before .before .before .before .before .before .before .before .before in
     let fill = by-fill .fill in
     let args = by-fill .before .before .before .before .before .before .before .args in
-    fill-long _ (args .answers .now) 0 (length (args .answers .now)) (fill .ensures)
+    answers2 .given ∙ fill-long _ (args .answers .now) 0 (length (args .answers .now)) (fill .ensures)
 
 same-length-3 : tie.Need-same-length-3
 same-length-3 c =
-    let by-fill2 = c .before .before .before .before .before .before .before .before .before .before .before .before .before .before .before .before in
+    let by-list2 = c .before in
+    let list2 = by-list2 .list2 in
+    let by-fill2 = by-list2 .before .before .before .before .before .before .before .before .before .before .before .before .before .before .before .before .before .before .before .before in
     let fill2 = by-fill2 .fill2 in
     let args = by-fill2 .before .before .before .before .before .before .before .before .before .before .before .args in
-    fill-long _ (args .list .now) 0 (length (args .list .now)) (fill2 .ensures)
+    list2 .given ∙ fill-long _ (args .list .now) 0 (length (args .list .now)) (fill2 .ensures)
 
 returns : tie.Need-returns
 returns c =
-    let by-if1 = c .before in
-    let if1 = by-if1 .if1 in
-    let by-begin = by-if1 .before .before in
-    let begin = by-begin .begin in
-    let by-split = by-begin .before .before .before .before in
-    let split = by-split .split in
-    let by-fill2 = by-split .before .before .before .before .before .before .before .before .before in
+    let by-run-split = c .before .before .before .before in
+    let run-split = by-run-split .run-split in
+    let by-items = by-run-split .before .before .before .before .before .before .before in
+    let items = by-items .items in
+    let by-fill2 = by-items .before .before .before .before .before .before .before .before .before .before in
     let fill2 = by-fill2 .fill2 in
     let by-fill = by-fill2 .before .before .before .before in
     let fill = by-fill .fill in
     let pre = by-fill .before .before .before .before .before .before .before .pre in
-    splitting-refused _ _ _ _ _ (pre .0) _ (fill .ensures) _ (fill2 .ensures) _ _ (split .ensures) _ _ (begin .ensures) (if1 .taken) _
-    (c .refused .ensures)
-
-slice-aggregate-run-items : tie.Need-slice-aggregate-run-items
-slice-aggregate-run-items c = search needs
-
-run-items-requires : tie.Need-run-items-requires
-run-items-requires c κs =
-    let by-if1 = c .before .before .before .before .before in
-    let if1 = by-if1 .if1 in
-    let by-begin = by-if1 .before .before in
-    let begin = by-begin .begin in
-    let by-split = by-begin .before .before .before .before in
-    let split = by-split .split in
-    let by-codes2 = by-split .before .before .before .before in
-    let codes2 = by-codes2 .codes2 in
-    let by-fill2 = by-codes2 .before .before .before .before .before in
-    let fill2 = by-fill2 .fill2 in
-    let by-fill = by-fill2 .before .before .before .before in
-    let fill = by-fill .fill in
-    let pre = by-fill .before .before .before .before .before .before .before .pre in
-    fields-start _ _ _ _ _ (pre .0) _ (fill .ensures) _ (fill2 .ensures) _ _ (split .ensures) _ _ (begin .ensures) (if1 .left) _
-    (codes2 .ensures .coded)
-
-same-length-4 : tie.Need-same-length-4
-same-length-4 c = search needs
-
-same-length-5 : tie.Need-same-length-5
-same-length-5 c =
-    let by-run-items = c .before .before .before .before in
-    let run-items = by-run-items .run-items in
-    let by-if1 = by-run-items .before .before .before .before .before .before in
-    let if1 = by-if1 .if1 in
-    let by-begin = by-if1 .before .before in
-    let begin = by-begin .begin in
-    let by-split = by-begin .before .before .before .before in
-    let split = by-split .split in
-    let by-fill2 = by-split .before .before .before .before .before .before .before .before .before in
-    let fill2 = by-fill2 .fill2 in
-    let by-fill = by-fill2 .before .before .before .before in
-    let fill = by-fill .fill in
-    let pre = by-fill .before .before .before .before .before .before .before .pre in
-    answers-kept _ _ _ _ _ (pre .0) _ (fill .ensures) _ (fill2 .ensures) _ _ (split .ensures) _ _ (begin .ensures) (if1 .left) _ _ _ _
-    (run-items .ensures)
-
-same-length-6 : tie.Need-same-length-6
-same-length-6 c =
-    let by-run-items = c .before .before .before .before in
-    let run-items = by-run-items .run-items in
-    let by-if1 = by-run-items .before .before .before .before .before .before in
-    let if1 = by-if1 .if1 in
-    let by-begin = by-if1 .before .before in
-    let begin = by-begin .begin in
-    let by-split = by-begin .before .before .before .before in
-    let split = by-split .split in
-    let by-fill2 = by-split .before .before .before .before .before .before .before .before .before in
-    let fill2 = by-fill2 .fill2 in
-    let by-fill = by-fill2 .before .before .before .before in
-    let fill = by-fill .fill in
-    let pre = by-fill .before .before .before .before .before .before .before .pre in
-    list-kept _ _ _ _ _ (pre .0) _ (fill .ensures) _ (fill2 .ensures) _ _ (split .ensures) _ _ (begin .ensures) (if1 .left) _ _ _ _
-    (run-items .ensures)
-
-returns-2 : tie.Need-returns-2
-returns-2 c =
-    let by-run-items = c .before .before .before .before in
-    let run-items = by-run-items .run-items in
-    let by-if1 = by-run-items .before .before .before .before .before .before in
-    let if1 = by-if1 .if1 in
-    let by-begin = by-if1 .before .before in
-    let begin = by-begin .begin in
-    let by-split = by-begin .before .before .before .before in
-    let split = by-split .split in
-    let by-fill2 = by-split .before .before .before .before .before .before .before .before .before in
-    let fill2 = by-fill2 .fill2 in
-    let by-fill = by-fill2 .before .before .before .before in
-    let fill = by-fill .fill in
-    let pre = by-fill .before .before .before .before .before .before .before .pre in
-    fields-end _ _ _ _ _ (pre .0) _ (fill .ensures) _ (fill2 .ensures) _ _ (split .ensures) _ _ (begin .ensures) (if1 .left) _ _ _ _
-    (run-items .ensures)
+    cleared-answer _ _ _ _ _ (pre .0) _ (fill .ensures) _ (fill2 .ensures) _ (items .given) _ (run-split .ensures)
 
 pub run-checked-spec : {M : Type 1} → statement M
 run-checked-spec =
@@ -156,15 +83,9 @@ run-checked-spec =
     codes-requires
     slice-aggregate-split
     split-requires
-    begin-requires
-    refused-requires
+    slice-aggregate-run-split
+    run-split-requires
     same-length
     same-length-2
     same-length-3
-    returns
-    slice-aggregate-run-items
-    run-items-requires
-    same-length-4
-    same-length-5
-    same-length-6
-    returns-2)
+    returns)
