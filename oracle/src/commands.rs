@@ -7,6 +7,7 @@
 use std::ops::Range;
 
 use crate::format::*;
+use crate::parts;
 
 /// As many entries as a table may have.
 pub const ENTRIES: usize = 32;
@@ -69,34 +70,13 @@ impl Command {
 
 /// The bytes of a table.
 pub fn write(commands: &[Command]) -> Vec<u8> {
-    let entries: Vec<Vec<u8>> = commands.iter().map(Command::write).collect();
-    let mut out = (entries.len() as u16).to_le_bytes().to_vec();
-    let mut at = 0u32;
-    out.extend(at.to_le_bytes());
-    for entry in &entries {
-        at += entry.len() as u32;
-        out.extend(at.to_le_bytes());
-    }
-    [out, entries.concat()].concat()
-}
-
-/// Where the entries of a table lie in it, if its count and its offsets are as they must be.
-fn parts(b: &[u8]) -> Option<Vec<Range<usize>>> {
-    let count = if b.len() < 2 { 0 } else { u16_at(b, 0) };
-    let start = 2 + 4 * (count + 1);
-    if !(1..=ENTRIES).contains(&count) || b.len() < start {
-        return None;
-    }
-    let offsets: Vec<usize> = (0..=count).map(|k| u32_at(b, 2 + 4 * k) as usize).collect();
-    let whole = offsets[0] == 0 && offsets[count] == b.len() - start;
-    let rising = offsets.windows(2).all(|w| w[0] <= w[1]);
-    (whole && rising).then(|| offsets.windows(2).map(|w| start + w[0]..start + w[1]).collect())
+    parts::write(&commands.iter().map(Command::write).collect::<Vec<_>>())
 }
 
 /// The entries of a table, and where each lies in it; refusal 11 otherwise.
 fn entries(b: &[u8]) -> Result<Vec<(Range<usize>, Command)>, Refusal> {
     let read = |part: Range<usize>| Command::read(&b[part.clone()]).map(|command| (part, command));
-    let all = parts(b).and_then(|parts| parts.into_iter().map(read).collect());
+    let all = parts::read(b, 1..=ENTRIES).ok().and_then(|parts| parts.into_iter().map(read).collect());
     all.ok_or(Refusal::new(11))
 }
 

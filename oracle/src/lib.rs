@@ -1,6 +1,8 @@
-//! The test oracle: forms, sheets and command tables as data, a text notation for forms, and generated test cases.
+//! The test oracle: forms, sheets, command tables and batches as data, a text notation for forms, and generated test cases.
 pub mod format;
+pub mod parts;
 pub mod commands;
+pub mod batches;
 pub mod notation;
 pub mod cases;
 pub mod forged;

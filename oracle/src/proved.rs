@@ -187,6 +187,24 @@ extern "C" {
     fn silverpoise_command_form(table: *const u8, k: usize, entry: usize) -> FormPart;
 }
 
+#[link(name = "exports_batch", kind = "static", modifiers = "-bundle")]
+extern "C" {
+    fn silverpoise_run_batch(
+        form: *const u8,
+        k: usize,
+        batch: *const u8,
+        n: usize,
+        records: *mut u32,
+        r: usize,
+        items: *mut u32,
+        m: usize,
+        answers: *mut u32,
+        l: usize,
+        list: *mut u32,
+        p: usize,
+    ) -> Refused;
+}
+
 #[link(name = "exports_calls", kind = "static", modifiers = "-bundle")]
 extern "C" {
     fn silverpoise_eval(
@@ -357,6 +375,20 @@ pub fn commands_check(table: &[u8]) -> TableRefused {
 
 pub fn command_form(table: &[u8], entry: usize) -> FormPart {
     unsafe { silverpoise_command_form(table.as_ptr(), table.len(), entry) }
+}
+
+#[inline(always)]
+pub fn run_batch(
+    form: &[u8],
+    batch: &[u8],
+    records: &mut [u32],
+    items: &mut [u32],
+    answers: &mut [u32],
+    list: &mut [u32],
+) -> Refused {
+    let (f, b) = ((form.as_ptr(), form.len()), (batch.as_ptr(), batch.len()));
+    let [r, i, a, l] = [records, items, answers, list].map(|slice| (slice.as_mut_ptr(), slice.len()));
+    unsafe { silverpoise_run_batch(f.0, f.1, b.0, b.1, r.0, r.1, i.0, i.1, a.0, a.1, l.0, l.1) }
 }
 
 pub fn eval(lent: &Lent, answers: &mut [u32], list: &mut [u32], node: usize) -> RunAnswer {

@@ -89,7 +89,8 @@ fn add(rng: &mut Rng, command: &mut Command, ty: u16, bytes: &[u8]) {
     command.names.push(Name { ty, offset: offset as u16, length: bytes.len() as u16 });
 }
 
-fn form(rng: &mut Rng) -> Form {
+/// An accepted form of any of the generators.
+pub fn form(rng: &mut Rng) -> Form {
     let known = |case: super::Case| Form::check(&case.form).expect("an accepted form");
     match rng.below(12) {
         0..=5 => one_of(rng, &FEW),
@@ -209,11 +210,11 @@ fn damage_names(rng: &mut Rng, command: &mut Command) {
     }
 }
 
-/// The count, an offset, the length, or any byte.
-fn damage_bytes(rng: &mut Rng, table: &mut Vec<u8>, count: usize) {
+/// The count, an offset, the length, or any byte: of a table or of a batch, which have as many parts at most.
+pub fn damage_bytes(rng: &mut Rng, table: &mut Vec<u8>, count: usize) {
     let at = 2 + 4 * rng.below(count + 1);
     match rng.below(8) {
-        0 => table[0] = *rng.pick(&[0, count as u8 - 1, count as u8 + 1, ENTRIES as u8, ENTRIES as u8 + 1]),
+        0 => table[0] = *rng.pick(&[0, (count as u8).wrapping_sub(1), count as u8 + 1, ENTRIES as u8, ENTRIES as u8 + 1]),
         1 => table[1] = 1,
         2 => table[at] = table[at].wrapping_add(*rng.pick(&[1, 255])),
         3 => table[at + 3] = *rng.pick(&[1, 0x80, 0xff]),

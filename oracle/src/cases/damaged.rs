@@ -3,6 +3,17 @@
 use super::sheets::BROKEN;
 use super::{node_of, parts, Case, Rng};
 use crate::format::*;
+use crate::notation;
+
+/// A form that is refused with each of 1 to 4.
+pub fn forms_at_fault() -> Vec<(u32, Vec<u8>)> {
+    let good = notation::parse("flag(-v)").expect("the notation");
+    let (mut name, mut node) = (good.clone(), good.clone());
+    name.names[0].ty = TEXT + 1;
+    node.nodes[0].kind = GUARD + 1;
+    let field = Form { fields: vec![1], ..good.clone() };
+    vec![(1, good.write()[1..].to_vec()), (2, name.write()), (3, node.write()), (4, field.write())]
+}
 
 /// A well-made case in which one number, or sometimes two or three, is changed. A few are still well-made.
 pub fn damaged(rng: &mut Rng) -> Case {
@@ -343,7 +354,7 @@ fn shorten(rng: &mut Rng, bytes: &mut Vec<u8>) {
 }
 
 /// The count, an offset, or the length of a sheet.
-fn damage_sheet_bytes(rng: &mut Rng, bytes: &mut Vec<u8>) {
+pub fn damage_sheet_bytes(rng: &mut Rng, bytes: &mut Vec<u8>) {
     if bytes.len() < 4 {
         return bytes.push(0);
     }

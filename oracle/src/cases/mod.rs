@@ -1,7 +1,8 @@
-//! Test cases: well-made and damaged forms, sheets and command tables from a seed, cases at the limits, and all short lines.
+//! Test cases: well-made and damaged forms, sheets, command tables and batches from a seed, cases at the limits, all short lines.
 //!
 //! The same seed gives the same bytes on every machine: the only source of choice is `Rng`.
 
+mod batches;
 mod commands;
 mod contested;
 mod damaged;
@@ -14,9 +15,10 @@ mod tables;
 mod tests;
 mod wanting;
 
+pub use batches::{agreeing, batched, damaged_batch, each_number, good_batches, largest_batch, limit_batches, BatchCase};
 pub use commands::{commanded, damaged_commands, TableCase};
 pub use contested::contested;
-pub use damaged::damaged;
+pub use damaged::{damaged, forms_at_fault};
 pub use limits::{chain, limits, shared};
 pub use short_lines::{sample_forms, short_lines};
 pub use tables::{each_byte, good_tables, limit_tables, wear_log};

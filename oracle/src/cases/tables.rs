@@ -47,7 +47,8 @@ pub fn each_byte(table: &[u8]) -> impl Iterator<Item = Vec<u8>> + '_ {
 
 /// Tables at the limits, and with each whether it is refused with 11.
 pub fn limit_tables() -> Vec<(Vec<u8>, bool)> {
-    limit_entries().into_iter().chain(limit_offsets().into_iter().map(|table| (table, true))).collect()
+    let offsets = limit_offsets(&write(&wear_log()));
+    limit_entries().into_iter().chain(offsets.into_iter().map(|table| (table, true))).collect()
 }
 
 /// Tables of no entry, 32 and 33; entries of no name, 128 and 129 names, areas of 4,096 and 4,097 bytes, with no form and one byte
@@ -79,10 +80,9 @@ fn limit_entries() -> Vec<(Vec<u8>, bool)> {
     written.chain([(short, true)]).collect()
 }
 
-/// Good entries behind a byte that is in none of them, and before one; offsets that wrap around 32 bits.
-fn limit_offsets() -> Vec<Vec<u8>> {
-    let good = write(&wear_log());
-    let offset = |k: usize| u32_at(&good, 2 + 4 * k);
+/// Two good parts behind a byte that is in none of them, and before one; offsets that wrap around 32 bits.
+pub fn limit_offsets(good: &[u8]) -> Vec<Vec<u8>> {
+    let offset = |k: usize| u32_at(good, 2 + 4 * k);
     let (start, [first, middle, end]) = (14, [0, 1, 2].map(offset));
     let with = |offsets: [u32; 3], area: &[u8]| {
         let numbers: Vec<u8> = offsets.iter().flat_map(|o| o.to_le_bytes()).collect();

@@ -5,6 +5,7 @@ use std::collections::{BTreeMap, BTreeSet};
 use super::forms::{written, CROSSED, LISTING};
 use super::limits::{good_forms, limit_forms, limit_sheets, longest};
 use super::*;
+use crate::batches::{self, SHEETS};
 use crate::commands::{Command, Table, ENTRIES};
 use crate::notation;
 
@@ -380,5 +381,52 @@ fn tables_at_their_limits() {
         assert!(Table::check(&table).is_ok());
         let changed: BTreeSet<Vec<u8>> = each_byte(&table).collect();
         assert!(!changed.contains(&table) && changed.len() > 5 * table.len());
+    }
+}
+
+/// The number that a form is refused with, or else a sheet.
+fn refused(form: &[u8], sheet: &[u8]) -> u32 {
+    let sheet = |_| Sheet::check(sheet).map(drop);
+    Form::check(form).and_then(sheet).map_or_else(|r| r.number, |()| 0)
+}
+
+#[test]
+fn batches_have_sheets_of_all_sorts() {
+    let mut rng = Rng::new(1);
+    let (mut counts, mut numbers, mut empty, mut twice) = (BTreeSet::new(), BTreeMap::new(), 0, 0);
+    for _ in 0..CASES / 10 {
+        let case = batched(&mut rng);
+        counts.insert(case.sheets.len());
+        empty += usize::from(case.sheets.contains(&Vec::new()));
+        twice += usize::from(case.sheets.iter().collect::<BTreeSet<_>>().len() < case.sheets.len());
+        let ended = case.sheets.iter().map(|sheet| refused(&case.form, sheet));
+        ended.for_each(|number| *numbers.entry(number).or_insert(0) += 1);
+    }
+    assert!((0..=SHEETS + 8).all(|n| counts.contains(&n)), "{counts:?}");
+    assert_eq!(numbers.keys().copied().collect::<Vec<u32>>(), [0, 1, 2, 3, 4, 5, 6]);
+    assert!(numbers.values().all(|n| *n > CASES / 200), "{numbers:?}");
+    assert!(empty > CASES / 100 && twice > CASES / 40, "{empty} {twice}");
+}
+
+#[test]
+fn pairs_agree_on_one_sheet_alone() {
+    let mut rng = Rng::new(1);
+    for _ in 0..CASES / 10 {
+        let ([a, b], k) = agreeing(&mut rng);
+        let both = a.sheets.iter().zip(&b.sheets).enumerate();
+        assert_eq!(both.filter(|(_, (a, b))| a == b).map(|(j, _)| j).collect::<Vec<_>>(), [k]);
+        assert!(a.form == b.form && a.sheets.len().max(b.sheets.len()) <= SHEETS);
+    }
+}
+
+#[test]
+fn batches_at_their_limits() {
+    let read = |batch: &[u8]| batches::read(batch, batches::room(SHEETS)).map(|sheets| sheets.len());
+    for case in good_batches().into_iter().chain([largest_batch()]) {
+        assert_eq!(read(&batches::write(&case.sheets)), Ok(case.sheets.len()));
+    }
+    assert!(limit_batches().iter().all(|batch| read(batch).is_err()));
+    for (number, form) in forms_at_fault() {
+        assert_eq!(refused(&form, &[]), number);
     }
 }

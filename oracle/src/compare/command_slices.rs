@@ -1,7 +1,7 @@
 //! The order of what refuses a table's run: every table at fault with every sheet at fault and with a line for each number, over
 //! slices of no words, one too few, just enough and more. Every word of every slice that is left.
 
-use line::cases::TableCase;
+use line::cases::{forms_at_fault, TableCase};
 use line::commands::{write, Command};
 use line::forged::{ANSWER_WORDS, ITEM_WORDS, LIST_WORDS};
 use line::format::*;
@@ -48,15 +48,6 @@ fn tables() -> Vec<(u32, Vec<u8>)> {
     (unnamed[0].form, unnamed[last].names[1].ty) = (Vec::new(), TEXT);
     all.push((11, write(&unnamed)));
     all
-}
-
-fn forms_at_fault() -> Vec<(u32, Vec<u8>)> {
-    let good = notation::parse("flag(-v)").expect("the notation");
-    let (mut name, mut node) = (good.clone(), good.clone());
-    name.names[0].ty = TEXT + 1;
-    node.nodes[0].kind = GUARD + 1;
-    let field = Form { fields: vec![1], ..good.clone() };
-    vec![(1, good.write()[1..].to_vec()), (2, name.write()), (3, node.write()), (4, field.write())]
 }
 
 /// Sheets, with the number that they give under the good table.

@@ -1,5 +1,7 @@
 //! The proved code beside the Rust that it must equal, in one process.
 
+mod batch_slices;
+mod batches;
 mod calls;
 mod checks;
 #[cfg(live)]
@@ -85,6 +87,7 @@ pub fn compare(layer: &str, seed: u64, count: Option<u64>) -> Option<Compared> {
         "forged" => calls::compare_forged(seed, count.unwrap_or(200_000)),
         "forged-lent" => lent::compare_forged(seed, count.unwrap_or(150_000)),
         "forged-eval" => run::compare_forged(seed, count.unwrap_or(100_000)),
+        "batches" => batches::compare(seed, count.unwrap_or(100_000)),
         "forged-tables" => tables::compare(seed, count.unwrap_or(200_000)),
         #[cfg(live)]
         "calls" => calls::compare(seed, count.unwrap_or(300_000)),

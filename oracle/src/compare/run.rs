@@ -1,6 +1,6 @@
 //! The whole run, one node's evaluation and the text of an answer word: every word that they leave, against the real bpaf.
 
-use line::cases::Rng;
+use line::cases::{Case, Rng};
 use line::forged::{self, records, Call, Lent, State, ANSWER_WORDS, ITEM_WORDS, LIST_WORDS};
 use line::format::*;
 use line::marks;
@@ -13,7 +13,7 @@ use super::split::{accepted, raw_view};
 #[cfg(live)]
 use bpaf::doc::harness::{self, Run, Wanted};
 #[cfg(live)]
-use line::{cases, cases::Case};
+use line::cases;
 
 /// The part that holds a text, or the refusal.
 pub fn text<'a>(lent: &Lent<'a>, word: u32) -> Result<&'a [u8], Refused> {
@@ -92,20 +92,25 @@ pub fn padded(words: &[u32], length: usize) -> Vec<u32> {
 }
 
 /// An answer as the library hands it over, all but its words.
-fn handed(a: &Answer, state: State) -> RunAnswer {
+pub fn handed(a: &Answer, state: State) -> RunAnswer {
     RunAnswer { number: a.number, place: code(a.place), tries: a.tries as u32, words: a.words.len() as u32, state }
 }
 
 /// The words of the slices that a run is lent: items, answers, list.
-#[cfg(live)]
 pub type Lengths = [usize; 3];
 
-#[cfg(live)]
 pub const LEAST: Lengths = [ITEM_WORDS, ANSWER_WORDS, LIST_WORDS];
+
+/// A run of the proved code, and what it leaves in its three slices, which were filled with a pattern.
+pub fn ours(case: &Case, lengths: Lengths) -> (RunAnswer, [Vec<u32>; 3]) {
+    let mut lent = lengths.map(pattern);
+    let [items, answers, list] = &mut lent;
+    (proved::run(&case.form, &case.sheet, items, answers, list), lent)
+}
 
 /// What a run must be: the real bpaf's, or refused for what it is given.
 #[cfg(live)]
-fn expected(case: &Case, [items, answers, list]: Lengths) -> Run {
+pub fn expected(case: &Case, [items, answers, list]: Lengths) -> Run {
     match accepted(case, forged::too_short(items, answers, list)) {
         Err(r) => harness::refused_run(r),
         Ok((form, sheet)) => {
@@ -144,9 +149,7 @@ impl Compared {
     /// A run, with every word that it leaves; what it must be.
     pub fn run(&mut self, case: &Case, lengths: Lengths) -> Run {
         self.cases += 1;
-        let mut lent = lengths.map(pattern);
-        let [items, answers, list] = &mut lent;
-        let ours = proved::run(&case.form, &case.sheet, items, answers, list);
+        let (ours, lent) = ours(case, lengths);
         self.answered(ours.number);
         let theirs = expected(case, lengths);
         let input = || format!("{} {} {lengths:?}", hex(&case.form), hex(&case.sheet));

@@ -1,7 +1,7 @@
 //! List slices of no words, one too few, just enough and more, under every number that a run or an evaluation ends with: every
 //! word of every slice that is left.
 
-use line::cases::Case;
+use line::cases::{forms_at_fault, Case};
 use line::forged::{Lent, ANSWER_WORDS, ITEM_WORDS, LIST_WORDS};
 use line::format::*;
 use line::notation;
@@ -19,19 +19,9 @@ fn case(form: &str, arguments: &[&[u8]]) -> Case {
 /// A form or a sheet at fault, for each of 1 to 6.
 fn at_fault() -> Vec<(u32, Case)> {
     let good = case("flag(-v)", &[]);
-    let form = notation::parse("flag(-v)").expect("the notation");
-    let with = |form: Form| Case { form: form.write(), ..good.clone() };
-    let (mut name, mut node) = (form.clone(), form.clone());
-    name.names[0].ty = TEXT + 1;
-    node.nodes[0].kind = GUARD + 1;
-    vec![
-        (1, Case { form: good.form[1..].to_vec(), ..good.clone() }),
-        (2, with(name)),
-        (3, with(node)),
-        (4, with(Form { fields: vec![1], ..form })),
-        (5, Case { sheet: vec![0], ..good.clone() }),
-        (6, case("flag(-v)", &[b"a" as &[u8]; 257])),
-    ]
+    let with = |(number, form): (u32, Vec<u8>)| (number, Case { form, ..good.clone() });
+    let sheets = [(5, Case { sheet: vec![0], ..good.clone() }), (6, case("flag(-v)", &[b"a" as &[u8]; 257]))];
+    forms_at_fault().into_iter().map(with).chain(sheets).collect()
 }
 
 /// A form of one field and a line, for each number that evaluating the field ends with.

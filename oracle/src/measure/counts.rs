@@ -27,8 +27,8 @@ pub struct Counts {
 }
 
 impl Counts {
-    /// Runs `measure count` under callgrind; an error if valgrind is not installed.
-    pub fn take() -> io::Result<Counts> {
+    /// Runs `measure count` of a part under callgrind; an error if valgrind is not installed.
+    pub fn take(part: &str) -> io::Result<Counts> {
         let program = std::env::current_exe()?;
         let folder = program.with_file_name("callgrind");
         if folder.exists() {
@@ -40,7 +40,7 @@ impl Counts {
             .args(["--tool=callgrind", "--toggle-collect=measure_counted", "--dump-after=measure_counted"])
             .arg(format!("--callgrind-out-file={}", out.display()))
             .arg(program)
-            .arg("count")
+            .args(["count", part])
             .output()?;
         assert!(ended.status.success(), "callgrind: {}", String::from_utf8_lossy(&ended.stderr));
         Ok(Counts { out })

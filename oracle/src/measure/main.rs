@@ -1,6 +1,7 @@
 //! What the proved code costs beside the real bpaf, in one process: time and instructions, growth, stack, the slowest inputs.
 //! Built by oracle/measure with plain release flags. Everything it prints is Markdown for docs/PERFORMANCE.md.
 
+mod batch;
 mod benchmarks;
 #[cfg(beside)]
 mod beside;
@@ -29,8 +30,9 @@ measure growth PLOT     growth of the cost
 measure stack           the deepest use of the stack
 measure slowest         inputs that take long; fails if one takes over 20 ms
 measure commands        lines of commands, and clusters under the largest tables; fails if one takes over 20 ms
+measure batch           six lines in one call; fails if that is not 1.5 times as fast as six calls, clearing left out
 measure profile [NAME]  the functions that the instructions of a benchmark, or of each, are in
-measure count           runs every side a few times, for callgrind to count
+measure count PART      runs every side of `lines` or `batch` a few times, for callgrind to count
 ";
 
 const LINES: &str = "
@@ -74,6 +76,13 @@ const COMMANDS: &str = "
 
 Nanoseconds, as for lines: the run of a form alone, the same line behind its command under a table of three, and the check of that
 table alone. Then milliseconds of processor time: a command word and one cluster that fills the sheet.
+";
+
+const BATCH: &str = "
+## Batches
+
+Six calls of `run` over the same slices beside one call of `run_batch` over six parts, in turn in one process. Clearing is the
+writing of zeros alone, to the words that either has to clear; instructions are callgrind's.
 ";
 
 fn same() -> bool {
@@ -130,9 +139,14 @@ fn commands() -> bool {
     commands::print()
 }
 
+fn batch() -> bool {
+    println!("{BATCH}");
+    batch::print()
+}
+
 /// What callgrind is to count.
-fn count() -> bool {
-    table::count();
+fn count(count: fn()) -> bool {
+    count();
     true
 }
 
@@ -140,7 +154,7 @@ fn main() -> ExitCode {
     let words: Vec<String> = std::env::args().skip(1).collect();
     let words: Vec<&str> = words.iter().map(String::as_str).collect();
     let good = match words[..] {
-        ["all", file] => lines() & others() & growth(file) & stack() & slowest() & commands(),
+        ["all", file] => lines() & others() & growth(file) & stack() & slowest() & commands() & batch(),
         ["same"] => same(),
         ["lines"] => lines(),
         ["beside", _] => beside(),
@@ -149,9 +163,11 @@ fn main() -> ExitCode {
         ["stack"] => stack(),
         ["slowest"] => slowest(),
         ["commands"] => commands(),
+        ["batch"] => batch(),
         ["profile"] => table::print_profile(None),
         ["profile", name] => table::print_profile(Some(name)),
-        ["count"] => count(),
+        ["count", "lines"] => count(table::count),
+        ["count", "batch"] => count(batch::count),
         _ => {
             print!("{USAGE}");
             false

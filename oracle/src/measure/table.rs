@@ -84,15 +84,15 @@ pub fn count() {
     }
 }
 
-/// callgrind's counts, or none without valgrind.
-fn taken() -> Option<Counts> {
-    Counts::take().inspect_err(|e| eprintln!("no instructions are counted: valgrind: {e}")).ok()
+/// callgrind's counts of a part, or none without valgrind.
+pub fn taken(part: &str) -> Option<Counts> {
+    Counts::take(part).inspect_err(|e| eprintln!("no instructions are counted: valgrind: {e}")).ok()
 }
 
 /// The functions that the instructions of each run are in, clearing left out; of the named benchmark, or of all.
 pub fn print_profile(name: Option<&str>) -> bool {
     let plain = |name: &str| name.replace('`', "");
-    let Some(counts) = taken() else { return false };
+    let Some(counts) = taken("lines") else { return false };
     let groups = groups();
     let benchmarks = groups.iter().flat_map(|g| &g.benchmarks).enumerate();
     let chosen: Vec<_> = benchmarks.filter(|(_, b)| name.is_none_or(|name| plain(name) == plain(&b.name))).collect();
@@ -116,7 +116,7 @@ pub fn print() {
     print_parts();
     let groups = groups();
     let benchmarks: Vec<&Benchmark> = groups.iter().flat_map(|g| &g.benchmarks).collect();
-    let counts = taken();
+    let counts = taken("lines");
     let mut times = timed(&benchmarks, BUDGET).into_iter().zip((0..).step_by(3));
     println!(
         "\n| | ours, ns | without clearing | bpaf | times | times, without clearing \
