@@ -61,13 +61,19 @@ static const uint8_t TABLE_BYTES[] = {ENTRIES(SILVERPOISE_NAME_LONG), ARGUMENT_F
 // with a node of no kind in the form of `log`, and with `log` as a text besides
 static const uint8_t FORM_AT_FAULT[] = {ENTRIES(SILVERPOISE_NAME_LONG), ARGUMENT_FORM(0)};
 static const uint8_t NAME_AT_FAULT[] = {ENTRIES(SILVERPOISE_NAME_TEXT), ARGUMENT_FORM(0)};
+// three sheets: the one above, `-vw`, and one that is cut off
+enum { SHEETS = 3, SECOND = sizeof SHEET_BYTES, THIRD = SECOND + 9, END = THIRD + 2, HEADER = 2 + 4 * (SHEETS + 1) };
+#define BATCH_HEADER(count, o0, o1, o2, o3) U16(count), U32(o0), U32(o1), U32(o2), U32(o3)
+#define BATCH_SHEETS U16(1), U16(0), U16(4), '-', 'v', 'w', '7', U16(1), U16(0), U16(3), '-', 'v', 'w', U16(1)
+static const uint8_t BATCH_BYTES[] = {BATCH_HEADER(SHEETS, 0, SECOND, THIRD, END), BATCH_SHEETS};
 
 // Slices of exactly the lengths that are lent, on the heap, so that valgrind sees a read or write outside of them.
-static uint8_t *form, *sheet, *table;
+static uint8_t *form, *sheet, *table, *batch;
 static uint32_t *items, *answers, *list;
 #define FORM form, sizeof FORM_BYTES
 #define SHEET sheet, sizeof SHEET_BYTES
 #define TABLE table, sizeof TABLE_BYTES
+#define BATCH batch, sizeof BATCH_BYTES
 #define ITEMS items, SILVERPOISE_ITEM_SLICE
 #define ANSWERS answers, SILVERPOISE_ANSWER_SLICE
 #define LIST list, SILVERPOISE_LIST_SLICE
@@ -367,6 +373,129 @@ static void commands_refused(void) {
   CHECK(silverpoise_run_commands(TABLE, SHEET, ITEMS, ANSWERS, list, 191).number == 14);
 }
 
+// The slices that a batch is lent, in order, and what a sheet has of each: its record, and its parts of the other three.
+enum { SLICES = 4 };
+static const size_t PARTS[SLICES] = {
+  SILVERPOISE_BATCH_RECORD_WORDS, SILVERPOISE_ITEM_SLICE, SILVERPOISE_ANSWER_SLICE, SILVERPOISE_LIST_SLICE};
+typedef struct {
+  uint32_t *words[SLICES];
+  size_t counts[SLICES];
+} BatchSlices;
+
+// Slices with room for so many sheets, and each with some words more. None of the words is 0.
+static BatchSlices lend_slices(size_t sheets, size_t more) {
+  BatchSlices s;
+  for (int i = 0; i < SLICES; i++) {
+    s.counts[i] = PARTS[i] * sheets + more;
+    s.words[i] = (uint32_t *)lend(NULL, s.counts[i] * sizeof *s.words[i]);
+    fill(s.words[i], s.counts[i], 7);
+  }
+  return s;
+}
+
+static void free_slices(BatchSlices s) {
+  for (int i = 0; i < SLICES; i++) free(s.words[i]);
+}
+
+static SilverpoiseRefused run_batch(const uint8_t *form, size_t form_count, const uint8_t *batch, size_t batch_count,
+                                    BatchSlices s) {
+  return silverpoise_run_batch(form, form_count, batch, batch_count, s.words[0], s.counts[0], s.words[1], s.counts[1],
+                               s.words[2], s.counts[2], s.words[3], s.counts[3]);
+}
+
+// Whether of all slices every word behind those of so many sheets is 0.
+static bool cleared(BatchSlices s, size_t sheets) {
+  for (int i = 0; i < SLICES; i++) {
+    size_t used = PARTS[i] * sheets;
+    if (!holds(s.words[i] + used, s.counts[i] - used, NULL, 0, 0)) return false;
+  }
+  return true;
+}
+
+// Whether a sheet has in record and parts k what a single run of it answers and leaves.
+static bool as_single(const uint8_t *form, size_t form_count, const uint8_t *sheet, size_t sheet_count, BatchSlices s,
+                      size_t k) {
+  SilverpoiseRunAnswer a = silverpoise_run(form, form_count, sheet, sheet_count, ITEMS, ANSWERS, LIST);
+  const uint32_t *single[SLICES] = {NULL, items, answers, list};
+  for (int i = 1; i < SLICES; i++) {
+    if (!holds(s.words[i] + PARTS[i] * k, PARTS[i], single[i], PARTS[i], 0)) return false;
+  }
+  SilverpoiseBatchRecord r;
+  memcpy(&r, s.words[0] + SILVERPOISE_BATCH_RECORD_WORDS * k, sizeof r);
+  return r.number == a.number && r.place == a.place && r.tries == a.tries && r.words == a.words;
+}
+
+// The batch under a form, whose records are known, in slices that are longer than they need be, and in others that are not.
+static void runs_batch(const uint8_t *form, size_t form_count, const uint32_t *records) {
+  static const size_t offsets[] = {0, SECOND, THIRD, END};
+  BatchSlices s = lend_slices(SHEETS, 1), exact = lend_slices(SHEETS, 0);
+  CHECK(refused(run_batch(form, form_count, BATCH, s), 0, 0) && cleared(s, SHEETS));
+  CHECK(holds(s.words[0], s.counts[0], records, SILVERPOISE_BATCH_RECORD_WORDS * SHEETS, 0));
+  for (size_t k = 0; k < SHEETS; k++) {
+    CHECK(as_single(form, form_count, batch + HEADER + offsets[k], offsets[k + 1] - offsets[k], s, k));
+  }
+  CHECK(refused(run_batch(form, form_count, BATCH, exact), 0, 0));
+  for (int i = 0; i < SLICES; i++) CHECK(holds(exact.words[i], exact.counts[i], s.words[i], s.counts[i], 0));
+  free_slices(s);
+  free_slices(exact);
+}
+
+static void batches(void) {
+  static const uint32_t records[] = {0, 0, 5, 6, 22, 2, 3, 0, 5, 0, 0, 0}; // those of docs/FORMAT.md, 13.4
+  static const uint32_t missing[] = {20, 0, 2, 0, 20, 0, 2, 0, 5, 0, 0, 0}, at_fault[] = {3, 1, 0, 0, 3, 1, 0, 0, 3, 1, 0, 0};
+  static const uint8_t no_kind[] = {ARGUMENT_FORM(0)}, no_sheets[] = {U16(0), U32(0)};
+  const BatchSlices none = {{NULL}, {0}};
+  runs_batch(FORM, records);
+  runs_batch(CHOICE, sizeof CHOICE, missing); // with lists of what is missing
+  runs_batch(no_kind, sizeof no_kind, at_fault);
+
+  // a text is found with the sheet and its part of the items
+  BatchSlices s = lend_slices(SHEETS, 0);
+  CHECK(refused(run_batch(FORM, BATCH, s), 0, 0));
+  SilverpoiseTextPart part = silverpoise_text(FORM, batch + HEADER, SECOND, s.words[1], SILVERPOISE_ITEM_SLICE, 2);
+  CHECK(stands(part, 0, SILVERPOISE_SOURCE_SHEET, 9, 1));
+
+  CHECK(refused(run_batch(no_kind, sizeof no_kind, no_sheets, sizeof no_sheets, s), 0, 0) && cleared(s, 0));
+  CHECK(refused(run_batch(FORM, no_sheets, sizeof no_sheets, none), 0, 0));
+  CHECK(refused(run_batch(FORM, BATCH, none), 15, 0));
+  CHECK(refused(run_batch(NULL, 0, NULL, 0, none), 15, 0));
+  free_slices(s);
+}
+
+// Without a form: 15 comes before 1. It leaves every slice all 0.
+static void refused_batch(const uint8_t *bytes, size_t count) {
+  BatchSlices s = lend_slices(SHEETS, 1);
+  uint8_t *exact = (uint8_t *)lend(bytes, count);
+  CHECK(refused(run_batch(NULL, 0, exact, count, s), 15, 0) && cleared(s, 0));
+  free(exact);
+  free_slices(s);
+}
+
+static void batches_refused(void) {
+  static const uint8_t begins_late[] = {BATCH_HEADER(SHEETS, 1, SECOND, THIRD, END), BATCH_SHEETS};
+  static const uint8_t falls[] = {BATCH_HEADER(SHEETS, 0, THIRD, SECOND, END), BATCH_SHEETS};
+  static const uint8_t left_over[] = {BATCH_HEADER(SHEETS, 0, SECOND, THIRD, END), BATCH_SHEETS, 0};
+  static const uint8_t one_less[] = {BATCH_HEADER(SHEETS, 0, SECOND, THIRD, END - 1), BATCH_SHEETS};
+  static const uint8_t too_many[2 + 4 * 34] = {U16(33)};
+  refused_batch(batch, 0);
+  refused_batch(batch, 1);
+  refused_batch(batch, HEADER - 1);
+  refused_batch(batch, sizeof BATCH_BYTES - 1);
+  refused_batch(begins_late, sizeof begins_late);
+  refused_batch(falls, sizeof falls);
+  refused_batch(left_over, sizeof left_over);
+  refused_batch(one_less, sizeof one_less);
+  refused_batch(too_many, sizeof too_many);
+
+  // a slice with one word too few, and no word behind it is touched
+  for (int i = 0; i < SLICES; i++) {
+    BatchSlices s = lend_slices(SHEETS, 0);
+    s.counts[i]--;
+    CHECK(refused(run_batch(FORM, BATCH, s), 15, 0) && cleared(s, 0) && s.words[i][s.counts[i]] == 7);
+    free_slices(s);
+  }
+}
+
 static void states(void) {
   SilverpoiseState scoped = S;
   scoped.start = 1;
@@ -484,6 +613,7 @@ int main(void) {
   form = (uint8_t *)lend(FORM_BYTES, sizeof FORM_BYTES);
   sheet = (uint8_t *)lend(SHEET_BYTES, sizeof SHEET_BYTES);
   table = (uint8_t *)lend(TABLE_BYTES, sizeof TABLE_BYTES);
+  batch = (uint8_t *)lend(BATCH_BYTES, sizeof BATCH_BYTES);
   items = (uint32_t *)lend(NULL, SILVERPOISE_ITEM_SLICE * sizeof *items);
   answers = (uint32_t *)lend(NULL, SILVERPOISE_ANSWER_SLICE * sizeof *answers);
   list = (uint32_t *)lend(NULL, SILVERPOISE_LIST_SLICE * sizeof *list);
@@ -500,6 +630,8 @@ int main(void) {
   tables();
   commands();
   commands_refused();
+  batches();
+  batches_refused();
   running();
   evaluation();
   states();
@@ -511,6 +643,7 @@ int main(void) {
   free(form);
   free(sheet);
   free(table);
+  free(batch);
   free(items);
   free(answers);
   free(list);

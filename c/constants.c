@@ -68,14 +68,35 @@ static size_t make_form(size_t nodes, size_t fields, size_t names, size_t area) 
   return (size_t)(to - form) + area;
 }
 
+// Writes so many times the same entry, behind their count and offsets of four bytes, and returns the length.
+static size_t make_entries(uint8_t *start, size_t count, const uint8_t *entry, size_t size) {
+  uint8_t *to = put_u16(start, count);
+  for (size_t i = 0; i <= count; i++) to = put_u16(put_u16(to, i * size), 0);
+  for (size_t i = 0; i < count; i++, to += size) memcpy(to, entry, size);
+  return (size_t)(to - start);
+}
+
 // Writes a table of so many entries and returns its length: each has the long name `a` and the form of one positional.
 static size_t make_table(uint8_t *table, size_t count) {
   static const uint8_t entry[] = {
     U16(1), U16(1), NAME(SILVERPOISE_NAME_LONG, 0, 1), 'a', U16(1), U16(1), U16(0), U16(0), U16(0), POSITIONAL(0, 0)};
-  uint8_t *to = put_u16(table, count);
-  for (size_t i = 0; i <= count; i++) to = put_u16(put_u16(to, i * sizeof entry), 0);
-  for (size_t i = 0; i < count; i++, to += sizeof entry) memcpy(to, entry, sizeof entry);
-  return (size_t)(to - table);
+  return make_entries(table, count, entry, sizeof entry);
+}
+
+// The number of a batch of so many sheets `-v`, with so many words for the records; in the other slices there is room for one
+// sheet more than there may be. The answer word of the last sheet goes to `last`.
+static uint32_t batch_number(size_t count, size_t record_words, uint32_t *last) {
+  enum { ROOM = SILVERPOISE_MAX_SHEETS + 1 };
+  static const uint8_t flag[] = FORM(1, FLAG_V(SILVERPOISE_FLAG_REQUIRED)), v[] = {U16(1), U16(0), U16(2), '-', 'v'};
+  static uint8_t batch[16 * (ROOM + 1)];
+  static uint32_t records[SILVERPOISE_BATCH_RECORD_WORDS * ROOM], parts[SILVERPOISE_ITEM_SLICE * ROOM];
+  static uint32_t words[SILVERPOISE_ANSWER_SLICE * ROOM], lists[SILVERPOISE_LIST_SLICE * ROOM];
+  SilverpoiseRefused r =
+      silverpoise_run_batch(flag, sizeof flag, batch, make_entries(batch, count, v, sizeof v), records, record_words, parts,
+                            SILVERPOISE_ITEM_SLICE * ROOM, words, SILVERPOISE_ANSWER_SLICE * ROOM, lists,
+                            SILVERPOISE_LIST_SLICE * ROOM);
+  *last = words[SILVERPOISE_ANSWER_SLICE * (count - 1)];
+  return r.number;
 }
 
 static uint32_t form_number(size_t nodes, size_t fields, size_t names, size_t area) {
@@ -108,16 +129,24 @@ static void limits(void) {
   CHECK(sheet_number(SILVERPOISE_MAX_ARGUMENTS + 1, SILVERPOISE_MAX_SHEET_AREA, &length) == SILVERPOISE_REFUSED_ARGUMENTS);
   CHECK(sheet_number(SILVERPOISE_MAX_ARGUMENTS, SILVERPOISE_MAX_SHEET_AREA + 1, &length) == SILVERPOISE_REFUSED_SHEET);
 
-  static uint8_t table[64 * (SILVERPOISE_MAX_COMMANDS + 2)];
-  CHECK(silverpoise_commands_check(table, make_table(table, SILVERPOISE_MAX_COMMANDS)).number == SILVERPOISE_ACCEPTED);
-  CHECK(silverpoise_commands_check(table, make_table(table, SILVERPOISE_MAX_COMMANDS + 1)).number == SILVERPOISE_REFUSED_TABLE);
-
   static const uint8_t many[] = FORM(2, FLAG_V(SILVERPOISE_FLAG_REQUIRED), ABOVE(0, SILVERPOISE_NODE_MANY, 0));
   char cluster[SILVERPOISE_MAX_ITEMS + 3] = "-";
   memset(cluster + 1, 'v', SILVERPOISE_MAX_ITEMS);
   CHECK(RUN(many, cluster).number == SILVERPOISE_ACCEPTED && answers[0] == SILVERPOISE_MAX_ITEMS);
   cluster[SILVERPOISE_MAX_ITEMS + 1] = 'v';
   CHECK(RUN(many, cluster).number == SILVERPOISE_REFUSED_ITEMS);
+}
+
+static void limits_of_entries(void) {
+  static uint8_t table[64 * (SILVERPOISE_MAX_COMMANDS + 2)];
+  CHECK(silverpoise_commands_check(table, make_table(table, SILVERPOISE_MAX_COMMANDS)).number == SILVERPOISE_ACCEPTED);
+  CHECK(silverpoise_commands_check(table, make_table(table, SILVERPOISE_MAX_COMMANDS + 1)).number == SILVERPOISE_REFUSED_TABLE);
+
+  enum { SHEETS = SILVERPOISE_MAX_SHEETS, RECORDS = SILVERPOISE_BATCH_RECORD_WORDS * SHEETS };
+  uint32_t last;
+  CHECK(batch_number(SHEETS, RECORDS, &last) == SILVERPOISE_ACCEPTED && last == 1);
+  CHECK(batch_number(SHEETS, RECORDS - 1, &last) == SILVERPOISE_REFUSED_BATCH && last == 0);
+  CHECK(batch_number(SHEETS + 1, RECORDS + SILVERPOISE_BATCH_RECORD_WORDS, &last) == SILVERPOISE_REFUSED_BATCH && last == 0);
 }
 
 static void refusals_of_input(void) {
@@ -292,6 +321,7 @@ static void missing(void) {
 
 int main(void) {
   limits();
+  limits_of_entries();
   refusals_of_input();
   refusals_of_runs();
   refusals_of_commands();

@@ -1,7 +1,8 @@
 // Silverpoise for C99 and C++: command lines read under a form, answered with values or a numbered refusal.
 //
 // Link with target/staticlib/libexports.a (whole forms and lines: `rt staticlib exports` writes it), for commands with
-// target/staticlib/libexports_commands.a (`rt staticlib exports_commands`) and for the single calls with
+// target/staticlib/libexports_commands.a (`rt staticlib exports_commands`), for many lines in one call with
+// target/staticlib/libexports_batch.a (`rt staticlib exports_batch`) and for the single calls with
 // target/staticlib/libexports_calls.a (`rt staticlib exports_calls`), on x86-64. docs/FORMAT.md has the formats, the
 // rules and the refusals; numbers in brackets here are its sections. c/example.c reads a whole line.
 //
@@ -49,7 +50,11 @@ enum {
   SILVERPOISE_MAX_FORM = 5928,      // bytes of the longest form
 
   // a command table (12); the names of an entry have the limits of a form's
-  SILVERPOISE_MAX_COMMANDS = 32
+  SILVERPOISE_MAX_COMMANDS = 32,
+
+  // a batch (13)
+  SILVERPOISE_MAX_SHEETS = 32,
+  SILVERPOISE_BATCH_RECORD_WORDS = 4 // the record of sheet k begins at word 4 * k of the record slice
 };
 
 // ---- Refusals (9) ----
@@ -57,8 +62,8 @@ enum {
 enum SilverpoiseRefusal {
   SILVERPOISE_ACCEPTED = 0,
 
-  // because of the input, tested in this order but for 6, which comes before 5, 14, which comes before 8, and 11, which comes
-  // before 1
+  // because of the input, tested in this order but for 6, which comes before 5, 14, which comes before 8, and 11 and 15, which
+  // come before 1
   SILVERPOISE_REFUSED_FORM = 1,      // the form's length or counts
   SILVERPOISE_REFUSED_NAME = 2,      // a name record of the form; place: the lowest at fault
   SILVERPOISE_REFUSED_NODE = 3,      // a node of the form; place: the lowest at fault
@@ -70,6 +75,7 @@ enum SilverpoiseRefusal {
   SILVERPOISE_REFUSED_AMBIGUOUS = 9, // a letter in a cluster is both a flag's and an argument's; place: the cluster's Word
   SILVERPOISE_REFUSED_TABLE = 11,    // a command table: its count, its offsets, or the names of an entry
   SILVERPOISE_REFUSED_LIST = 14,     // the list slice is too short
+  SILVERPOISE_REFUSED_BATCH = 15,    // a batch: its count, its offsets, or a slice without room for each of its sheets
 
   // because of the state
   SILVERPOISE_REFUSED_MISSING = 20,        // a required flag, an argument or a positional is not there: see the list
@@ -231,6 +237,12 @@ typedef struct {
   SilverpoiseState state;
 } SilverpoiseCommandAnswer;
 
+// What silverpoise_run_batch writes of a sheet, as the four words of its record: what SilverpoiseRunAnswer has, but the state.
+typedef struct {
+  uint32_t number, place;
+  uint32_t tries, words;
+} SilverpoiseBatchRecord;
+
 // Why a table was refused. For 1 to 4 `entry` is the number PLUS 1 of the entry whose form is at fault, else 0.
 typedef struct {
   uint32_t number, place;
@@ -371,6 +383,26 @@ SilverpoiseCommandAnswer silverpoise_run_commands(const uint8_t *table, size_t t
                                                   size_t sheet_count, uint32_t *items, size_t item_count, uint32_t *answers,
                                                   size_t answer_count, uint32_t *list, size_t list_count);
 
+// ---- A batch (13): several sheets, read with one form ----
+//
+// For the initializer of an array of uint8_t: the count of sheets, a U16; their offsets, counted from the first sheet, a U32
+// each, the last of them the end of the batch; the sheets.
+
+// Reads every sheet of a batch as silverpoise_run does. Of sheet k, counted from 0, `records` has the record at word
+// SILVERPOISE_BATCH_RECORD_WORDS * k, and each other slice the part that begins at k times the least length: `items` at word
+// SILVERPOISE_ITEM_SLICE * k, and so on. The record is what silverpoise_run answers, and the parts what it leaves in slices of
+// the least lengths; the state is not reported. Behind the records and behind the parts all is 0.
+//
+// No sheet stops another: the refusal of a sheet, also of one at fault (5 or 6), stands in its own record, and that of a form
+// (1 to 4) in each. So the answer is 0, or 15 without a place: the batch is not as said above, or has more than
+// SILVERPOISE_MAX_SHEETS, or a slice has no room for a record or a part of each sheet. 15 comes before all else, and leaves
+// every slice all 0.
+//
+// A call that reads items, such as silverpoise_text, is lent the sheet and its part of `items`, not the whole slice.
+SilverpoiseRefused silverpoise_run_batch(const uint8_t *form, size_t form_count, const uint8_t *batch, size_t batch_count,
+                                         uint32_t *records, size_t record_count, uint32_t *items, size_t item_count,
+                                         uint32_t *answers, size_t answer_count, uint32_t *list, size_t list_count);
+
 // ---- The field of a single call ----
 //
 // The calls below that use places are told the number of the field that does so, as `field`: they write the mark
@@ -496,6 +528,7 @@ SILVERPOISE_ASSERT(sizeof(SilverpoiseRunAnswer) == 548, "SilverpoiseRunAnswer");
 SILVERPOISE_ASSERT(offsetof(SilverpoiseRunAnswer, state) == 16, "state of SilverpoiseRunAnswer");
 SILVERPOISE_ASSERT(sizeof(SilverpoiseCommandAnswer) == 556, "SilverpoiseCommandAnswer");
 SILVERPOISE_ASSERT(offsetof(SilverpoiseCommandAnswer, state) == 24, "state of SilverpoiseCommandAnswer");
+SILVERPOISE_ASSERT(sizeof(SilverpoiseBatchRecord) == 16, "a record of a batch has four words");
 SILVERPOISE_ASSERT(sizeof(SilverpoiseTableRefused) == 12, "SilverpoiseTableRefused");
 SILVERPOISE_ASSERT(sizeof(SilverpoiseFormPart) == 24, "SilverpoiseFormPart");
 SILVERPOISE_ASSERT(offsetof(SilverpoiseFormPart, offset) == 8, "offset of SilverpoiseFormPart");

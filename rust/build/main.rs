@@ -1,11 +1,11 @@
-//! Links the proved code: the folder of its two libraries is `SILVERPOISE_LIB`, or else `rt staticlib` makes them.
+//! Links the proved code: the folder of its libraries is `SILVERPOISE_LIB`, or else `rt staticlib` makes them.
 
 mod prove;
 
 use std::{env, path::Path, path::PathBuf, process::Command};
 
-/// Lines of one form, and lines of commands.
-const LIBRARIES: [&str; 2] = ["exports", "exports_commands"];
+/// Lines of one form, lines of commands, and many lines in one call.
+const LIBRARIES: [&str; 3] = ["exports", "exports_commands", "exports_batch"];
 
 fn main() {
     println!("cargo::rerun-if-env-changed=SILVERPOISE_LIB");

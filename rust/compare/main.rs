@@ -2,7 +2,8 @@
 //!
 //! Built by `rust/test` with the libraries of `oracle/build`: `line` (formats and cases) and `bpaf` (with the harness).
 //! Compared for every line: number, place, tries, items, marks, what is missing, values with their texts; that texts are parts
-//! of the caller's arguments; that each item's part of its argument is what it stands for; and the same form built from nodes.
+//! of the caller's arguments; that each item's part of its argument is what it stands for; the same form built from nodes; and
+//! of every fourth line that it is the same where it is read at once with another.
 
 use std::collections::BTreeMap;
 use std::ffi::{OsStr, OsString};
@@ -12,7 +13,7 @@ use std::process::ExitCode;
 use bpaf::doc::harness::{self, Wanted};
 use line::cases::{self, Case, Rng};
 use line::format::{self, Base, Kind};
-use silverpoise::{Item, ItemKind, Mark, Missing, Names, Node, ReadError, Reader, Takes, UsedBy, Value};
+use silverpoise::{Item, ItemKind, Line, Mark, Missing, Names, Node, ReadError, Reader, Takes, UsedBy, Value};
 
 /// What is compared of one read.
 #[derive(Debug, PartialEq)]
@@ -32,6 +33,8 @@ struct Compared {
     too_large: u64,
     differ: u64,
     numbers: BTreeMap<u32, u64>,
+    /// the arguments of a line before
+    before: Vec<OsString>,
 }
 
 impl Compared {
@@ -86,6 +89,18 @@ impl Compared {
         let seen = seen(read.as_ref().map(|line| (line.values(), line.tries())));
         self.must(seen == expected, case, || format!("{seen:?}, expected {expected:?}"));
         self.rebuilt(reader, case, form, &args, &expected);
+        if self.lines % 4 == 0 {
+            self.many(reader, case, ours, &args);
+        }
+    }
+
+    /// The line in one call with one that stands before it: each has the result of a single read.
+    fn many(&mut self, reader: &mut Reader, case: &Case, form: &silverpoise::Form, args: &[OsString]) {
+        let before = std::mem::replace(&mut self.before, args.to_vec());
+        let lines = [&before[..], args];
+        let single = lines.map(|line| reader.read_values(form, line).map(Line::into_values));
+        let many = reader.read_many_values(form, &lines);
+        self.must(many == single, case, || format!("at once {many:?}, expected {single:?}"));
     }
 
     /// The same form from nodes. Shared names become names of their own, so a large form may pass a limit.

@@ -1,4 +1,4 @@
-//! The proved code, linked from its static library. This is the only file with `unsafe`.
+//! The proved code, linked from its static libraries. This is the only file with `unsafe`.
 //!
 //! Why the calls below are sound: a slice goes over as its pointer and its length, and the callee is proved to touch nothing
 //! outside it and keeps no pointer. Only `&mut` slices are written, and the borrow checker keeps them apart from all others. A
@@ -8,6 +8,9 @@
 pub const ITEM_WORDS: usize = 1792;
 pub const ANSWER_WORDS: usize = 8240;
 pub const LIST_WORDS: usize = 192;
+
+/// Words of the record that `run_batch` writes of each sheet: number, place, tries and count of answer words.
+pub const BATCH_RECORD_WORDS: usize = 4;
 
 /// A place is handed over as itself plus 1, and none as 0.
 pub fn place(code: u32) -> Option<usize> {
@@ -110,6 +113,20 @@ extern "C" {
         list: *mut u32,
         list_count: usize,
     ) -> CommandAnswer;
+    fn silverpoise_run_batch(
+        form: *const u8,
+        form_count: usize,
+        batch: *const u8,
+        batch_count: usize,
+        records: *mut u32,
+        record_count: usize,
+        items: *mut u32,
+        item_count: usize,
+        answers: *mut u32,
+        answer_count: usize,
+        list: *mut u32,
+        list_count: usize,
+    ) -> Refused;
 }
 
 pub fn form_check(form: &[u8]) -> Refused {
@@ -165,6 +182,34 @@ pub fn run_commands(table: &[u8], sheet: &[u8], items: &mut [u32], answers: &mut
             table.len(),
             sheet.as_ptr(),
             sheet.len(),
+            items.as_mut_ptr(),
+            items.len(),
+            answers.as_mut_ptr(),
+            answers.len(),
+            list.as_mut_ptr(),
+            list.len(),
+        )
+    }
+}
+
+/// The runs of all sheets of a batch, which checks all that it is given before it runs one.
+pub fn run_batch(
+    form: &[u8],
+    batch: &[u8],
+    records: &mut [u32],
+    items: &mut [u32],
+    answers: &mut [u32],
+    list: &mut [u32],
+) -> Refused {
+    // SAFETY: as said above
+    unsafe {
+        silverpoise_run_batch(
+            form.as_ptr(),
+            form.len(),
+            batch.as_ptr(),
+            batch.len(),
+            records.as_mut_ptr(),
+            records.len(),
             items.as_mut_ptr(),
             items.len(),
             answers.as_mut_ptr(),
@@ -255,6 +300,62 @@ mod tests {
         let mut at_fault = table.clone();
         at_fault[31] = 0;
         assert_eq!((number(&at_fault, SHEET, &mut list), commands_check(&at_fault).entry), ((3, 0, 1), 1));
+    }
+
+    /// Three sheets: that above, one that is cut off, and `-x`.
+    const BATCH: &[u8] = b"\x03\0\0\0\0\0\x09\0\0\0\x0b\0\0\0\x13\0\0\0\
+        \x01\0\0\0\x03\0-vv\x01\0\x01\0\0\0\x02\0-x";
+
+    /// Records, items, answers and lists for so many sheets.
+    fn slices(count: usize) -> [Vec<u32>; 4] {
+        [BATCH_RECORD_WORDS, ITEM_WORDS, ANSWER_WORDS, LIST_WORDS].map(|words| vec![9; count * words])
+    }
+
+    /// The number, and what is left; the answer never has a place.
+    fn ran_batch(
+        form: &[u8],
+        batch: &[u8],
+        [mut records, mut items, mut answers, mut list]: [Vec<u32>; 4],
+    ) -> (u32, [Vec<u32>; 4]) {
+        let refused = run_batch(form, batch, &mut records, &mut items, &mut answers, &mut list);
+        assert_eq!(refused.place, 0);
+        (refused.number, [records, items, answers, list])
+    }
+
+    /// Each sheet has its record and what a single run leaves; behind them all is 0.
+    #[test]
+    fn known_answers_of_a_batch() {
+        let (number, left) = ran_batch(FORM, BATCH, slices(4));
+        assert_eq!((number, &left[0][..12]), (0, &[0, 0, 3, 1, 5, 0, 0, 0, 27, 1, 1, 0][..]));
+        let mut expected = [const { Vec::new() }; 4];
+        for sheet in [SHEET, &BATCH[27..29], &BATCH[29..]] {
+            let [_, mut items, mut answers, mut list] = slices(1);
+            let ran = run(FORM, sheet, &mut items, &mut answers, &mut list);
+            let record = vec![ran.number, ran.place, ran.tries, ran.words];
+            expected.iter_mut().zip([record, items, answers, list]).for_each(|(all, part)| all.extend(part));
+        }
+        for (left, mut expected) in left.into_iter().zip(expected) {
+            expected.resize(left.len(), 0);
+            assert_eq!(left, expected);
+        }
+    }
+
+    /// 15 leaves every slice all 0, and comes before what is wrong with the form, which each record has.
+    #[test]
+    fn refused_batches() {
+        let all_0 = |(number, left): (u32, [Vec<u32>; 4])| left.concat().iter().all(|word| *word == 0).then_some(number);
+        for batch in [&[][..], &BATCH[..1], &BATCH[..BATCH.len() - 1], &[BATCH, b"x"].concat(), b"\x21\0"] {
+            assert_eq!(all_0(ran_batch(&[], batch, slices(3))), Some(15));
+        }
+        for short in 0..4 {
+            let mut slices = slices(3);
+            slices[short].pop();
+            assert_eq!(all_0(ran_batch(FORM, BATCH, slices)), Some(15));
+        }
+        let (number, left) = ran_batch(&[], BATCH, slices(3));
+        assert_eq!((number, left.concat().iter().sum::<u32>(), &left[0][8..]), (0, 3, &[1, 0, 0, 0][..]));
+        assert_eq!(all_0(ran_batch(FORM, &[0; 6], slices(1))), Some(0));
+        assert_eq!(all_0(ran_batch(FORM, &[0; 6], slices(0))), Some(0));
     }
 
     /// What is missing: node plus 1, scope start, scope end, and zeros behind. Here the flag itself, on `-x` and `a`.

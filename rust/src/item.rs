@@ -111,6 +111,15 @@ pub(crate) struct Area<'r, 'a> {
     pub starts: &'r [usize],
 }
 
+/// Where each argument begins when all stand one behind the other, as in the area.
+pub(crate) fn starts<'r>(args: &'r [&OsStr]) -> impl Iterator<Item = usize> + 'r {
+    args.iter().scan(0, |end, arg| {
+        let start = *end;
+        *end += arg.len();
+        Some(start)
+    })
+}
+
 impl<'a> Area<'_, 'a> {
     /// The argument that holds a part of one byte or more at this offset: the last that begins there or before.
     fn argument(&self, offset: usize) -> usize {

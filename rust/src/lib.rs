@@ -37,7 +37,7 @@
 //!   their values are [`Value`]s.
 //! - **What was read**: [`TypedForm::read_line`] and [`ReadError`] have the items, which field used each of them ([`Mark`]), and
 //!   the tries; [`ReadError::missing`] what looked in vain.
-//! - **Many lines**: a [`Reader`] keeps the buffers.
+//! - **Many lines**: a [`Reader`] keeps the buffers, and [`Reader::read_many`] reads many lines in one call.
 //!
 //! What each parser does, and the numbers of the refusals, are in the project's docs/FORMAT.md.
 //!
@@ -78,7 +78,10 @@ mod table_words;
 
 mod table;
 
-// lines: run, and what is told of them
+// lines: as bytes, run, and what is told of them
+mod sheet;
+
+mod batch;
 mod missing;
 
 mod run;

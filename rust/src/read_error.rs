@@ -6,7 +6,7 @@ use std::ops::Range;
 use std::os::unix::ffi::OsStrExt;
 
 use crate::ffi;
-use crate::item::{Area, Item};
+use crate::item::{starts, Area, Item};
 use crate::missing::Missing;
 use crate::read_words::{said, Said};
 use crate::run::Run;
@@ -113,15 +113,6 @@ impl ReadError {
         let starts: Vec<usize> = starts(&args).collect();
         Area { args: &args, starts: &starts }.items(&self.0.records, &self.0.marks)
     }
-}
-
-/// Where each argument begins when all stand one behind the other.
-fn starts<'r>(args: &'r [&OsStr]) -> impl Iterator<Item = usize> + 'r {
-    args.iter().scan(0, |end, arg| {
-        let start = *end;
-        *end += arg.len();
-        Some(start)
-    })
 }
 
 impl Inner {

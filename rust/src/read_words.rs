@@ -7,7 +7,8 @@ use crate::item::{Item, ItemKind, Mark, UsedBy};
 use crate::missing::Missing;
 use crate::needs::{either, has_option, some_required};
 use crate::node::{kind, LONG, SHORT};
-use crate::run::{Run, Tried, ARGUMENTS};
+use crate::run::{Run, Tried};
+use crate::sheet::ARGUMENTS;
 use crate::shown::{quoted, shown_word};
 use crate::table::CommandTable;
 

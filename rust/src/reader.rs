@@ -1,31 +1,35 @@
 //! Reading a line: arguments become a sheet, the proved code runs the form on it, and its words become values.
 
 use std::ffi::OsStr;
-use std::os::unix::ffi::OsStrExt;
 
+use crate::batch::{self, Accepted, Batch};
 use crate::ffi;
 use crate::form::Form;
+use crate::item::{starts, Area};
 use crate::line::Line;
 use crate::read_error::ReadError;
-use crate::run::{Run, Tried, ARGUMENTS};
+use crate::run::{Run, Tried};
+use crate::sheet;
 use crate::table::CommandTable;
 use crate::value::{Value, Words};
 
 /// The buffers of a read, kept from line to line: [`read`](Reader::read) then allocates nothing but its values and a list of
-/// references to its arguments, [`read_values`](Reader::read_values) the items besides. The same holds of lines of commands.
+/// references to its arguments, [`read_values`](Reader::read_values) the items besides. The same holds of lines of commands,
+/// and of many lines at once ([`read_many`](Reader::read_many)).
 #[derive(Debug)]
 pub struct Reader {
     sheet: Vec<u8>,
     starts: Vec<usize>,
     /// item slice, answer slice and list slice, one behind the other
     words: Vec<u32>,
+    batch: Batch,
 }
 
 impl Reader {
-    /// A reader with buffers of its own, about 40 KB.
+    /// A reader with buffers of its own, about 40 KB. Where many lines are read at once it has others, 1.3 MB for 32 lines.
     pub fn new() -> Reader {
         let words = vec![0; ffi::ITEM_WORDS + ffi::ANSWER_WORDS + ffi::LIST_WORDS];
-        Reader { sheet: Vec::new(), starts: Vec::new(), words }
+        Reader { sheet: Vec::new(), starts: Vec::new(), words, batch: Batch::default() }
     }
 
     /// Reads a line under an untyped form, as [`Form::read_values`] does.
@@ -46,9 +50,47 @@ impl Reader {
         Ok(values_of(&self.run_commands(table, args)?))
     }
 
+    /// Reads many lines under an untyped form, as [`read_many`](Reader::read_many) does under one with types: the values of
+    /// each, as [`Line::into_values`] gives them. Who wants the items of a line too reads it by itself.
+    pub fn read_many_values<'a, L: AsRef<[A]>, A: AsRef<OsStr> + 'a>(
+        &mut self,
+        form: &'a Form,
+        lines: &'a [L],
+    ) -> Vec<Result<Vec<Value<'a>>, ReadError>> {
+        self.read_each(form, lines, |words| words.values())
+    }
+
+    /// Reads many lines, as many of them in one call as a batch can have. What is made of the words of a line is given.
+    pub(crate) fn read_each<'a, L: AsRef<[A]>, A: AsRef<OsStr> + 'a, V>(
+        &mut self,
+        form: &'a Form,
+        lines: &'a [L],
+        value: impl Fn(&mut Words<'_, 'a>) -> V,
+    ) -> Vec<Result<V, ReadError>> {
+        let mut read = Vec::with_capacity(lines.len());
+        for lines in lines.chunks(batch::LINES) {
+            let lines: Vec<Vec<&OsStr>> = lines.iter().map(|line| references(line.as_ref())).collect();
+            self.batch.run(form, &lines);
+            for (k, args) in lines.into_iter().enumerate() {
+                read.push(match self.batch.accepted(k) {
+                    Some(Accepted { records, words }) => {
+                        let area = Area { args: &args, starts: write_starts(&mut self.starts, &args) };
+                        Ok(value(&mut Words::of(form, area, records, words)))
+                    }
+                    // an error tells which field used which item, and a batch does not: such a line is run by itself
+                    None => self.run_line(form, args).map(|run| value(&mut Words::new(&run))),
+                });
+            }
+        }
+        read
+    }
+
     /// Runs a form on a line, to its values or its refusal.
     pub(crate) fn run<'r, 'a, A: AsRef<OsStr>>(&'r mut self, form: &'a Form, args: &'a [A]) -> Result<Run<'r, 'a>, ReadError> {
-        let args: Vec<&OsStr> = args.iter().map(AsRef::as_ref).collect();
+        self.run_line(form, references(args))
+    }
+
+    fn run_line<'r, 'a>(&'r mut self, form: &'a Form, args: Vec<&'a OsStr>) -> Result<Run<'r, 'a>, ReadError> {
         self.write_sheet(&args);
         let Slices { items, answers, list } = slices(&mut self.words);
         let answer = ffi::run(form.bytes(), &self.sheet, items, answers, list);
@@ -61,7 +103,7 @@ impl Reader {
         table: &'a CommandTable,
         args: &'a [A],
     ) -> Result<Run<'r, 'a>, ReadError> {
-        let args: Vec<&OsStr> = args.iter().map(AsRef::as_ref).collect();
+        let args = references(args);
         self.write_sheet(&args);
         let Slices { items, answers, list } = slices(&mut self.words);
         let answer = ffi::run_commands(table.bytes(), &self.sheet, items, answers, list);
@@ -89,25 +131,24 @@ impl Reader {
         }
     }
 
-    /// The sheet of any arguments. What a sheet cannot hold is cut so that the run refuses it by its number: of too many
-    /// arguments only the count is written (6), and too long an area has offsets that cannot fit it (5).
+    /// The sheet of any arguments, and where each of them begins in it.
     fn write_sheet(&mut self, args: &[&OsStr]) {
-        let cut = |number: usize| u16::try_from(number).unwrap_or(u16::MAX).to_le_bytes();
         self.sheet.clear();
-        self.starts.clear();
-        self.sheet.extend(cut(args.len()));
-        if args.len() > ARGUMENTS {
-            return;
-        }
-        let mut offset = 0;
-        self.sheet.extend(cut(offset));
-        for arg in args {
-            self.starts.push(offset);
-            offset += arg.len();
-            self.sheet.extend(cut(offset));
-        }
-        args.iter().for_each(|arg| self.sheet.extend(arg.as_bytes()));
+        sheet::write(&mut self.sheet, args);
+        write_starts(&mut self.starts, args);
     }
+}
+
+/// Where each argument begins in a sheet, in a buffer that is used anew.
+fn write_starts<'r>(buffer: &'r mut Vec<usize>, args: &[&OsStr]) -> &'r [usize] {
+    buffer.clear();
+    buffer.extend(starts(args));
+    buffer
+}
+
+/// The arguments, each asked once for what it is.
+fn references<A: AsRef<OsStr>>(args: &[A]) -> Vec<&OsStr> {
+    args.iter().map(AsRef::as_ref).collect()
 }
 
 /// The slices that a run writes.
@@ -125,9 +166,7 @@ fn slices(words: &mut [u32]) -> Slices<'_> {
 
 /// A line that was accepted, with a value for each field of its form.
 fn values_of<'a>(run: &Run<'_, 'a>) -> Line<'a, Vec<Value<'a>>> {
-    let mut words = Words::new(run);
-    let kinds = run.form.map_or(&[][..], Form::kinds);
-    Line::new(kinds.iter().map(|kind| words.value(*kind)).collect(), run)
+    Line::new(Words::new(run).values(), run)
 }
 
 impl Default for Reader {
@@ -142,6 +181,14 @@ impl Form {
     /// A [`Reader`] does the same and keeps its buffers from line to line.
     pub fn read_values<'a, A: AsRef<OsStr>>(&'a self, args: &'a [A]) -> Result<Line<'a, Vec<Value<'a>>>, ReadError> {
         Reader::new().read_values(self, args)
+    }
+
+    /// Reads many lines, as [`Reader::read_many_values`] does.
+    pub fn read_many_values<'a, L: AsRef<[A]>, A: AsRef<OsStr> + 'a>(
+        &'a self,
+        lines: &'a [L],
+    ) -> Vec<Result<Vec<Value<'a>>, ReadError>> {
+        Reader::new().read_many_values(self, lines)
     }
 }
 
@@ -192,23 +239,5 @@ mod tests {
             assert_eq!(reader.words[list.clone()], [0; ffi::LIST_WORDS]);
         }
         assert_eq!(reader.read_values(&form, &["-x", "y"]).unwrap_err().missing(), []);
-    }
-
-    /// The sheets of docs/FORMAT.md, section 2, and those that say too much.
-    #[test]
-    fn sheets() {
-        let mut reader = Reader::new();
-        let mut sheet = |args: &[&str]| {
-            let args: Vec<&OsStr> = args.iter().map(OsStr::new).collect();
-            reader.write_sheet(&args);
-            reader.sheet.clone()
-        };
-        assert_eq!(sheet(&[]), b"\0\0\0\0");
-        assert_eq!(sheet(&["-vv"]), b"\x01\0\0\0\x03\0-vv");
-        assert_eq!(sheet(&["", "a"]), b"\x02\0\0\0\0\0\x01\0a");
-        assert_eq!(sheet(&["a"; 257]), b"\x01\x01");
-        assert_eq!(sheet(&["a"; 65_537]), b"\xff\xff");
-        let long = "x".repeat(65_536);
-        assert_eq!(sheet(&[&long, ""])[..8], *b"\x02\0\0\0\xff\xff\xff\xff");
     }
 }

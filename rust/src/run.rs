@@ -1,16 +1,12 @@
 //! A form that was run on a line: what the proved code left, with what it was run on.
 
 use std::ffi::OsStr;
-use std::os::unix::ffi::OsStrExt;
 
 use crate::ffi::RunAnswer;
 use crate::form::Form;
 use crate::item::{Area, Item};
 use crate::missing::{self, Missing};
 use crate::table::CommandTable;
-
-/// The most arguments of a line.
-pub(crate) const ARGUMENTS: usize = 256;
 
 /// What a run left, with what it was run on.
 pub struct Run<'r, 'a> {
@@ -58,19 +54,5 @@ impl<'a> Run<'_, 'a> {
 
     pub(crate) fn missing(&self) -> Vec<Missing> {
         self.form.map_or_else(Vec::new, |form| missing::read(form.layout(), self.list))
-    }
-
-    /// The text that an answer word stands for: an item's, or from 256 on a name record's.
-    pub(crate) fn text(&self, word: u32) -> &'a OsStr {
-        match word.checked_sub(256) {
-            Some(record) => {
-                let form = self.form.expect("a line that was accepted has its form");
-                OsStr::from_bytes(form.layout().name(record as usize).1)
-            }
-            None => {
-                let at = 7 * word as usize;
-                self.area().part(self.records[at + 5], self.records[at + 6])
-            }
-        }
     }
 }

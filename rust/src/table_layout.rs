@@ -9,15 +9,21 @@ pub(crate) const COMMANDS: usize = 32;
 /// A table's bytes: the names and the form of each command. The limits see to it that all numbers fit.
 pub(crate) fn write<'a>(commands: impl Iterator<Item = (&'a [NameRecord], &'a [u8])>) -> Vec<u8> {
     let entries: Vec<Vec<u8>> = commands.map(|(names, form)| entry(names, form)).collect();
-    let mut out = (entries.len() as u16).to_le_bytes().to_vec();
-    let mut offset = 0;
-    out.extend(0_u32.to_le_bytes());
-    for entry in &entries {
-        offset += entry.len() as u32;
-        out.extend(offset.to_le_bytes());
-    }
+    let (lengths, mut out): (Vec<usize>, _) = (entries.iter().map(Vec::len).collect(), Vec::new());
+    write_offsets(&mut out, &lengths);
     entries.iter().for_each(|entry| out.extend(entry));
     out
+}
+
+/// What stands before entries of these lengths, here and before the sheets of a batch: their count, and offsets of four bytes.
+pub(crate) fn write_offsets(out: &mut Vec<u8>, lengths: &[usize]) {
+    out.extend((lengths.len() as u16).to_le_bytes());
+    let mut offset = 0_u32;
+    out.extend(offset.to_le_bytes());
+    for length in lengths {
+        offset += *length as u32;
+        out.extend(offset.to_le_bytes());
+    }
 }
 
 fn entry(names: &[NameRecord], form: &[u8]) -> Vec<u8> {

@@ -111,6 +111,14 @@ impl<K: Kinds> TypedForm<K> {
         Reader::new().read(self, args)
     }
 
+    /// Reads many lines, as [`Reader::read_many`] does.
+    pub fn read_many<'a, L: AsRef<[A]>, A: AsRef<OsStr> + 'a>(
+        &'a self,
+        lines: &'a [L],
+    ) -> Vec<Result<K::Values<'a>, ReadError>> {
+        Reader::new().read_many(self, lines)
+    }
+
     /// Reads a line, and keeps its items, which field used each of them, and the count of tries. The number of a field is its
     /// place in the tuple.
     pub fn read_line<'a, A: AsRef<OsStr>>(&'a self, args: &'a [A]) -> Result<Line<'a, K::Values<'a>>, ReadError> {
@@ -142,5 +150,35 @@ impl Reader {
     ) -> Result<K::Values<'a>, ReadError> {
         let run = self.run(form.form(), args)?;
         Ok(K::read(&mut Words::new(&run)))
+    }
+
+    /// Reads many lines under a form with types: a result for each line, in order, and each the one that
+    /// [`read`](Reader::read) gives. A line that is refused stops no other.
+    ///
+    /// ```
+    /// use std::ffi::OsStr;
+    /// use silverpoise::{positional, short, Reader, Text, TypedForm};
+    ///
+    /// let form = TypedForm::of((short('l').long("limit").argument::<u32>().fallback(500), positional::<Text>()))?;
+    /// let orders = "lock -l7\nchain -l many\nbolt";
+    /// let lines: Vec<Vec<&str>> = orders.lines().map(|order| order.split(' ').collect()).collect();
+    ///
+    /// let read = Reader::new().read_many(&form, &lines);
+    /// assert_eq!((&read[0], &read[2]), (&Ok((7, OsStr::new("lock"))), &Ok((500, OsStr::new("bolt")))));
+    /// assert_eq!(read[1].as_ref().unwrap_err().to_string(), "\
+    /// `many` is not a number from 0 to 4294967295
+    ///   chain -l many
+    ///            ^^^^");
+    /// # Ok::<(), Box<dyn std::error::Error>>(())
+    /// ```
+    ///
+    /// There may be any number of lines: one call of the proved code reads 32 of them. A line that is refused is then read once
+    /// more by itself, since its error has what such a call does not report: which field used which item.
+    pub fn read_many<'a, K: Kinds, L: AsRef<[A]>, A: AsRef<OsStr> + 'a>(
+        &mut self,
+        form: &'a TypedForm<K>,
+        lines: &'a [L],
+    ) -> Vec<Result<K::Values<'a>, ReadError>> {
+        self.read_each(form.form(), lines, K::read)
     }
 }

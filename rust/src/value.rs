@@ -1,7 +1,10 @@
 //! Values, and the answer words that they are read from.
 
 use std::ffi::OsStr;
+use std::os::unix::ffi::OsStrExt;
 
+use crate::form::Form;
+use crate::item::Area;
 use crate::kind::{Base, Kind};
 use crate::run::Run;
 
@@ -20,18 +23,31 @@ pub enum Value<'a> {
     List(Vec<Value<'a>>),
 }
 
-/// The answer words of an accepted run, read from the left.
+/// The answer words of an accepted line, read from the left.
 ///
 /// That there are as many words as the fields' kinds ask for, and that each text word is an item or a text name, is proved
 /// of the run; if it were not so, reading them would panic.
 pub struct Words<'r, 'a> {
-    run: &'r Run<'r, 'a>,
+    form: &'a Form,
+    area: Area<'r, 'a>,
+    /// the records of the items
+    records: &'r [u32],
     rest: std::slice::Iter<'r, u32>,
 }
 
 impl<'r, 'a> Words<'r, 'a> {
     pub(crate) fn new(run: &'r Run<'r, 'a>) -> Words<'r, 'a> {
-        Words { run, rest: run.words.iter() }
+        let form = run.form.expect("a line that was accepted has its form");
+        Words::of(form, run.area(), run.records, run.words)
+    }
+
+    pub(crate) fn of(form: &'a Form, area: Area<'r, 'a>, records: &'r [u32], words: &'r [u32]) -> Words<'r, 'a> {
+        Words { form, area, records, rest: words.iter() }
+    }
+
+    /// A value for each field of the form, in order.
+    pub(crate) fn values(&mut self) -> Vec<Value<'a>> {
+        self.form.kinds().iter().map(|kind| self.value(*kind)).collect()
     }
 
     pub(crate) fn number(&mut self) -> u32 {
@@ -42,9 +58,16 @@ impl<'r, 'a> Words<'r, 'a> {
         self.number() == 1
     }
 
+    /// A text: an item's, or from 256 on a name record's.
     pub(crate) fn text(&mut self) -> &'a OsStr {
         let word = self.number();
-        self.run.text(word)
+        match word.checked_sub(256) {
+            Some(record) => OsStr::from_bytes(self.form.layout().name(record as usize).1),
+            None => {
+                let at = 7 * word as usize;
+                self.area.part(self.records[at + 5], self.records[at + 6])
+            }
+        }
     }
 
     pub(crate) fn optional<T>(&mut self, value: impl FnOnce(&mut Self) -> T) -> Option<T> {
@@ -71,7 +94,7 @@ impl<'r, 'a> Words<'r, 'a> {
         Value::List(self.list(|words| words.base(base)))
     }
 
-    pub(crate) fn value(&mut self, kind: Kind) -> Value<'a> {
+    fn value(&mut self, kind: Kind) -> Value<'a> {
         match kind {
             Kind::Base(base) => self.base(base),
             Kind::Optional(base) => self.optional_base(base),

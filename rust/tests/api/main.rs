@@ -5,6 +5,7 @@ mod errors;
 mod forms;
 mod help;
 mod lines;
+mod many;
 mod marks;
 mod tables;
 mod typed;

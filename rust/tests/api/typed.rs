@@ -134,7 +134,7 @@ impl<'a, T: Untyped<'a>> Untyped<'a> for Vec<T> {
 }
 
 /// Every line of up to four of these words.
-fn lines() -> impl Iterator<Item = Vec<&'static str>> {
+pub fn lines() -> impl Iterator<Item = Vec<&'static str>> {
     const WORDS: [&str; 6] = ["-v", "-vw7", "--list=a", "a", "7", "--"];
     let line = |length: u32, number: usize| (0..length).map(move |k| WORDS[number / 6usize.pow(k) % 6]).collect();
     (0..=4).flat_map(move |length| (0..6usize.pow(length)).map(move |number| line(length, number)))
