@@ -9,17 +9,14 @@ ghost use Rattle.batch_check.specs.Sheets.{HasSheet};
 use eval_missing::MISSING_WORDS;
 use run_fields::ANSWER_WORDS;
 use split_arg::ITEM_WORDS;
+use wire::COUNT_BYTES;
+use wire::WIDE_OFFSET;
 
 // The most sheets of a batch.
 pub const SHEETS: usize = 32;
 
 // The words of a record. The parts of a sheet have those of a single run's slices.
 pub const RECORD_WORDS: usize = 4;
-
-// The bytes of the count and of an offset.
-const COUNT: usize = 2;
-
-const WIDTH: usize = 4;
 
 pub fn sheet_count(batch: &[u8]) -> usize
     requires { ⌜ 2 ≤ length (now batch) ⌝ }
@@ -49,14 +46,14 @@ fn has_room(n: usize, records: usize, items: usize, answers: usize, list: usize)
 pub fn fits(batch: &[u8], records: usize, items: usize, answers: usize, list: usize) -> bool
     ensures { λ r. ⌜ r ≡ (batchGood (now (batch .entry)) && partsFit (sheetCount (now (batch .entry))) records items answers list) ⌝ }
 {
-    if batch.len() < COUNT {
+    if batch.len() < COUNT_BYTES {
         return false;
     }
     let n = sheet_count(batch);
     if SHEETS < n {
         return false;
     }
-    if !wire::table_good(batch, WIDTH, n) {
+    if !wire::table_good(batch, WIDE_OFFSET, n) {
         return false;
     }
     has_room(n, records, items, answers, list)
@@ -68,5 +65,5 @@ pub fn sheet_at(batch: &[u8], k: usize) -> &[u8]
     ensures { λ r. ⌜ now r ≡ entryOf 4 (sheetCount (now (batch .entry))) (now (batch .entry)) k ⌝ }
 {
     let n = sheet_count(batch);
-    wire::entry(batch, WIDTH, n, k)
+    wire::entry(batch, WIDE_OFFSET, n, k)
 }

@@ -10,7 +10,7 @@ use Rattle.rules.specs.Form.{readForm}
 use Rattle.rules.specs.Sheet.{arguments}
 use Rattle.rules.specs.Accept.{Checked, Accepted, checkForm, lettersOf}
 use Rattle.rules.specs.Run.{Report, refusedInput, run}
-use Rattle.rules.specs.Batch.{recordWords}
+use Rattle.rules.specs.Batch.{sheetRecord}
 use Rattle.rules.specs.declared.Refused.{Refused}
 use Rattle.rules.proofs.BatchSteps.{run-answered}
 use Rattle.split_arg.specs.Clusters.{letters}
@@ -56,7 +56,7 @@ answered-report form sheet ni na nl e h =
 
 module _ (form sheet i a l : List ℕ) (ni na nl : ℕ) (p : length i ≡ ni) (q : length a ≡ na) (s : length l ≡ nl) (r : Reached) (m : List ℕ) where
   pub reported : runAnswer (run form sheet ni na nl) ≡ ended (answerOf r m) i a l → SheetReported form sheet i a l r
-  unfolding runAnswer recordWords
+  unfolding runAnswer sheetRecord
   reported h =
       let (x, runs, same) = answered-report form sheet ni na nl _ h in
       let e = Option·some-injective _ _ same in

@@ -11,7 +11,7 @@ use lib.Seq.{sets, sets-eq, drop-at, length-take-le, drop-length, take-length}
 use Rattle.rules.specs.Base.{concatMap}
 use Rattle.rules.specs.Outcome.{ok, _>>=_}
 use Rattle.rules.specs.Run.{Report, padded}
-use Rattle.rules.specs.Batch.{sheetCount, batchGood, batchSheets, partsFit, sheetsIn, runSheets, recordWords, batchReport, runBatch}
+use Rattle.rules.specs.Batch.{sheetCount, batchGood, batchSheets, partsFit, sheetsIn, runSheets, sheetRecord, batchReport, runBatch}
 use Rattle.rules.specs.BatchAnswered.{Roomy}
 use Rattle.rules.specs.declared.Refused.{Refused}
 use Rattle.rules.proofs.Acceptance.{and-true}
@@ -95,7 +95,7 @@ module _ (b r i a l : List ℕ) where
             ap batchAnswer (batch-runs form b (length r) (length i) (length a) (length l) (d .reports) good runs)
             ∙ (λ j. some (record {
               answer = record { number = 0; place = 0 };
-              records = parts-padded 4 n recordWords (d .reports) r r₁ r₂ (room .records) er (d .records) j;
+              records = parts-padded 4 n sheetRecord (d .reports) r r₁ r₂ (room .records) er (d .records) j;
               items = parts-padded 1792 n (λ (x : Report). x .items) (d .reports) i i₁ i₂ (room .items) ei (d .items) j;
               answers = parts-padded 8240 n (λ (x : Report). x .answers) (d .reports) a a₁ a₂ (room .answers) ea (d .answers) j;
               list = parts-padded 192 n (λ (x : Report). x .list) (d .reports) l l₁ l₂ (room .list) el (d .list) j;

@@ -11,9 +11,10 @@ use Rattle.wire.specs.Wire.{entryOf}
 use Rattle.rules.specs.Base.{concatMap}
 use Rattle.rules.specs.Outcome.{ok}
 use Rattle.rules.specs.Run.{Report, run}
-use Rattle.rules.specs.Batch.{sheetCount, batchSheets, runSheets, recordWords}
+use Rattle.rules.specs.Batch.{sheetCount, batchSheets, runSheets, sheetRecord}
 use Rattle.rules.specs.BatchAnswered.{Roomy}
-use Rattle.rules.proofs.BatchSteps.{sheet-at, sheets-more, concat-more, part-written}
+use Rattle.rules.proofs.BatchSteps.{sheet-at, sheets-more, part-written}
+use Rattle.rules.proofs.ConcatLaws.{concat-more}
 use Rattle.rules.proofs.BatchLaws.{batch-made, parts-fit}
 use Rattle.run_fields.specs.declared.Reached.{Reached}
 use Rattle.batch_check.specs.Sheets.{HasSheet}
@@ -83,7 +84,7 @@ unfolding runSheets
 none-ran form b r i a l = record {
   reports = [];
   runs = refl;
-  records = holds-none 4 recordWords r;
+  records = holds-none 4 sheetRecord r;
   items = holds-none 1792 (λ (x : Report). x .items) i;
   answers = holds-none 8240 (λ (x : Report). x .answers) a;
   list = holds-none 192 (λ (x : Report). x .list) l;
@@ -140,7 +141,7 @@ module _ (b r i a l : List ℕ) (f : BatchFits b r i a l) (k n : ℕ) (same : n 
   next-ran form r₁ i₁ a₁ l₁ d x s i₂ a₂ l₂ r₂ e p q = record {
     reports = d .reports ++ (p .report ∷ []);
     runs = sheets-more form (batchSheets b) k s (d .reports) (p .report) (rw e (sheet-at b k (omega (arith, same)))) (d .runs) (p .runs);
-    records = holds-next 4 k recordWords (d .reports) r r₁ (d .records) (p .report) r₂ (rw (← p .words) q);
+    records = holds-next 4 k sheetRecord (d .reports) r r₁ (d .records) (p .report) r₂ (rw (← p .words) q);
     items = holds-next 1792 k (λ (x : Report). x .items) (d .reports) i i₁ (d .items) (p .report) i₂ (p .items);
     answers = holds-next 8240 k (λ (x : Report). x .answers) (d .reports) a a₁ (d .answers) (p .report) a₂ (p .answers);
     list = holds-next 192 k (λ (x : Report). x .list) (d .reports) l l₁ (d .list) (p .report) l₂ (p .list);

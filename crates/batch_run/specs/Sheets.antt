@@ -7,7 +7,7 @@ use lib.ListN.{length, take, drop}
 use Rattle.rules.specs.Base.{concatMap}
 use Rattle.rules.specs.Outcome.{ok}
 use Rattle.rules.specs.Run.{Report, run}
-use Rattle.rules.specs.Batch.{sheetCount, batchGood, batchSheets, partsFit, runSheets, recordWords}
+use Rattle.rules.specs.Batch.{sheetCount, batchGood, batchSheets, partsFit, runSheets, sheetRecord}
 use Rattle.run_fields.specs.declared.Reached.{Reached}
 use Rattle.batch_parts.specs.Parts.{Replaced, reachedWords}
 
@@ -16,7 +16,7 @@ use Rattle.batch_parts.specs.Parts.{Replaced, reachedWords}
 pub record PartReported (form sheet : List ℕ) (k : ℕ) (i i′ a a′ l l′ : List ℕ) (r : Reached) : Type 0 where
   pub report : Report
   pub runs : run form sheet 1792 8240 192 ≡ ok report
-  pub words : reachedWords r ≡ recordWords report
+  pub words : reachedWords r ≡ sheetRecord report
   pub items : Replaced 1792 k (report .items) i i′
   pub answers : Replaced 8240 k (report .answers) a a′
   pub list : Replaced 192 k (report .list) l l′
@@ -36,7 +36,7 @@ pub record HoldsParts (w k : ℕ) (words : Report → List ℕ) (rs : List Repor
 pub record SheetsRan (form b : List ℕ) (k : ℕ) (r r′ i i′ a a′ l l′ : List ℕ) : Type 0 where
   pub reports : List Report
   pub runs : runSheets form (take k (batchSheets b)) ≡ ok reports
-  pub records : HoldsParts 4 k recordWords reports r r′
+  pub records : HoldsParts 4 k sheetRecord reports r r′
   pub items : HoldsParts 1792 k (λ (x : Report). x .items) reports i i′
   pub answers : HoldsParts 8240 k (λ (x : Report). x .answers) reports a a′
   pub list : HoldsParts 192 k (λ (x : Report). x .list) reports l l′

@@ -13,6 +13,7 @@ use Rattle.rules.specs.Base.{concatMap}
 use Rattle.rules.specs.Bench.{decimal, placeText, wordLine}
 use Rattle.rules.specs.Codes.{placeOf}
 use Rattle.rules.proofs.CodeLaws.{place-some}
+use Rattle.rules.proofs.ConcatLaws.{concat-more}
 use Rattle.bench.specs.Text.{Appends, lineText}
 use Rattle.bench.proofs.Decimal.{digits-decimal, ten-digits}
 
@@ -143,11 +144,6 @@ pub record Worded (o : List ℕ) (at : ℕ) (words o′ : List ℕ) (end i : ℕ
   pub most : end ≤ at + 11 * i
   pub below : i ≤ length words
 
-all-but-last : (f : ℕ → List ℕ) (l : List ℕ) (x : ℕ) → concatMap f (l ++ (x ∷ [])) ≡ concatMap f l ++ f x
-unfolding concatMap
-all-but-last f [] x = append-nil (f x)
-all-but-last f (y ∷ l) x = ap (λ (t : List ℕ). f y ++ t) (all-but-last f l x) ∙ sym (append-assoc (f y) (concatMap f l) (f x))
-
 module _ (o : List ℕ) (at : ℕ) (words : List ℕ) (fits : at + 11 * length words ≤ length o) where
   pub no-words : Worded o at words o at 0
   unfolding concatMap
@@ -167,7 +163,7 @@ module _ (o : List ℕ) (at : ℕ) (words : List ℕ) (fits : at + 11 * length w
     word-more l o₁ e₁ g₁ s₁ o₂ e₂ g₂ s₂ = record {
       appended = let x = getD words i 0 in
           let line = appends-more o′ end o₁ e₁ (decimal x) (g₁ .0) o₂ e₂ _ g₂ in
-          rw (add-one i, take-suc words i 0 l, all-but-last wordLine (take i words) x) (appends-more o at o′ end _ (h .appended) o₂ e₂ _ line);
+          rw (add-one i, take-suc words i 0 l, concat-more wordLine (take i words) x) (appends-more o at o′ end _ (h .appended) o₂ e₂ _ line);
       long = s₂ ∙ s₁ ∙ h .long;
       most = omega (arith, h .most, g₁ .1, g₂ .size);
       below = omega arith;

@@ -9,13 +9,13 @@ use native.Mathlib.Nat.{add-zero, zero-add}
 use native.Mathlib.Numerals.{add-one}
 use native.Mathlib.Omega.{arith}
 use lib.Dec.{leb, eqb}
-use lib.ListN.{length, getElem?, length-map, length-drop}
+use lib.ListN.{length, getElem?, length-drop}
 use borrow.Author.Tests.{eq-eqb, ne-eqb, le-leb, leb-true, lt-leb, lt-ltb, le-ltb, not-true, not-false}
 use borrow.Author.Count.{below-more}
 use Rattle.utf8.specs.Utf8.{if_then_else_}
 use Rattle.wire.specs.Wire.{tableGood, areaStart, offset, entryOf}
 use Rattle.wire.specs.Laws.{start-most, placed, entry-length}
-use Rattle.rules.specs.Base.{all, null, numbers, concatMap, firstFault}
+use Rattle.rules.specs.Base.{all, null, concatMap, firstFault}
 use Rattle.rules.specs.Outcome.{ok, refused, _>>=_, refuse}
 use Rattle.rules.specs.Form.{Name, nameBytes, nameGood}
 use Rattle.rules.specs.Accept.{Checked, Accepted, accepted, refusedAt, checkForm}
@@ -24,12 +24,13 @@ use Rattle.rules.specs.Given.{formIn}
 use Rattle.rules.specs.Commands.{entryCount, offsetsGood, tableEntries, entryNames, entryArea, entryFormAt, Command, readCommand, ofType}
 use Rattle.rules.specs.Commands.{commandNameGood, entryGood, tableIn, formsIn, tableForms, formGood, entryAtFault, formPart, callCommandForm}
 use Rattle.rules.specs.declared.Refused.{Refused}
-use Rattle.rules.proofs.Acceptance.{and-true, all-true, All-at, lookup-inside, numbers-length, mapped-at}
+use Rattle.rules.proofs.Acceptance.{and-true, all-true, All-at, lookup-inside}
+use Rattle.rules.proofs.CommandForms.{entry-there, entries-count, commands-count}
 use Rattle.rules.proofs.GivenLaws.{check-accepted}
 use Rattle.form_names.specs.Names.{nameOf}
 use Rattle.form_names.specs.declared.Name as names
 use Rattle.command_layout.specs.Tables.{EntryFits, HasEntry, HasCommands, FormOf}
-use Rattle.command_layout.proofs.Entries.{good-offsets, area-there, form-there, names-length, table-offsets, commands-count, entry-good, wire-entry}
+use Rattle.command_layout.proofs.Entries.{good-offsets, area-there, form-there, names-length, table-offsets, entry-good, wire-entry}
 use Rattle.command_check.specs.declared.FormPart.{FormPart}
 use Rattle.command_check.specs.Told.{tableTold, partTold}
 
@@ -199,14 +200,6 @@ module _ (t : List ℕ) where
 
 -- ---- the entries of a table
 module _ (t : List ℕ) where
-  entry-there : (k : ℕ) → k < entryCount t → getElem? (tableEntries t) k ≡ some (entryOf 4 (entryCount t) t k)
-  unfolding tableEntries
-  entry-there k below = mapped-at (entryOf 4 (entryCount t) t) (entryCount t) k below
-
-  entries-length : length (tableEntries t) ≡ entryCount t
-  unfolding tableEntries
-  entries-length = length-map (numbers (entryCount t) 0) _ ∙ numbers-length (entryCount t) 0
-
   module _ (n : ℕ) (p : n ≡ entryCount t) (k : ℕ) where
     module _ (below : k < n) where
       pub has-entry : offsetsGood t ≡ true → HasEntry t k
@@ -214,16 +207,16 @@ module _ (t : List ℕ) where
 
       module _ (g : Bool) (good : g ≡ entryGood (entryOf 4 (entryCount t) t k)) where
         pub entry-fails : not g ≡ true → false ≡ all entryGood (tableEntries t)
-        entry-fails f = sym (one-fails entryGood (tableEntries t) k _ (entry-there k (omega arith)) (rw (← good) (not-true g f)))
+        entry-fails f = sym (one-fails entryGood (tableEntries t) k _ (entry-there t k (omega arith)) (rw (← good) (not-true g f)))
 
         pub entry-passes :
             ((j : ℕ) → j < k → PassesAt entryGood (tableEntries t) j)
             → not g ≡ false
             → (j : ℕ) → j < k + 1 → PassesAt entryGood (tableEntries t) j
-        entry-passes before f = one-passes entryGood (tableEntries t) k before _ (entry-there k (omega arith)) (rw (← good) (not-false g f))
+        entry-passes before f = one-passes entryGood (tableEntries t) k before _ (entry-there t k (omega arith)) (rw (← good) (not-false g f))
 
     pub entries-pass : n ≤ k → ((j : ℕ) → j < k → PassesAt entryGood (tableEntries t) j) → true ≡ all entryGood (tableEntries t)
-    entries-pass h before = sym (all-passed entryGood (tableEntries t) k before (omega (arith, entries-length)))
+    entries-pass h before = sym (all-passed entryGood (tableEntries t) k before (omega (arith, entries-count t)))
 
 -- ---- a table's names
 module _ (t : List ℕ) (g : Bool) where

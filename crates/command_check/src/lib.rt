@@ -12,6 +12,8 @@ ghost use Rattle.form_names.specs.Names.{nameOf};
 ghost use Rattle.command_layout.specs.Tables.{HasEntry, EntryFits, HasCommands};
 ghost use Rattle.command_check.specs.Told.{tableTold, partTold};
 use form_names::Name;
+use wire::COUNT_BYTES;
+use wire::WIDE_OFFSET;
 
 // The most entries of a table, names of an entry, and bytes of their area.
 const ENTRIES: usize = 32;
@@ -20,11 +22,7 @@ const NAMES: usize = 128;
 
 const AREA: usize = 4096;
 
-// The bytes of a table's count and of an offset; those of an entry's two counts.
-const COUNT: usize = 2;
-
-const WIDTH: usize = 4;
-
+// The bytes of an entry's two counts.
 const HEAD: usize = 4;
 
 // The type of a long name; a short one has 0.
@@ -127,7 +125,7 @@ fn entry_good(entry: &[u8]) -> bool
 fn offsets_good(table: &[u8]) -> bool
     ensures { λ r. ⌜ r ≡ offsetsGood (now (table .entry)) ⌝ }
 {
-    if table.len() < COUNT {
+    if table.len() < COUNT_BYTES {
         return false;
     }
     let n = command_layout::entry_count(table);
@@ -137,7 +135,7 @@ fn offsets_good(table: &[u8]) -> bool
     if ENTRIES < n {
         return false;
     }
-    wire::table_good(table, WIDTH, n)
+    wire::table_good(table, WIDE_OFFSET, n)
 }
 
 // The same of entry k.
@@ -234,7 +232,7 @@ pub fn form_part(table: &[u8], k: usize) -> FormPart
     if n <= k {
         return refused_part(NO_ENTRY);
     }
-    let start = wire::area_start(WIDTH, n) + wire::offset_at(table, WIDTH, k);
+    let start = wire::area_start(WIDE_OFFSET, n) + wire::offset_at(table, WIDE_OFFSET, k);
     let entry = command_layout::entry_at(table, k);
     let at = command_layout::form_at(entry);
     FormPart {

@@ -18,7 +18,7 @@ use Rattle.rules.specs.Commands.{entryCount, offsetsGood, tableEntries, entryNa
 use Rattle.rules.specs.Commands.{entryGood, tableIn}
 use Rattle.rules.proofs.Acceptance.{and-true, all-true, All-at, numbers-length, mapped-at}
 use Rattle.rules.proofs.CallsAnswer.{if-ok}
-use Rattle.rules.proofs.CommandLaws.{lookup-map}
+use Rattle.rules.proofs.CommandForms.{entry-there, command-there}
 use Rattle.form_names.specs.Names.{nameOf}
 use Rattle.form_names.specs.declared.Name as names
 use Rattle.form_layout.proofs.Sizes.{from, from-drop, record-drop}
@@ -118,25 +118,12 @@ module _ (t : List ℕ) (cs : List Command) (reads : tableIn t ≡ ok cs) where
   pub table-entries : all entryGood (tableEntries t) ≡ true
   table-entries = and-true (offsetsGood t) (all entryGood (tableEntries t)) (tested .0) .1
 
-  pub commands-count : length cs ≡ entryCount t
-  unfolding tableEntries
-  commands-count =
-      rw (← tested .1) (length-map (tableEntries t) readCommand ∙ length-map (numbers (entryCount t) 0) _ ∙ numbers-length (entryCount t) 0)
-
   module _ (k : ℕ) (below : k < entryCount t) where
-    pub entry-there : getElem? (tableEntries t) k ≡ some (entryOf 4 (entryCount t) t k)
-    unfolding tableEntries
-    entry-there = mapped-at (entryOf 4 (entryCount t) t) (entryCount t) k below
-
     pub entry-good : GoodEntry (entryOf 4 (entryCount t) t k)
-    entry-good = good-entry _ (All-at _ (tableEntries t) k _ (all-true entryGood (tableEntries t) table-entries) entry-there)
-
-    -- it is a command of the table
-    pub command-there : getElem? cs k ≡ some (readCommand (entryOf 4 (entryCount t) t k))
-    command-there = rw (← tested .1) (lookup-map readCommand (tableEntries t) k _ entry-there)
+    entry-good = good-entry _ (All-at _ (tableEntries t) k _ (all-true entryGood (tableEntries t) table-entries) (entry-there t k below))
 
     pub has-entry : HasEntry t k
     has-entry = record { good = table-offsets; below = below }
 
     pub form-of-command : (b : List ℕ) → b ≡ readCommand (entryOf 4 (entryCount t) t k) .form → FormOf cs k b
-    form-of-command b same = record { command = readCommand (entryOf 4 (entryCount t) t k); here = command-there; form = sym same }
+    form-of-command b same = record { command = readCommand (entryOf 4 (entryCount t) t k); here = command-there t cs reads k below; form = sym same }

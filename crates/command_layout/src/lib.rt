@@ -11,9 +11,7 @@ ghost use Rattle.rules.specs.Commands.{Command, entryCount, entryNames, entryAr
 ghost use Rattle.form_names.specs.Names.{nameOf};
 ghost use Rattle.command_layout.specs.Tables.{HasEntry, EntryCounts, EntryFits, HasRecord, HasCommands, FormOf};
 use form_names::Name;
-
-// The bytes of an offset.
-const WIDTH: usize = 4;
+use wire::WIDE_OFFSET;
 
 pub fn entry_count(table: &[u8]) -> usize
     requires { ⌜ 2 ≤ length (now table) ⌝ }
@@ -28,7 +26,7 @@ pub fn entry_at(table: &[u8], k: usize) -> &[u8]
     ensures { λ r. ⌜ now r ≡ entryOf 4 (entryCount (now (table .entry))) (now (table .entry)) k ⌝ }
 {
     let n = entry_count(table);
-    wire::entry(table, WIDTH, n, k)
+    wire::entry(table, WIDE_OFFSET, n, k)
 }
 
 pub fn name_count(entry: &[u8]) -> usize

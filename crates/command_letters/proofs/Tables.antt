@@ -32,7 +32,8 @@ use Rattle.split_args.specs.declared.Ended.{Ended}
 use Rattle.split_args.specs.Construct.{SplitEnds}
 use Rattle.split_args.proofs.Plain.{alike-ends}
 use Rattle.command_layout.specs.Tables.{HasCommands, HasForms, FormOf}
-use Rattle.command_layout.proofs.Entries.{good-offsets, table-offsets, commands-count}
+use Rattle.rules.proofs.CommandForms.{commands-count}
+use Rattle.command_layout.proofs.Entries.{good-offsets, table-offsets}
 use Rattle.command_letters.specs.Gather.{putAll, gathered, HasRoom, Holds, Inserted, Gathered}
 use Rattle.command_letters.proofs.Gathers.{holds-front, holds-room, holds-next, holds-long, all-contains, either-first}
 

@@ -33,7 +33,8 @@ use Rattle.take_search.specs.States.{CanTake, LeftState, Items}
 use Rattle.take.specs.Takes.{TakesCmd}
 use Rattle.take.specs.declared.Flag.{Flag}
 use Rattle.command_layout.specs.Tables.{HasEntry, HasRecord, EntryFits, HasCommands}
-use Rattle.command_layout.proofs.Entries.{good-entry, names-length, good-offsets, table-offsets, table-entries, commands-count, entry-there, command-there}
+use Rattle.command_layout.proofs.Entries.{good-entry, names-length, good-offsets, table-offsets, table-entries}
+use Rattle.rules.proofs.CommandForms.{commands-count, entry-there, command-there}
 use Rattle.command_names.specs.declared.Tried.{Tried}
 use Rattle.command_names.specs.Trying.{CanTry, typeCandidates, noneTaken, triedBehind, Tries, TriesNames}
 use Rattle.command_names.proofs.Candidates.{name-of-type, name-of-other, type-next, entry-both, entries-next}
@@ -300,7 +301,7 @@ module _ (t s words m₀ : List ℕ) (p₀ : Numbers) (n : ℕ) where
         pub table-can : CanTry e s words m p k
         table-can =
             let all-good = all-true entryGood (tableEntries t) (table-entries t cs reads) in
-            let there = entry-there t cs reads k (omega (arith, g .count)) in
+            let there = entry-there t k (omega (arith, g .count)) in
             record {
               good = rw entry (All-at _ (tableEntries t) k _ all-good there);
               made = g .made;

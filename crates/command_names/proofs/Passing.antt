@@ -17,12 +17,9 @@ use Rattle.rules.proofs.CodeLaws.{place-some}
 use Rattle.state_marks.specs.declared.Numbers.{Numbers}
 use Rattle.state_marks.specs.Lent.{stateOf, Fine}
 use Rattle.take_search.specs.States.{LeftState, Items}
-use Rattle.take_search.proofs.States.{left-same}
+use Rattle.take_search.proofs.States.{left-same, left-more}
 use Rattle.command_names.specs.declared.Tried.{Tried}
 use Rattle.command_names.specs.Trying.{noneTaken, triedBehind, thenTries, Tries, TriesNames}
-
-left-more : (m : List ℕ) (p : Numbers) (m′ : List ℕ) (q : Numbers) (m″ : List ℕ) (r : Numbers) → LeftState m p m′ q → LeftState m′ q m″ r → LeftState m p m″ r
-left-more m p m′ q m″ r a b = record { count = b .count ∙ a .count; long = b .long ∙ a .long; fine = b .fine }
 
 -- ---- one candidate
 module _ (is : List Item) (n : ℕ) (c : Candidate) (rest : List Candidate) (s t : State) where

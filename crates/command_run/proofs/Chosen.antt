@@ -20,7 +20,7 @@ use Rattle.form_layout.proofs.Sizes.{accepted-names}
 use Rattle.form_codes.specs.Codes.{CodedNames}
 use Rattle.run.specs.Runner.{ItemsBegin}
 use Rattle.command_layout.specs.Tables.{HasForms, FormOf}
-use Rattle.command_layout.proofs.Entries.{commands-count}
+use Rattle.rules.proofs.CommandForms.{commands-count}
 use Rattle.command_run.specs.Chosen.{FormBegins}
 
 module _ (is : List Item) (s : State) (g : Good (length is) s) (b : Begins is s) where

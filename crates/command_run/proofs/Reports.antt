@@ -35,7 +35,7 @@ use Rattle.run.proofs.Runs.{refused-line, fields-answer}
 use Rattle.run.proofs.States.{zero-at}
 use Rattle.run.proofs.Begun.{LineBegins, unrefused-good, unrefused-begins, line-splits, line-refused, state-is, line-begins, padded-long}
 use Rattle.command_layout.specs.Tables.{HasCommands, HasForms}
-use Rattle.command_layout.proofs.Entries.{commands-count}
+use Rattle.rules.proofs.CommandForms.{commands-count}
 use Rattle.command_names.specs.Trying.{TriesNames}
 use Rattle.rules.specs.declared.State.{State as Raw}
 use Rattle.split_args.specs.declared.Ended.{Ended as Split}

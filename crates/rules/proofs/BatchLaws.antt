@@ -18,9 +18,10 @@ use Rattle.rules.specs.Base.{concatMap}
 use Rattle.rules.specs.Outcome.{ok, _>>=_}
 use Rattle.rules.specs.Run.{Report, padded, run}
 use Rattle.rules.specs.Answered.{Demand1}
-use Rattle.rules.specs.Batch.{sheetCount, batchGood, batchSheets, partsFit, sheetsIn, runSheets, recordWords, BatchReport, batchReport, runBatch}
+use Rattle.rules.specs.Batch.{sheetCount, batchGood, batchSheets, partsFit, sheetsIn, runSheets, sheetRecord, BatchReport, batchReport, runBatch}
 use Rattle.rules.specs.BatchAnswered.{BatchMade, Roomy, slicePart, AsSingle, ZeroPast, BatchAnswered, Agree, Isolated}
 use Rattle.rules.proofs.SplitLaws.{some≢none, ok-injective}
+use Rattle.rules.proofs.ConcatLaws.{concat-map}
 use Rattle.rules.proofs.Formats.{all-length, made-table}
 use Rattle.rules.proofs.Acceptance.{and-true, both}
 use Rattle.rules.proofs.Demand1Holds.{demand1}
@@ -66,11 +67,6 @@ module _ (n nr ni na nl : ℕ) where
       rw (le-leb (4 * n) nr (r .records), le-leb (1792 * n) ni (r .items), le-leb (8240 * n) na (r .answers), le-leb (192 * n) nl (r .list))
 
 -- ---- parts of one length
-concat-map : {A B C : Type 0} (f : B → List C) (g : A → B) (xs : List A) → concatMap f (map g xs) ≡ concatMap (λ x. f (g x)) xs
-unfolding concatMap
-concat-map f g [] = refl
-concat-map {C = C} f g (x ∷ xs) = ap (λ (l : List C). f (g x) ++ l) (concat-map f g xs)
-
 module _ {A : Type 0} (f : A → List ℕ) (w : ℕ) (long : (x : A) → length (f x) ≡ w) where
   part-at : (xs : List A) (k : ℕ) (x : A) (l : List ℕ) → getElem? xs k ≡ some x → slicePart w k (concatMap f xs ++ l) ≡ f x
   unfolding concatMap
@@ -95,8 +91,8 @@ module _ (form : List ℕ) where
   abbrev single : List ℕ → Report
   single s = answered s .report
 
-  four : (s : List ℕ) → length (recordWords (single s)) ≡ 4
-  unfolding recordWords
+  four : (s : List ℕ) → length (sheetRecord (single s)) ≡ 4
+  unfolding sheetRecord
   four s = refl
 
   all-run : (ss : List (List ℕ)) → runSheets form ss ≡ ok (map single ss)
@@ -126,7 +122,7 @@ module _ (form : List ℕ) where
     as-single k s e = record {
       report = single s;
       runs = answered s .answered;
-      words = slice-part recordWords 4 four nr ss k s e;
+      words = slice-part sheetRecord 4 four nr ss k s e;
       items = slice-part (λ r. r .items) 1792 (λ s. answered s .items) ni ss k s e;
       answers = slice-part (λ r. r .answers) 8240 (λ s. answered s .answers) na ss k s e;
       list = slice-part (λ r. r .list) 192 (λ s. answered s .list) nl ss k s e;
@@ -135,7 +131,7 @@ module _ (form : List ℕ) where
     zero-past : ZeroPast (length ss) nr ni na nl reported
     unfolding batchReport
     zero-past = record {
-      records = slice-past recordWords 4 four nr ss;
+      records = slice-past sheetRecord 4 four nr ss;
       items = slice-past (λ r. r .items) 1792 (λ s. answered s .items) ni ss;
       answers = slice-past (λ r. r .answers) 8240 (λ s. answered s .answers) na ss;
       list = slice-past (λ r. r .list) 192 (λ s. answered s .list) nl ss;
@@ -197,7 +193,7 @@ agreed : (form s : List ℕ) (k : ℕ) (x y : BatchReport) → AsSingle form s k
 agreed form s k x y a c =
     let same : a .report ≡ c .report = ok-injective (sym (a .runs) ∙ c .runs) in
     record {
-      records = a .words ∙ ap recordWords same ∙ sym (c .words);
+      records = a .words ∙ ap sheetRecord same ∙ sym (c .words);
       items = a .items ∙ ap (λ (r : Report). r .items) same ∙ sym (c .items);
       answers = a .answers ∙ ap (λ (r : Report). r .answers) same ∙ sym (c .answers);
       list = a .list ∙ ap (λ (r : Report). r .list) same ∙ sym (c .list);

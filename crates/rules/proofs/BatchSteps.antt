@@ -1,5 +1,5 @@
 -- Steps of a batch: one sheet more is run, and its record and parts are written behind those before it.
-use mathlib.Core.List.{List, [], _∷_, _++_, append-assoc, append-nil}
+use mathlib.Core.List.{List, [], _∷_, _++_, append-assoc}
 use mathlib.Core.Option.{some, Option·some-injective}
 use mathlib.Core.Path.{_≡_, sym, ap, _∙_}
 use Prim.Native.Nat.{ℕ, zero, suc, _+_, _*_, _<_}
@@ -9,7 +9,6 @@ use native.Mathlib.Omega.{arith}
 use lib.ListN.{length, take, drop, getElem?}
 use lib.Seq.{take-at, drop-append-add, drop-drop}
 use Rattle.wire.specs.Wire.{entryOf}
-use Rattle.rules.specs.Base.{concatMap}
 use Rattle.rules.specs.Outcome.{ok, _>>=_}
 use Rattle.rules.specs.Run.{Report, run}
 use Rattle.rules.specs.Batch.{sheetCount, batchSheets, runSheets}
@@ -70,11 +69,6 @@ pub sheets-more :
 sheets-more form ss k s rs r h e runs = rw (add-one k) (sheets-next form s r runs ss k rs h e)
 
 -- ---- the slices
-pub concat-more : {A B : Type 0} (f : A → List B) (xs : List A) (x : A) → concatMap f (xs ++ (x ∷ [])) ≡ concatMap f xs ++ f x
-unfolding concatMap
-concat-more f [] x = append-nil (f x)
-concat-more {B = B} f (y ∷ xs) x = ap (λ (l : List B). f y ++ l) (concat-more f xs x) ∙ sym (append-assoc (f y) (concatMap f xs) (f x))
-
 -- k parts of w words stand at the front of a slice that was o, and the next is written
 pub part-written :
     (w k : ℕ) (p o q : List ℕ)

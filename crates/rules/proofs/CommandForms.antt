@@ -31,6 +31,23 @@ behind-front (suc f) zero l = refl
 behind-front (suc f) (suc n) [] = refl
 behind-front (suc f) (suc n) (x ∷ l) = behind-front f n l
 
+-- ---- the entries and the commands of a table
+module _ (t : List ℕ) where
+  pub entry-there : (k : ℕ) → k < entryCount t → getElem? (tableEntries t) k ≡ some (entryOf 4 (entryCount t) t k)
+  unfolding tableEntries
+  entry-there k below = mapped-at (entryOf 4 (entryCount t) t) (entryCount t) k below
+
+  pub entries-count : length (tableEntries t) ≡ entryCount t
+  unfolding tableEntries
+  entries-count = length-map (numbers (entryCount t) 0) _ ∙ numbers-length (entryCount t) 0
+
+  module _ (cs : List Command) (reads : tableIn t ≡ ok cs) where
+    pub commands-count : length cs ≡ entryCount t
+    commands-count = ap length (sym (table-entries t cs reads .1)) ∙ length-map (tableEntries t) readCommand ∙ entries-count
+
+    pub command-there : (k : ℕ) → k < entryCount t → getElem? cs k ≡ some (readCommand (entryOf 4 (entryCount t) t k))
+    command-there k below = rw (← table-entries t cs reads .1) (lookup-map readCommand (tableEntries t) k _ (entry-there k below))
+
 -- ---- a form
 module _ (t : List ℕ) (k : ℕ) where
   form-there : take (formPart t k .size) (drop (formPart t k .offset) t) ≡ readCommand (entryOf 4 (entryCount t) t k) .form
@@ -42,22 +59,13 @@ module _ (t : List ℕ) (k : ℕ) where
       let size = offset 4 t (k + 1) - at in
       rw (← drop-drop f (start + at) t, ← drop-drop at start t) (behind-front f size (drop at (drop start t)))
 
-  command-there : (cs : List Command) → tableIn t ≡ ok cs → k < length cs → getElem? cs k ≡ some (readCommand (entryOf 4 (entryCount t) t k))
-  unfolding tableEntries
-  command-there cs e below =
-      let n = entryCount t in
-      let same = table-entries t cs e .1 in
-      let count : length cs ≡ n =
-      ap length (sym same) ∙ length-map (tableEntries t) readCommand ∙ length-map (numbers n 0) _ ∙ numbers-length n 0 in
-      rw (← same) (lookup-map readCommand (tableEntries t) k _ (mapped-at (entryOf 4 n t) n k (omega arith)))
-
   -- any table, and any number
   pub command-form : FormAnswered t k (callCommandForm t k)
   unfolding callCommandForm _>>=_ if_then_else_
   command-form = go (table-answers t)
     where
       entry : (cs : List Command) → tableIn t ≡ ok cs → (b : Bool) → ltb k (length cs) ≡ b → FormAnswered t k (if b then ok (formPart t k) else refused (refuse 28 none))
-      entry cs e true h = part cs _ (formPart t k) e (command-there cs e (ltb-true k (length cs) h)) form-there
+      entry cs e true h = part cs _ (formPart t k) e (command-there t cs e k (omega (arith, ltb-true k (length cs) h, commands-count t cs e))) form-there
       entry cs e false h = noEntry cs e (ltb-false k (length cs) h)
 
       go : ((cs : List Command) × (tableIn t ≡ ok cs)) ⊎ (tableIn t ≡ refused (refuse 11 none)) → FormAnswered t k (callCommandForm t k)

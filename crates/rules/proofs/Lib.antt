@@ -6,6 +6,7 @@ pub mod Witnesses
 pub mod CodeLaws
 -- Lists
 pub mod ContainsLaws
+pub mod ConcatLaws
 -- What the proofs hand on
 pub mod Steps
 -- States and takes

@@ -36,8 +36,8 @@ runSheets form [] = ok []
 runSheets form (s ∷ ss) = run form s 1792 8240 192 >>= λ r. runSheets form ss >>= λ rs. ok (r ∷ rs)
 
 -- a record: number, place plus 1 or 0, tries, count of answer words
-unfoldable pub recordWords : Report → List ℕ
-recordWords r = r .number ∷ placeCode (r .place) ∷ r .tries ∷ length (r .words) ∷ []
+unfoldable pub sheetRecord : Report → List ℕ
+sheetRecord r = r .number ∷ placeCode (r .place) ∷ r .tries ∷ length (r .words) ∷ []
 
 -- ---- what is reported: 0 or 15, and what the four slices hold
 pub record BatchReport : Type 0 where
@@ -51,7 +51,7 @@ pub record BatchReport : Type 0 where
 unfoldable pub batchReport : (number nr ni na nl : ℕ) → List Report → BatchReport
 batchReport number nr ni na nl rs = record {
   number = number;
-  records = padded nr (concatMap recordWords rs);
+  records = padded nr (concatMap sheetRecord rs);
   items = padded ni (concatMap (λ (r : Report). r .items) rs);
   answers = padded na (concatMap (λ (r : Report). r .answers) rs);
   list = padded nl (concatMap (λ (r : Report). r .list) rs);

@@ -8,7 +8,7 @@ use lib.ListN.{length, take, drop, getElem?, replicate}
 use Rattle.wire.specs.Wire.{areaStart, offset}
 use Rattle.rules.specs.Outcome.{ok}
 use Rattle.rules.specs.Run.{Report, run}
-use Rattle.rules.specs.Batch.{sheetCount, batchSheets, recordWords, BatchReport, runBatch}
+use Rattle.rules.specs.Batch.{sheetCount, batchSheets, sheetRecord, BatchReport, runBatch}
 
 -- ---- which batches are run
 -- the count, offsets that begin with 0, never fall and end with the batch
@@ -35,7 +35,7 @@ slicePart w k l = take w (drop (w * k) l)
 pub record AsSingle (form s : List ℕ) (k : ℕ) (x : BatchReport) : Type 0 where
   pub report : Report
   pub runs : run form s 1792 8240 192 ≡ ok report
-  pub words : slicePart 4 k (x .records) ≡ recordWords report
+  pub words : slicePart 4 k (x .records) ≡ sheetRecord report
   pub items : slicePart 1792 k (x .items) ≡ report .items
   pub answers : slicePart 8240 k (x .answers) ≡ report .answers
   pub list : slicePart 192 k (x .list) ≡ report .list

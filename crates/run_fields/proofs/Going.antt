@@ -34,6 +34,7 @@ use Rattle.rules.proofs.Steps.{Runs, most}
 use Rattle.state_marks.specs.declared.Numbers.{Numbers}
 use Rattle.state_marks.specs.Lent.{stateOf, Fine}
 use Rattle.take_search.specs.States.{LeftState, Items}
+use Rattle.take_search.proofs.States.{left-same, left-more}
 use Rattle.eval_told.specs.declared.Ran.{Ran}
 use Rattle.eval_told.specs.Told.{Told, told, toldWith, Numbered}
 use Rattle.eval_told.specs.Nodes.{treeAt}
@@ -143,12 +144,6 @@ unfolding told
 denied-words r x e h q = sym (ap (λ (y : Told). y .words) (Option·some-injective _ x (rw (q, told) at h)))
 
 -- ---- what is left of a state
-left-same : (m : List ℕ) (p : Numbers) → Fine m p → LeftState m p m p
-left-same m p f = record { count = refl; long = refl; fine = f }
-
-left-more : (m : List ℕ) (p : Numbers) (m′ : List ℕ) (q : Numbers) (m″ : List ℕ) (r : Numbers) → LeftState m p m′ q → LeftState m′ q m″ r → LeftState m p m″ r
-left-more m p m′ q m″ r a b = record { count = b .count ∙ a .count; long = b .long ∙ a .long; fine = b .fine }
-
 -- words behind those that are written
 sets-after : (w o : List ℕ) (at k : ℕ) → at + length w ≤ k → getD (sets o at w) k 0 ≡ getD o k 0
 sets-after [] o at k h = refl

@@ -35,7 +35,8 @@ use Rattle.split_arg.proofs.Names.{null-false, null-true}
 use Rattle.split_group.specs.declared.Group.{Group}
 use Rattle.split_group.specs.Groups.{lettersIn, firstLetters, flagWords, stored, ArgumentFits, ClusterIn, ValueIn, Flags, Puts, told, Makes}
 use Rattle.split_group.proofs.Flags.{letters-in}
-use Rattle.split_group.proofs.Records.{concat-append, TextIs, text-from, name-from, short-record, long-record, arg-word-record, word-record, pos-word-record, flag-records}
+use Rattle.rules.proofs.ConcatLaws.{concat-append}
+use Rattle.split_group.proofs.Records.{TextIs, text-from, name-from, short-record, long-record, arg-word-record, word-record, pos-word-record, flag-records}
 use Rattle.split_group.proofs.Records.{flags-count}
 
 -- ---- a group whose items are known

@@ -18,11 +18,6 @@ use Rattle.split_arg.specs.Items.{nothing, partOf, recordOf}
 use Rattle.split_arg.specs.Clusters.{characters}
 use Rattle.split_group.specs.Groups.{lettersIn, firstLetters, flagWords, Flags}
 
-pub concat-append : {A B : Type 0} (f : A → List B) (a b : List A) → concatMap f (a ++ b) ≡ concatMap f a ++ concatMap f b
-unfolding concatMap
-concat-append f [] b = refl
-concat-append f (x ∷ a) b = rw (concat-append f a b) (sym (append-assoc (f x) (concatMap f a) (concatMap f b)))
-
 -- the words of a part, as the code has them
 abbrev pub PartIs : ℕ → ℕ → Part → Type 0
 PartIs o n p = (partOffset o n ≡ p .offset) × (n ≡ p .length)

@@ -5,6 +5,11 @@ ghost use lib.ListN.{length, replicate};
 ghost use lib.Seq.{sets};
 ghost use Rattle.wire.specs.Wire.{numberAt, Width, offset, areaStart, tableGood, entryOf, HasEntry};
 
+// The bytes of a table's count, and of an offset in a table whose area has no limit.
+pub const COUNT_BYTES: usize = 2;
+
+pub const WIDE_OFFSET: usize = 4;
+
 fn byte(x: u8) -> u32
     ensures { λ r. ⌜ r ≡ x ⌝ }
 {
