@@ -4,11 +4,13 @@ ghost use mathlib.Core.Path.{_≡_};
 ghost use mathlib.Core.Bool.{true};
 ghost use mathlib.Core.Option.{some};
 ghost use Prim.Native.Nat.{_+_, _≤_, _<_};
-ghost use lib.ListN.{length, replicate};
+ghost use lib.ListN.{length, replicate, getElem?};
 ghost use lib.Seq.{sets};
 ghost use Rattle.utf8.specs.Utf8.{if_then_else_};
+ghost use Rattle.rules.specs.Form.{readForm};
 ghost use Rattle.rules.specs.Sheet.{sheetArea};
 ghost use Rattle.rules.specs.Tree.{Tree, Optional, Count, Last, Choice, Guard};
+ghost use Rattle.form_layout.specs.Layout.{nodeOf};
 ghost use Rattle.eval_told.specs.Told.{Evaluates};
 ghost use Rattle.eval_told.specs.Nodes.{treeAt};
 ghost use Rattle.eval_shortcut.specs.Stands.{Scalar};
@@ -32,10 +34,12 @@ pub struct Repeat {
     pub at: usize,
 }
 
-// A repeat's child, and the node that a turn evaluates first: a leaf beneath the child, or the child itself.
+// A repeat's child, and the node that a turn evaluates first: a leaf beneath the child, or the child itself. It is read once, not at
+// every turn.
 struct Chain {
     child: usize,
     leaf: usize,
+    node: Node,
 }
 
 // A node whose value is no list.
@@ -306,17 +310,17 @@ fn leaf(
     items: &[u32],
     marks: &mut [u16; 256],
     p: Numbers,
-    leaf: usize,
+    over: Chain,
     from: usize,
     mark: u16,
 ) -> Ran
-    requires { ⌜ Turns (now form) (now known) (now sheet) (now items) (now marks) p mark leaf from ⌝ }
-    ensures { λ r. ⌜ ((t : Tree) → treeAt (now (form .entry)) leaf ≡ some t → Evaluates mark (sheetArea (now (sheet .entry))) (now (items .entry)) t (now (marks .entry)) p (now (marks .exit)) r) ⌝ }
+    requires { ⌜ Turns (now form) (now known) (now sheet) (now items) (now marks) p mark (over .leaf) from × (getElem? (readForm (now form) .nodes) (over .leaf) ≡ some (nodeOf (over .node))) ⌝ }
+    ensures { λ r. ⌜ ((t : Tree) → treeAt (now (form .entry)) (over .leaf) ≡ some t → Evaluates mark (sheetArea (now (sheet .entry))) (now (items .entry)) t (now (marks .entry)) p (now (marks .exit)) r) ⌝ }
 {
-    let x = form_layout::node_at(form, leaf);
+    let x = over.node;
     let kind = x.kind;
     match kind {
-        1 => eval_params::eval_flag_from(known, marks, p, from, leaf, x.r == 1, mark),
+        1 => eval_params::eval_flag_from(known, marks, p, from, over.leaf, x.r == 1, mark),
         2 => eval_params::eval_argument_from(
             known,
             sheet,
@@ -324,12 +328,12 @@ fn leaf(
             marks,
             p,
             from,
-            leaf,
+            over.leaf,
             2 <= x.r,
             mark,
         ),
         3 => eval_params::eval_positional_from(sheet, items, marks, p, from, x.p, x.r == 2, mark),
-        _ => run_node(form, known, sheet, items, marks, p, leaf, mark),
+        _ => run_node(form, known, sheet, items, marks, p, over.leaf, mark),
     }
 }
 
@@ -345,10 +349,10 @@ fn turn(
     from: usize,
     mark: u16,
 ) -> Ran
-    requires { ⌜ Turns (now form) (now known) (now sheet) (now items) (now marks) p mark (over .child) from × Searched (now form) (over .child) (over .leaf) ⌝ }
+    requires { ⌜ Turns (now form) (now known) (now sheet) (now items) (now marks) p mark (over .child) from × Searched (now form) (over .child) (over .leaf) × (getElem? (readForm (now form) .nodes) (over .leaf) ≡ some (nodeOf (over .node))) ⌝ }
     ensures { λ r. ⌜ ((t : Tree) → treeAt (now (form .entry)) (over .child) ≡ some t → Evaluates mark (sheetArea (now (sheet .entry))) (now (items .entry)) t (now (marks .entry)) p (now (marks .exit)) r) ⌝ }
 {
-    let ran = leaf(form, known, sheet, items, marks, p, over.leaf, from, mark);
+    let ran = leaf(form, known, sheet, items, marks, p, over, from, mark);
     eval_shortcut::wrap(form, over.child, over.leaf, ran, p)
 }
 
@@ -372,6 +376,7 @@ pub fn run_repeat(
     let over = Chain {
         child: how.child,
         leaf,
+        node: form_layout::node_at(form, leaf),
     };
     let keeps = eval_shortcut::keeps_marks(form, how.child, how.catch);
     let mut before = *marks;

@@ -210,6 +210,20 @@ module _ (b : List ℕ) (n leaf : ℕ) (p : Numbers) (ran : Ran) where
         optional-answers b known s words m p mark n z x h m′ ran (said-at b p ran s words m mark m′ e said) (q .0)
         (subst (Spares (eqb (x .r) 1) b) e (q .1)) o g
 
+-- ---- the leaf of a child
+module _ (b known s words m : List ℕ) (p : Numbers) (mark n : ℕ) (z : Scalar b known s words m p mark n) (leaf : ℕ) (w : Searched b n leaf) where
+  beneath-less : Beneath b n leaf → leaf < n
+  beneath-less g =
+      let x = g .own in
+      let e = g .place in
+      ⊎-elim
+      (λ k. let l = over-less b known s words m p mark n z x (g .read) k in omega arith)
+      (λ k. let l = optional-less b known s words m p mark n z x (g .read) (k .0) in omega arith)
+      (g .kind)
+
+  pub leaf-within : leaf ≤ n
+  leaf-within = ⊎-elim (λ e. omega arith) (λ g. let l = beneath-less g in omega arith) w
+
 -- ---- a turn
 module _ (b known s words m : List ℕ) (p : Numbers) (mark n from : ℕ) (z : Turns b known s words m p mark n from) (leaf : ℕ) (w : Searched b n leaf) where
   single-turns : (make : Tree → Tree)
@@ -238,18 +252,6 @@ module _ (b known s words m : List ℕ) (p : Numbers) (mark n from : ℕ) (z : T
 
   pub leaf-turns : Turns b known s words m p mark leaf from
   leaf-turns = ⊎-elim (λ e. subst (λ (i : ℕ). Turns b known s words m p mark i from) (sym e) z) beneath-turns w
-
-  beneath-less : Beneath b n leaf → leaf < n
-  beneath-less g =
-      let x = g .own in
-      let e = g .place in
-      ⊎-elim
-      (λ k. let l = over-less b known s words m p mark n (z .below) x (g .read) k in omega arith)
-      (λ k. let l = optional-less b known s words m p mark n (z .below) x (g .read) (k .0) in omega arith)
-      (g .kind)
-
-  pub leaf-within : leaf ≤ n
-  leaf-within = ⊎-elim (λ e. omega arith) (λ g. let l = beneath-less g in omega arith) w
 
   beneath-short : (m′ : List ℕ) (ran : Ran) → NodeSays b s words m p mark leaf m′ ran → Beneath b n leaf → ran .len < 1000
   beneath-short m′ ran said g =

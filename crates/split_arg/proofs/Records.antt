@@ -1,11 +1,12 @@
 -- Items and their records: each gives the other.
 use mathlib.Core.Path.{_≡_, refl, sym, _∙_, ap, ap₂}
 use mathlib.Core.Bool.{Bool, true, false}
-use mathlib.Core.List.{List}
-use Prim.Native.Nat.{ℕ, _+_, _*_, _<_}
+use mathlib.Core.List.{List, [], _∷_}
+use Prim.Native.Nat.{ℕ, suc, _+_, _*_, _≤_, _<_}
+use native.Mathlib.Omega.{arith}
 use lib.Dec.{eqb, leb, lit<}
-use lib.ListN.{length, getD, drop}
-use lib.Seq.{getD-take, getD-drop}
+use lib.ListN.{length, getD, drop, set, length-set}
+use lib.Seq.{getD-take, getD-drop, sets}
 use borrow.Author.Tests.{ne-eqb}
 use Rattle.utf8.specs.Utf8.{if_then_else_}
 use Rattle.rules.specs.Base.{all}
@@ -104,3 +105,54 @@ from-record area (Long n a t) = rw (bit-small a, bit-back a)
 from-record area (ArgWord t) = refl
 from-record area (Word t) = refl
 from-record area (PosWord t) = refl
+
+-- ---- a record, stored word by word
+pub in-room : (i n : ℕ) → i + 7 ≤ n → (j : ℕ) → j < 7 → (m : ℕ) → m ≡ n → i + j < m
+in-room i n h j l m e = omega arith
+
+-- after five words, and after six
+five-long :
+    (l : List ℕ) (i a b c d e : ℕ)
+    → length (set (set (set (set (set l i a) (i + 1) b) (i + 2) c) (i + 3) d) (i + 4) e) ≡ length l
+five-long l i a b c d e =
+    let l₁ = set l i a in
+    let l₂ = set l₁ (i + 1) b in
+    let l₃ = set l₂ (i + 2) c in
+    let l₄ = set l₃ (i + 3) d in
+    length-set l₄ (i + 4) e ∙ length-set l₃ (i + 3) d ∙ length-set l₂ (i + 2) c ∙ length-set l₁ (i + 1) b ∙ length-set l i a
+
+pub sixth-inside :
+    (l : List ℕ) (i a b c d e : ℕ)
+    → i + 7 ≤ length l
+    → i + 5 < length (set (set (set (set (set l i a) (i + 1) b) (i + 2) c) (i + 3) d) (i + 4) e)
+sixth-inside l i a b c d e h = omega (arith, five-long l i a b c d e)
+
+pub seventh-inside :
+    (l : List ℕ) (i a b c d e f : ℕ)
+    → i + 7 ≤ length l
+    → i + 6 < length (set (set (set (set (set (set l i a) (i + 1) b) (i + 2) c) (i + 3) d) (i + 4) e) (i + 5) f)
+seventh-inside l i a b c d e f h =
+    let l₅ = set (set (set (set (set l i a) (i + 1) b) (i + 2) c) (i + 3) d) (i + 4) e in
+    omega (arith, length-set l₅ (i + 5) f, five-long l i a b c d e)
+
+pub words-stored :
+    (l : List ℕ) (i : ℕ) (w : List ℕ)
+    → length w ≡ 7
+    → set (set (set (set (set (set (set l i (getD w 0 0)) (i + 1) (getD w 1 0)) (i + 2) (getD w 2 0)) (i + 3) (getD w 3 0)) (i + 4) (getD w 4 0)) (i + 5) (getD w 5 0)) (i + 6) (getD w 6 0)
+    ≡ sets l i w
+words-stored l i (a ∷ b ∷ c ∷ d ∷ e ∷ f ∷ g ∷ []) h =
+    let one : i + 1 ≡ suc i = omega arith in
+    let two : i + 2 ≡ suc (suc i) = omega arith in
+    let three : i + 3 ≡ suc (suc (suc i)) = omega arith in
+    let four : i + 4 ≡ suc (suc (suc (suc i))) = omega arith in
+    let five : i + 5 ≡ suc (suc (suc (suc (suc i)))) = omega arith in
+    let six : i + 6 ≡ suc (suc (suc (suc (suc (suc i))))) = omega arith in
+    rw (one, two, three, four, five, six)
+words-stored l i [] h = absurd (omega arith)
+words-stored l i (a ∷ []) h = absurd (omega arith)
+words-stored l i (a ∷ b ∷ []) h = absurd (omega arith)
+words-stored l i (a ∷ b ∷ c ∷ []) h = absurd (omega arith)
+words-stored l i (a ∷ b ∷ c ∷ d ∷ []) h = absurd (omega arith)
+words-stored l i (a ∷ b ∷ c ∷ d ∷ e ∷ []) h = absurd (omega arith)
+words-stored l i (a ∷ b ∷ c ∷ d ∷ e ∷ f ∷ []) h = absurd (omega arith)
+words-stored l i (a ∷ b ∷ c ∷ d ∷ e ∷ f ∷ g ∷ x ∷ w) h = absurd (omega arith)

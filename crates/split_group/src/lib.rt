@@ -47,7 +47,7 @@ fn write_flags(name: &[u8], count: usize, whole: Part, items: &mut [u32], at: us
         let Decoded::Char(letter, size) = split_arg::letter_at(name, place) else {
             return;
         };
-        split_arg::write_item(items, at + k, Item::Short(letter, false, text));
+        split_arg::store_item(items, at + k, Item::Short(letter, false, text));
         text = Part {
             offset: 0,
             length: 0,
@@ -69,7 +69,7 @@ fn put_one(items: &mut [u32], at: usize, item: Item) -> Group
     if at == ITEMS {
         return group;
     }
-    split_arg::write_item(items, at, item);
+    split_arg::store_item(items, at, item);
     group
 }
 

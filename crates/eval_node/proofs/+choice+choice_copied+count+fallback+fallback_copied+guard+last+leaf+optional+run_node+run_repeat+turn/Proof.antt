@@ -136,7 +136,6 @@ use Rattle.eval_node.proofs.+choice+choice_copied+count+fallback+fallba
   last-returns-3,
 }
 use Rattle.eval_node.proofs.+choice+choice_copied+count+fallback+fallback_copied+guard+last+leaf+optional+run_node+run_repeat+turn.Proof.Leaf.{
-  leaf-node-at-requires,
   leaf-eval-flag-from-requires,
   leaf-eval-argument-from-requires,
   leaf-eval-positional-from-requires,
@@ -180,6 +179,7 @@ use Rattle.eval_node.proofs.+choice+choice_copied+count+fallback+fallba
   run-repeat-Inv-loop,
   run-repeat-μ-loop,
   run-repeat-leaf-below-requires,
+  run-repeat-node-at-requires,
   run-repeat-keeps-marks-requires,
   run-repeat-wide-requires,
   run-repeat-nothing-requires,
@@ -302,7 +302,6 @@ pub +choice+choice-copied+count+fallback+fallback-copied+guard+last+leaf+optiona
     (λ t. leaf-lts.spec (leaf-calls t)
     (leaf-at t)
     leaf.Post
-    (leaf-node-at-requires t)
     (leaf-eval-flag-from-requires t)
     (leaf-eval-argument-from-requires t)
     (leaf-eval-positional-from-requires t)
@@ -349,6 +348,7 @@ pub +choice+choice-copied+count+fallback+fallback-copied+guard+last+leaf+optiona
     run-repeat-Inv-loop
     run-repeat-μ-loop
     (run-repeat-leaf-below-requires t)
+    (run-repeat-node-at-requires t)
     (run-repeat-keeps-marks-requires t)
     (run-repeat-wide-requires t)
     (run-repeat-nothing-requires t)

@@ -40,13 +40,13 @@ returns c =
     let pre = by-loop .before .before .before .pre in
     letter-there _ _ _ _ _ _ _ _ _ (loop .inv) (pre .0 .few) (loop-test .taken) (sym (letter-at .ensures) ∙ c .enum-told .given .1)
 
-add-write-item : tie.Need-add-write-item Inv-loop μ-loop
-add-write-item c =
+add-store-item : tie.Need-add-store-item Inv-loop μ-loop
+add-store-item c =
     let pre = c .before .before .before .before .before .before .before .before .before .pre in
     omega (arith, pre .1)
 
-write-item-requires : tie.Need-write-item-requires Inv-loop μ-loop
-write-item-requires c κs =
+store-item-requires : tie.Need-store-item-requires Inv-loop μ-loop
+store-item-requires c κs =
     let pre = c .before .before .before .before .before .before .before .before .before .pre in
     omega (arith, pre .1)
 
@@ -65,16 +65,16 @@ loop-less c = omega arith
 
 loop-again : tie.Need-loop-again Inv-loop μ-loop
 loop-again c =
-    let by-write-item = c .before .before in
-    let write-item = by-write-item .write-item in
-    let by-letter = by-write-item .before .before .before in
+    let by-store-item = c .before .before in
+    let store-item = by-store-item .store-item in
+    let by-letter = by-store-item .before .before .before in
     let letter = by-letter .letter in
     let by-letter-at = by-letter .before .before in
     let letter-at = by-letter-at .letter-at in
     let by-loop-test = by-letter-at .before in
     let loop-test = by-loop-test .loop-test in
     let loop = by-loop-test .before .loop in
-    wrote-more _ _ _ _ _ _ _ _ _ (loop .inv) _ _ _ (sym (letter-at .ensures) ∙ letter .given .1) (loop-test .taken) (write-item .ensures)
+    wrote-more _ _ _ _ _ _ _ _ _ (loop .inv) _ _ _ (sym (letter-at .ensures) ∙ letter .given .1) (loop-test .taken) (store-item .ensures)
 
 same-length-2 : tie.Need-same-length-2 Inv-loop μ-loop
 same-length-2 c = search needs
@@ -94,8 +94,8 @@ write-flags-spec =
     enum-told
     same-length
     returns
-    add-write-item
-    write-item-requires
+    add-store-item
+    store-item-requires
     add-place
     add-k
     loop-less

@@ -97,7 +97,7 @@ abbrev pub μ-last : Measures 5 last-kinds.ps ℕ
 μ-last κs a = a .1 .1 .1 .1 .1 .1 .0 * 5 + 5
 
 abbrev pub μ-leaf : Measures 5 leaf-kinds.ps ℕ
-μ-leaf κs a = a .1 .1 .1 .1 .1 .1 .0 * 5 + 2
+μ-leaf κs a = a .1 .1 .1 .1 .1 .1 .0 .leaf * 5 + 2
 
 abbrev pub μ-run-node : Measures 5 run-node-kinds.ps ℕ
 μ-run-node κs a = a .1 .1 .1 .1 .1 .1 .0 * 5 + 1
@@ -269,8 +269,6 @@ abbrev pub leaf-calls : ℕ → leaf-lts.Claims
 leaf-calls
     t
     = (
-      node-at-reads.Asked,
-      node-at-reads.Learnt,
       eval-flag-from-reads.Asked,
       eval-flag-from-reads.Learnt,
       eval-argument-from-reads.Asked,
@@ -327,6 +325,8 @@ run-repeat-calls
     = (
       leaf-below-reads.Asked,
       leaf-below-reads.Learnt,
+      node-at-reads.Asked,
+      node-at-reads.Learnt,
       keeps-marks-reads.Asked,
       keeps-marks-reads.Learnt,
       wide-reads.Asked,

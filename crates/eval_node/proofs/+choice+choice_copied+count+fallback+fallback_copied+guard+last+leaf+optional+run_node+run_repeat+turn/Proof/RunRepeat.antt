@@ -4,6 +4,8 @@ use native.Mathlib.Omega.{arith}
 use mathlib.Core.Bool.{true}
 use mathlib.Core.Path.{_≡_, refl, sym, _∙_}
 use Rattle.eval_shortcut.proofs.Absent.{has-tree}
+use Rattle.eval_shortcut.proofs.Given.{form-long, node-below}
+use Rattle.eval_shortcut.proofs.Wraps.{leaf-within}
 use Rattle.eval_node.proofs.Turns.{if-taken, Turning, turn-first, turn-asks, long-kept, long-wrote, long-wiped, space-kept, turn-fits, turn-ends, turn-stops, turn-refused, turn-less}
 use Rattle.eval_node.proofs.Turns.{turn-space, turn-adds, turn-idles, turn-next}
 use Prim.Native.Nat.{ℕ}
@@ -28,9 +30,16 @@ run-repeat-leaf-below-requires t c κs =
     let pre = c .before .before .before .before .before .pre in
     (pre .1 .below .stands .tree, pre .1 .below .stands .node)
 
+pub run-repeat-node-at-requires : (t : ℕ) → run-repeat-lts.Need-node-at-requires (run-repeat-calls t) (run-repeat-at t) run-repeat.Post run-repeat-Inv-loop run-repeat-μ-loop
+run-repeat-node-at-requires t c κs =
+    let pre = c .before .before .before .before .before .before .pre in
+    let z = pre .1 .below in
+    let within = leaf-within _ _ _ _ _ _ _ _ z _ (c .leaf-below .ensures .1) in
+    (form-long _ _ _ _ _ _ _ _ z, omega (arith, within, node-below _ _ _ _ _ _ _ _ z))
+
 pub run-repeat-keeps-marks-requires : (t : ℕ) → run-repeat-lts.Need-keeps-marks-requires (run-repeat-calls t) (run-repeat-at t) run-repeat.Post run-repeat-Inv-loop run-repeat-μ-loop
 run-repeat-keeps-marks-requires t c κs =
-    let pre = c .before .before .before .before .before .before .pre in
+    let pre = c .before .before .before .before .before .before .before .pre in
     has-tree _ _ _ _ _ _ _ _ (pre .1 .below)
 
 pub run-repeat-wide-requires : (t : ℕ) → run-repeat-lts.Need-wide-requires (run-repeat-calls t) (run-repeat-at t) run-repeat.Post run-repeat-Inv-loop run-repeat-μ-loop
@@ -43,17 +52,19 @@ pub run-repeat-loop-holds : (t : ℕ) → run-repeat-lts.Need-loop-holds (run-re
 run-repeat-loop-holds t c =
     let by-wide = c .before in
     let wide = by-wide .wide in
-    let pre = by-wide .before .before .before .before .before .before .before .before .before .pre in
+    let pre = by-wide .before .before .before .before .before .before .before .before .before .before .pre in
     (turn-first _ _ _ _ _ _ _ _ _ (pre .1) _ (wide .ensures) _ (c .nothing .ensures), λ e. refl)
 
 pub run-repeat-turn-requires : (t : ℕ) → run-repeat-lts.Need-turn-requires (run-repeat-calls t) (run-repeat-at t) run-repeat.Post run-repeat-Inv-loop run-repeat-μ-loop
 run-repeat-turn-requires t c κs =
     let by-loop = c .before in
     let loop = by-loop .loop in
-    let by-leaf-below = by-loop .before .before .before .before .before in
+    let by-node-at = by-loop .before .before .before .before .before in
+    let node-at = by-node-at .node-at in
+    let by-leaf-below = by-node-at .before in
     let leaf-below = by-leaf-below .leaf-below in
     let pre = by-leaf-below .before .before .before .before .before .before .pre in
-    (omega (arith, pre .0), (turn-asks _ _ _ _ _ _ _ _ _ _ _ _ _ _ _ (loop .inv .0), leaf-below .ensures .1))
+    (omega (arith, pre .0), (turn-asks _ _ _ _ _ _ _ _ _ _ _ _ _ _ _ (loop .inv .0), leaf-below .ensures .1, node-at .ensures))
 
 pub run-repeat-parse-option-requires : (t : ℕ) → run-repeat-lts.Need-parse-option-requires (run-repeat-calls t) (run-repeat-at t) run-repeat.Post run-repeat-Inv-loop run-repeat-μ-loop
 run-repeat-parse-option-requires t c κs = search needs

@@ -13,8 +13,8 @@ pub turn-leaf-requires : (t : ℕ) → turn-lts.Need-leaf-requires (turn-calls t
 turn-leaf-requires t c κs =
     let pre = c .before .before .before .before .before .pre in
     let h = pre .1 in
-    let l = leaf-within _ _ _ _ _ _ _ _ _ (h .0) _ (h .1) in
-    (omega (arith, pre .0), leaf-turns _ _ _ _ _ _ _ _ _ (h .0) _ (h .1))
+    let l = leaf-within _ _ _ _ _ _ _ _ (h .0 .below) _ (h .1) in
+    (omega (arith, pre .0), (leaf-turns _ _ _ _ _ _ _ _ _ (h .0) _ (h .1), h .2))
 
 pub turn-wrap-requires : (t : ℕ) → turn-lts.Need-wrap-requires (turn-calls t) (turn-at t) turn.Post
 turn-wrap-requires t c κs =
