@@ -51,7 +51,7 @@ use Rattle.rules.proofs.MissingLaws.{missing-told}
 use Rattle.rules.proofs.SplitLaws.{ok-injective, some≢none, split-line}
 
 -- ---- numbers
-or-right : (a b : Bool) → b ≡ true → (a || b) ≡ true
+pub or-right : (a b : Bool) → b ≡ true → (a || b) ≡ true
 or-right true b e = refl
 or-right false b e = e
 
@@ -319,7 +319,7 @@ once-later : (is : List Item) (i : ℕ) → eqb i 0 ≡ false → (l : List Item
 unfolding onlyOnce if_then_else_ at _>>=_
 once-later is i e l h a = rw (e, h) a
 
-once-answers : (is : List Item) (i : ℕ) → i < length is → Answers [] (onlyOnce is i)
+pub once-answers : (is : List Item) (i : ℕ) → i < length is → Answers [] (onlyOnce is i)
 unfolding onlyOnce
 once-answers is i h = go (eqb i 0) refl
   where

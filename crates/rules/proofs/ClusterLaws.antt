@@ -46,7 +46,7 @@ items-counted os (argumentLetter cs c rest) =
 items-counted os (withdrawn k) = refl
 items-counted os (ambiguous cs) = rw (length-append (flagItems os cs) (Word os ∷ []), flags-counted os cs)
 
-group-known : (l : Letters) (os name : List ℕ) → shortGroup l os name none ≡ (outcomeOf l name >>= λ c. ok (clusterGroup os c))
+pub group-known : (l : Letters) (os name : List ℕ) → shortGroup l os name none ≡ (outcomeOf l name >>= λ c. ok (clusterGroup os c))
 unfolding shortGroup outcomeOf _>>=_
 group-known l os name = go (clusterFrom 0 0 name)
   where
@@ -103,7 +103,7 @@ module _ (b k : ℕ) (s : List ℕ) (x y : Letter) (ys : List Letter) where
           let same : x ≡ record { character = c; place = k; rest = drop n (b ∷ s) } = cc in
           ap (λ (w : Letter). null (w .rest)) same ∙ rest-there n (b ∷ s) (leb-false (length (b ∷ s)) n g)
 
-  first-rest : clusterFrom 0 k (b ∷ s) ≡ ok (x ∷ y ∷ ys) → null (x .rest) ≡ false
+  pub first-rest : clusterFrom 0 k (b ∷ s) ≡ ok (x ∷ y ∷ ys) → null (x .rest) ≡ false
   unfolding clusterFrom sliceFrom
   first-rest e = go (decode (b ∷ s)) refl
     where

@@ -449,7 +449,7 @@ candidates-append k (c ∷ cs) ds =
     let e : suc k + length cs ≡ k + suc (length cs) = omega arith in
     rw (candidates-append (suc k) cs ds, e) (sym (append-assoc (candidatesOf k c) (candidatesFrom (suc k) cs) _))
 
-lookup-behind : {A : Type 0} (l m : List A) (i : ℕ) → getElem? (l ++ m) (length l + i) ≡ getElem? m i
+pub lookup-behind : {A : Type 0} (l m : List A) (i : ℕ) → getElem? (l ++ m) (length l + i) ≡ getElem? m i
 lookup-behind [] m i = rw (zero-add i)
 lookup-behind (a ∷ l) m i = rw (suc-add (length l) i) (lookup-behind l m i)
 

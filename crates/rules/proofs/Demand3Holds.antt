@@ -61,7 +61,7 @@ module _ (b s : List ℕ) (a : Accepted) (form : checkForm b ≡ accepted a) whe
         rw unrefused (all-means 0 (l .items) M means (a .fields) sound fallbacks (l .state) (line-good a s l splits unrefused .good))
 
     -- what is reported is this run's
-    run-reported : (ni na nl : ℕ) → sheetFault s ≡ 0 → 1792 ≤ ni → 8240 ≤ na → 192 ≤ nl → run b s ni na nl ≡ report ni na nl l (runLine (a .fields) l)
+    pub run-reported : (ni na nl : ℕ) → sheetFault s ≡ 0 → 1792 ≤ ni → 8240 ≤ na → 192 ≤ nl → run b s ni na nl ≡ report ni na nl l (runLine (a .fields) l)
     unfolding _>>=_
     run-reported ni na nl sheet i o k = run-goes b s ni a form sheet i na nl o k ∙ rw splits
 

@@ -51,7 +51,7 @@ fewer-made : (f : Form) (n m : ℕ) → m ≤ n → NodesMade f n → NodesMade 
 fewer-made f n m h w = record { kind = w .kind; repeats = w .repeats; each = λ k x l e. w .each k x (omega arith) e }
 
 -- of two numbers that neither is below the other
-same-number : (n m : ℕ) → (n < m → ⊥) → (m < n → ⊥) → n ≡ m
+pub same-number : (n m : ℕ) → (n < m → ⊥) → (m < n → ⊥) → n ≡ m
 same-number n m h k = omega arith
 
 nodes-refused :

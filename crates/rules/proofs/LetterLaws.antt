@@ -65,7 +65,7 @@ module _ (l m : Letters) where
     parts-same os short n body = short-same os n body
     parts-same os long n body = refl
 
-    argument-same : (os : List ℕ) → splitArgument l os ≡ splitArgument m os
+    pub argument-same : (os : List ℕ) → splitArgument l os ≡ splitArgument m os
     unfolding splitArgument _>>=_
     argument-same os = go (splitOsArgument os) refl
       where

@@ -66,3 +66,10 @@ pub mod CommandLinesHold
 -- Batches
 pub mod BatchSteps
 pub mod BatchLaws
+-- Reasons
+pub mod OnceLaws
+pub mod ArgumentNames
+pub mod WithdrawLaws
+pub mod Withdraws
+pub mod WhyLaws
+pub mod WhyHolds

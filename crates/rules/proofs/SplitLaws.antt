@@ -9,7 +9,7 @@ use native.Mathlib.Nat.{zero-add, add-zero, add-assoc, le-refl}
 use native.Mathlib.Omega.{arith}
 use lib.Dec.{eqb, ltb}
 use lib.ListN.{length, drop, length-append}
-use borrow.Author.Tests.{eqb-true, le-leb, lt-ltb, ltb-false}
+use borrow.Author.Tests.{eq-eqb, eqb-true, le-leb, lt-ltb, ltb-false}
 use Rattle.utf8.specs.Utf8.{if_then_else_, decode, decodeAt, wellFormed, wellFormedAfter}
 use Rattle.utf8.specs.Laws.{character}
 use Rattle.utf8.specs.declared.Decoded.{Decoded}
@@ -142,7 +142,7 @@ module _
     dash-cases [] = word
     dash-cases (b ∷ s) = if-elim P (eqb b dash) (ok (splitLong s)) (splitShort b s) (λ e. long-cases s) (λ e. short-cases b s)
 
-    parts-cases : (os : List ℕ) → P (splitOsArgument os)
+    pub parts-cases : (os : List ℕ) → P (splitOsArgument os)
     unfolding splitOsArgument
     parts-cases [] = word
     parts-cases (b ∷ s) = if-elim P (eqb b dash) (behindDash s) (ok none) (λ e. dash-cases s) (λ e. word)
@@ -155,6 +155,11 @@ same-true (x ∷ a) [] e = absurd (false≢true e)
 same-true (x ∷ a) (y ∷ b) e =
     let p = and-eq-true-iff (eqb x y) (same a b) .0 e in
     ap₂ (λ (z : ℕ) (l : List ℕ). z ∷ l) (eqb-true x y (p .0)) (same-true a b (p .1))
+
+pub same-self : (l : List ℕ) → same l l ≡ true
+unfolding same
+same-self [] = refl
+same-self (b ∷ l) = and-eq-true-iff (eqb b b) (same l l) .1 (eq-eqb b b refl, same-self l)
 
 -- the text `--`
 abbrev pub dashes : List ℕ
@@ -514,7 +519,7 @@ all-left : (n r : ℕ) (m : Option ℕ) → m ≡ none → Remains n m r → r �
 all-left n r none z e = e
 all-left n r (some i) z e = absurd (some≢none z)
 
-ambiguity-none : (a : Option ℕ) → ambiguity a ≡ none → a ≡ none
+pub ambiguity-none : (a : Option ℕ) → ambiguity a ≡ none → a ≡ none
 unfolding ambiguity
 ambiguity-none none e = refl
 ambiguity-none (some i) e = absurd (some≢none e)

@@ -172,12 +172,12 @@ or-true : (a b : Bool) → (a || b) ≡ true → (a ≡ true) ⊎ (b ≡ true)
 or-true true b e = inl refl
 or-true false b e = inr e
 
-zero-or-two : (r : ℕ) → contains (0 ∷ 2 ∷ []) r ≡ true → (r ≡ 0) ⊎ (r ≡ 2)
+pub one-of-two : (a b r : ℕ) → contains (a ∷ b ∷ []) r ≡ true → (r ≡ a) ⊎ (r ≡ b)
 unfolding contains
-zero-or-two r e =
-    ⊎-elim (λ h. inl (sym (eqb-true 0 r h)))
-    (λ h. ⊎-elim (λ g. inr (sym (eqb-true 2 r g))) (λ g. absurd (false≢true g)) (or-true (eqb 2 r) false h))
-    (or-true (eqb 0 r) (eqb 2 r || false) e)
+one-of-two a b r e =
+    ⊎-elim (λ h. inl (sym (eqb-true a r h)))
+    (λ h. ⊎-elim (λ g. inr (sym (eqb-true b r g))) (λ g. absurd (false≢true g)) (or-true (eqb b r) false h))
+    (or-true (eqb a r) (eqb b r || false) e)
 
 positional-base :
     (r : ℕ) (k : Kind)
@@ -189,7 +189,7 @@ positional-base r k h e =
     ⊎-elim
     (λ z. inl (z, subst (λ (r : ℕ). k ≡ one (positionalBase r)) z e))
     (λ z. inr (z, subst (λ (r : ℕ). k ≡ one (positionalBase r)) z e))
-    (zero-or-two r h)
+    (one-of-two 0 2 r h)
 
 -- ---- the value of a fallback
 fallback-fits :

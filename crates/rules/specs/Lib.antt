@@ -14,6 +14,7 @@ pub mod Given
 pub mod Run
 pub mod Commands
 pub mod Batch
+pub mod Why
 pub mod Bench
 pub mod Codes
 pub mod Calls
@@ -27,6 +28,7 @@ pub mod Answered
 pub mod CallsAnswered
 pub mod CommandsAnswered
 pub mod BatchAnswered
+pub mod WhyAnswered
 pub mod CommandLines
 pub mod Portable
 pub mod Clusters
