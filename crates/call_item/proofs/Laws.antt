@@ -5,7 +5,6 @@ use mathlib.Core.List.{List, [], _∷_}
 use mathlib.Core.Option.{Option, some, none}
 use Prim.Native.Nat.{ℕ, suc, _+_, _-_, _*_, _≤_, _<_}
 use native.Mathlib.Omega.{arith}
-use lib.Dec.{eqb}
 use lib.ListN.{length, getD, take, drop, getElem?}
 use lib.Seq.{length-take-le, drop-cons, getD-take}
 use borrow.Author.Tests.{le-ltb, lt-ltb, le-leb, lt-leb, ne-eqb, not-true, not-false}
@@ -42,7 +41,8 @@ use Rattle.call_table.specs.declared.Input.{Input}
 use Rattle.call_table.proofs.Laws.{table-refused, table-given, state-refused, state-given, item-at}
 use Rattle.rules.proofs.GivenLaws.{no-field, field-there}
 use Rattle.call_answers.specs.Answers.{Coded, coded, codedOr0, answerWith, stateWith, answerOf, plainAnswer, stateAnswerOf, yesNo, conflictCode, operandCode, placeOrNone}
-use Rattle.call_item.specs.Calls.{HasPlace, Earlier, freeAt, gotOf, gotWords, Gets, nothingGot}
+use Rattle.take_once.specs.Once.{HasPlace, Earlier}
+use Rattle.call_item.specs.Calls.{freeAt, gotOf, gotWords, Gets, nothingGot}
 
 -- ---- a state that is handed back as it was
 

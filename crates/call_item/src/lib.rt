@@ -1,19 +1,13 @@
 // The entry points on items, a state and a place. None asks anything of its input: what is not well made is refused under its
 // number, a state that is not good, where there may be 16 fields, with 29, then a place or field that is not there with 28.
 ghost use mathlib.Core.Path.{_≡_};
-ghost use mathlib.Core.List.{List};
 ghost use mathlib.Core.Option.{some};
-ghost use Prim.Native.Nat.{ℕ, _+_, _*_, _≤_};
+ghost use Prim.Native.Nat.{_+_, _*_, _≤_};
 ghost use lib.ListN.{length};
-ghost use Rattle.rules.specs.Sheet.{sheetArea};
-ghost use Rattle.rules.specs.Split.{Item as RulesItem};
-ghost use Rattle.rules.specs.State.{matchShort, matchLong};
-ghost use Rattle.rules.specs.Calls.{itemFrom, callConflict, callTakePositional, callOnlyOnce};
+ghost use Rattle.rules.specs.Calls.{callConflict, callTakePositional, callOnlyOnce};
 ghost use Rattle.split_arg.specs.Items.{recordAt};
-ghost use Rattle.take_search.specs.Items.{partBytes, HasPart};
-ghost use Rattle.take_search.specs.Search.{HasItem};
 ghost use Rattle.call_answers.specs.Answers.{answerOf, stateAnswerOf, plainAnswer, conflictCode, operandCode, placeOrNone};
-ghost use Rattle.call_item.specs.Calls.{sameNamed, HasPlace, Earlier, freeAt, Gets, nothingGot};
+ghost use Rattle.call_item.specs.Calls.{freeAt, Gets, nothingGot};
 use call_answers::Answer;
 use call_answers::MISSING;
 use call_answers::NOT_THERE;
@@ -24,8 +18,6 @@ use call_answers::refused;
 use call_answers::unchanged;
 use call_answers::yes_no;
 use rules::State;
-use split_arg::Item;
-use split_arg::Part;
 use state_marks::MOST_FIELDS;
 use state_marks::field_mark;
 use state_marks::is_present;
@@ -83,61 +75,6 @@ pub fn take_positional_word(sheet: &[u8], items: &[u32], s: State, field: usize)
     )
 }
 
-// Whether record j is a Short with this character.
-fn is_short(items: &[u32], j: usize, letter: u32) -> bool
-    requires { ⌜ 7 * j + 7 ≤ length (now items) ⌝ }
-    ensures { λ r. ⌜ ((area : List ℕ) (y : RulesItem) → itemFrom area (recordAt (now (items .entry)) j) ≡ some y → r ≡ matchShort letter y) ⌝ }
-{
-    let item = split_arg::read_item(items, j);
-    let Item::Short(other, _, _) = item else {
-        return false;
-    };
-    other == letter
-}
-
-// Whether record j is a Long with this name.
-fn is_long(sheet: &[u8], items: &[u32], j: usize, name: Part) -> bool
-    requires { ⌜ HasItem (now sheet) (now items) j × HasPart (now sheet) name ⌝ }
-    ensures { λ r. ⌜ ((y : RulesItem) → itemFrom (sheetArea (now (sheet .entry))) (recordAt (now (items .entry)) j) ≡ some y → r ≡ matchLong (partBytes (sheetArea (now (sheet .entry))) name) y) ⌝ }
-{
-    let item = split_arg::read_item(items, j);
-    let Item::Long(other, _, _) = item else {
-        return false;
-    };
-    take_search::same_bytes(
-        take_search::part_bytes(sheet, other),
-        take_search::part_bytes(sheet, name),
-    )
-}
-
-// Whether items i and j have the same name.
-fn same_name(sheet: &[u8], items: &[u32], i: usize, j: usize) -> bool
-    requires { ⌜ HasItem (now sheet) (now items) i × HasItem (now sheet) (now items) j ⌝ }
-    ensures { λ r. ⌜ ((x y : RulesItem) → itemFrom (sheetArea (now (sheet .entry))) (recordAt (now (items .entry)) i) ≡ some x → itemFrom (sheetArea (now (sheet .entry))) (recordAt (now (items .entry)) j) ≡ some y → r ≡ sameNamed x y) ⌝ }
-{
-    let item = split_arg::read_item(items, i);
-    match item {
-        Item::Short(letter, _, _) => is_short(items, j, letter),
-        Item::Long(name, _, _) => is_long(sheet, items, j, name),
-        Item::ArgWord(_) | Item::Word(_) | Item::PosWord(_) => false,
-    }
-}
-
-// The nearest earlier place with the same name, plus 1, or 0 for none.
-fn earlier(sheet: &[u8], items: &[u32], place: usize) -> usize
-    requires { ⌜ HasPlace (now sheet) (now items) place ⌝ }
-    ensures { λ r. ⌜ Earlier (sheetArea (now (sheet .entry))) (now (items .entry)) place r ⌝ }
-{
-    let mut j = place;
-    while 0 < j {
-        if same_name(sheet, items, place, j - 1) {
-            return j;
-        }
-        j -= 1;
-    }
-    j
-}
-
 // The nearest earlier place with the same name as this one. A place that 32 bits do not hold is none.
 pub fn only_once(sheet: &[u8], items: &[u32], place: usize) -> Answer
     ensures { λ r. ⌜ plainAnswer placeOrNone (callOnlyOnce (now (sheet .entry)) (now (items .entry)) place) ≡ some r ⌝ }
@@ -152,7 +89,7 @@ pub fn only_once(sheet: &[u8], items: &[u32], place: usize) -> Answer
     if 0xffff_ffff < place {
         return refused(NOT_THERE, 0);
     }
-    let found = earlier(sheet, items, place);
+    let found = take_once::earlier(sheet, items, place);
     if found == 0 {
         return answered(0, 0, 0);
     }

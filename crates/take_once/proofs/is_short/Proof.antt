@@ -1,8 +1,8 @@
 -- By the kind of the item. Assumes nothing.
 use borrow.Author.Needs.{needs}
-use Rattle.call_item.proofs.Names.{short-is, short-not}
-use Rattle.call_item.proofs.is_short.Statement.{statement}
-use Rattle.call_item.proofs.is_short.Tie as tie
+use Rattle.take_once.proofs.Names.{short-is, short-not}
+use Rattle.take_once.proofs.is_short.Statement.{statement}
+use Rattle.take_once.proofs.is_short.Tie as tie
 
 read-item-requires : tie.Need-read-item-requires
 read-item-requires c κs = search needs

@@ -1,9 +1,9 @@
 -- By the kind of the first item. Assumes nothing.
 use borrow.Author.Needs.{needs}
 use Rattle.take_search.proofs.Items.{long-part}
-use Rattle.call_item.proofs.Names.{named-short, named-long, named-not}
-use Rattle.call_item.proofs.same_name.Statement.{statement}
-use Rattle.call_item.proofs.same_name.Tie as tie
+use Rattle.take_once.proofs.Names.{named-short, named-long, named-not}
+use Rattle.take_once.proofs.same_name.Statement.{statement}
+use Rattle.take_once.proofs.same_name.Tie as tie
 
 read-item-requires : tie.Need-read-item-requires
 read-item-requires c κs = search needs

@@ -2,9 +2,9 @@
 use native.Mathlib.Omega.{arith}
 use borrow.Author.Needs.{needs}
 use Rattle.rules.specs.Sheet.{sheetArea}
-use Rattle.call_item.proofs.Names.{place-item, Looking, looking-first, looking-next, looking-hit, looking-last}
-use Rattle.call_item.proofs.earlier.Statement.{statement}
-use Rattle.call_item.proofs.earlier.Tie as tie
+use Rattle.take_once.proofs.Names.{place-item, Looking, looking-first, looking-next, looking-hit, looking-last}
+use Rattle.take_once.proofs.earlier.Statement.{statement}
+use Rattle.take_once.proofs.earlier.Tie as tie
 
 abbrev Inv-loop : tie.InvT-loop
 Inv-loop sheet items place j₀ j = Looking (sheetArea sheet) items place j

@@ -1,9 +1,9 @@
 -- By the kind of the item. Assumes nothing.
 use borrow.Author.Needs.{needs}
 use Rattle.take_search.proofs.Items.{long-part}
-use Rattle.call_item.proofs.Names.{long-is, long-not}
-use Rattle.call_item.proofs.is_long.Statement.{statement}
-use Rattle.call_item.proofs.is_long.Tie as tie
+use Rattle.take_once.proofs.Names.{long-is, long-not}
+use Rattle.take_once.proofs.is_long.Statement.{statement}
+use Rattle.take_once.proofs.is_long.Tie as tie
 
 read-item-requires : tie.Need-read-item-requires
 read-item-requires c κs = search needs

@@ -1,25 +1,24 @@
 -- Items with the same name, and the search back for the nearest.
 use mathlib.Core.Path.{_≡_, refl, sym, ap, _∙_}
 use mathlib.Core.Bool.{Bool, true, false}
-use mathlib.Core.List.{List, [], _∷_, _++_, reverse, reverse-append}
+use mathlib.Core.List.{List, [], _∷_, reverse}
 use mathlib.Core.Logic.{⊎-elim}
-use mathlib.Core.Option.{some, none}
-use Prim.Native.Nat.{ℕ, zero, suc, _+_, _-_, _≤_, _<_}
-use native.Mathlib.Nat.{sub-zero}
+use mathlib.Core.Option.{some}
+use Prim.Native.Nat.{ℕ, suc, _-_, _≤_, _<_}
 use native.Mathlib.Omega.{arith}
 use lib.Dec.{eqb}
 use lib.ListN.{length, take, getElem?}
-use borrow.Author.Tests.{eqb-true, le-leb}
+use borrow.Author.Tests.{le-leb}
 use types.Run.{OneOf}
 use denote.Enum.Declared.{tagOf}
 use Rattle.utf8.specs.Utf8.{if_then_else_}
-use Rattle.rules.specs.Base.{same, minus, slice, _>>?_}
+use Rattle.rules.specs.Base.{same, minus, _>>?_}
 use Rattle.rules.specs.Outcome.{at, _>>=_}
 use Rattle.rules.specs.Split as rules
-use Rattle.rules.specs.State.{matchShort, matchLong, position, sameName, before, onlyOnce}
+use Rattle.rules.specs.State.{matchShort, matchLong, position, before}
 use Rattle.rules.specs.Calls.{itemFrom}
 use Rattle.rules.specs.Codes.{placeOf}
-use Rattle.rules.proofs.Acceptance.{bind-is, lookup-some}
+use Rattle.rules.proofs.Acceptance.{lookup-some}
 use Rattle.rules.proofs.CodeLaws.{place-some}
 use Rattle.split_arg.specs.declared.Part.{Part}
 use Rattle.split_arg.specs.declared.Item.{Item}
@@ -29,7 +28,9 @@ use Rattle.split_arg.specs.Items.{recordAt, itemOf}
 use Rattle.take_search.specs.Items.{Table, partBytes}
 use Rattle.take_search.specs.Search.{HasItem}
 use Rattle.take_search.proofs.Items.{is-short, is-long, is-arg-word, is-word, is-pos-word}
-use Rattle.call_item.specs.Calls.{sameNamed, HasPlace, Earlier}
+use Rattle.rules.specs.WhyAnswered.{sameNamed}
+use Rattle.rules.proofs.OnceLaws.{back-more, once-searches}
+use Rattle.take_once.specs.Once.{HasPlace, Earlier}
 
 -- ---- two items
 
@@ -97,48 +98,6 @@ place-item s words i j g h =
     let x = lookup-some (g .items) j (omega (arith, g .below)) in
     record { made = g .made; room = omega (arith, g .table .room, g .below); item = x .0; here = g .table .at j (x .0) (x .1) }
 
-take-more : (l : List rules.Item) (j : ℕ) (a : rules.Item) → getElem? l j ≡ some a → take (suc j) l ≡ take j l ++ (a ∷ [])
-take-more [] j a e = absurd (let z : _≡_ {A = ℕ} 0 1 = cc in omega arith)
-take-more (b ∷ l) zero a e = let z : b ≡ a = cc in rw z
-take-more (b ∷ l) (suc j) a e = rw (take-more l j a e)
-
-back-more : (l : List rules.Item) (j : ℕ) (a : rules.Item) → getElem? l j ≡ some a → reverse (take (suc j) l) ≡ a ∷ reverse (take j l)
-back-more l j a e = ap reverse (take-more l j a e) ∙ reverse-append (take j l) (a ∷ [])
-
-nowhere : (k : ℕ) (l : List rules.Item) → position (λ _. false) k l ≡ none
-unfolding position if_then_else_
-nowhere k [] = refl
-nowhere k (a ∷ l) = nowhere (suc k) l
-
-name-position : (x : rules.Item) (l : List rules.Item) → sameName x l ≡ position (sameNamed x) 0 l
-unfolding sameName sameNamed
-name-position (rules.Short c a t) l = refl
-name-position (rules.Long n a t) l = refl
-name-position (rules.ArgWord t) l = sym (nowhere 0 l)
-name-position (rules.Word t) l = sym (nowhere 0 l)
-name-position (rules.PosWord t) l = sym (nowhere 0 l)
-
-sliced : (is : List rules.Item) (i : ℕ) → i < length is → slice 0 i is ≡ some (take i is)
-unfolding slice if_then_else_
-sliced is i h = rw (le-leb 0 i (omega arith), le-leb i (length is) (omega arith), sub-zero i)
-
-once-later : (is : List rules.Item) (i : ℕ) → i < length is → eqb i 0 ≡ false
-    → onlyOnce is i ≡ before i (getElem? is i >>? λ y. sameName y (reverse (take i is)))
-unfolding onlyOnce at _>>=_ if_then_else_
-once-later is i h e = rw (e, sliced is i h)
-
--- `only_once` is a search among the earlier items, from the last on
-once-position : (is : List rules.Item) (i : ℕ) (x : rules.Item) → i < length is → getElem? is i ≡ some x
-    → onlyOnce is i ≡ before i (position (sameNamed x) 0 (reverse (take i is)))
-unfolding onlyOnce before position if_then_else_
-once-position is i x h e = go (eqb i 0) refl
-  where
-    go : (b : Bool) → eqb i 0 ≡ b → onlyOnce is i ≡ before i (position (sameNamed x) 0 (reverse (take i is)))
-    go true z = let w : i ≡ 0 = eqb-true i 0 z in rw w
-    go false z =
-        once-later is i h z
-        ∙ ap (before i) (bind-is (getElem? is i) (λ y. sameName y (reverse (take i is))) e ∙ name-position x (reverse (take i is)))
-
 pub record Looking (area words : List ℕ) (i j : ℕ) : Type 0 where
   pub within : j ≤ i
   pub same : (is : List rules.Item) → Table area words is → i < length is → (x : rules.Item) → getElem? is i ≡ some x
@@ -184,7 +143,7 @@ module _ (area words : List ℕ) (i j : ℕ) (z : Looking area words i j) where
           let w = z .within in
           let found : position (sameNamed (x .0)) 0 (reverse (take i is)) ≡ some (i - j) = sym (rw n at (step is t l (x .0) (x .1))) in
           let k : i - (i - j) ≡ j = omega arith in
-          once-position is i (x .0) l (x .1)
+          once-searches is i (x .0) (x .1)
           ∙ rw (found, le-leb (i - j) i (omega arith), k, le-leb 1 j h, place-some j (λ e. omega arith));
     }
 
@@ -195,5 +154,5 @@ module _ (area words : List ℕ) (i j : ℕ) (z : Looking area words i j) where
     same = λ is t l.
         let x = lookup-some is i l in
         let e : j ≡ 0 = omega arith in
-        once-position is i (x .0) l (x .1) ∙ ap (before i) (sym (z .same is t l (x .0) (x .1))) ∙ rw e;
+        once-searches is i (x .0) (x .1) ∙ ap (before i) (sym (z .same is t l (x .0) (x .1))) ∙ rw e;
   }
