@@ -45,6 +45,11 @@ static const uint8_t REQUIRED[] = {
   U16(2), U16(2), U16(2), U16(2), U16(0), U16(1), NODE(SILVERPOISE_NODE_FLAG, 0, 1, SILVERPOISE_FLAG_SWITCH, 0, 0),
   NODE(SILVERPOISE_NODE_FLAG, 1, 1, SILVERPOISE_FLAG_REQUIRED, 0, 0),
   NAME(SILVERPOISE_NAME_SHORT, 0, 1), NAME(SILVERPOISE_NAME_SHORT, 1, 1), 'v', 'x'};
+// switch v and a text positional: nodes 0 and 1
+static const uint8_t WITH_WORD[] = {
+  U16(2), U16(2), U16(1), U16(1), U16(0), U16(1), NODE(SILVERPOISE_NODE_FLAG, 0, 1, SILVERPOISE_FLAG_SWITCH, 0, 0),
+  NODE(SILVERPOISE_NODE_POSITIONAL, SILVERPOISE_POSITIONAL_UNRESTRICTED, 0, SILVERPOISE_VALUE_TEXT, 0, 0),
+  NAME(SILVERPOISE_NAME_SHORT, 0, 1), 'v'};
 // choice of text argument x and text argument y: nodes 0 and 1, and the choice 2
 static const uint8_t CHOICE[] = {
   U16(3), U16(1), U16(2), U16(2), U16(2), NODE(SILVERPOISE_NODE_ARGUMENT, 0, 1, SILVERPOISE_VALUE_TEXT, 0, 0),
@@ -496,6 +501,72 @@ static void batches_refused(void) {
   }
 }
 
+static bool gives(SilverpoiseWhyAnswer w, uint32_t reason, uint32_t detail) {
+  return w.number == 0 && w.place == 0 && w.reason == reason && w.detail == detail;
+}
+
+static bool gives_none(SilverpoiseWhyAnswer w, uint32_t number, uint32_t place) {
+  return w.number == number && w.place == place && w.reason == 0 && w.detail == 0;
+}
+
+// Asks why a place was left over, and sees that each slice holds what a run leaves there.
+static SilverpoiseWhyAnswer why(const uint8_t *form, size_t form_count, const uint8_t *sheet, size_t sheet_count,
+                                size_t place) {
+  BatchSlices s = lend_slices(1, 0);
+  SilverpoiseWhyAnswer w = silverpoise_why(form, form_count, sheet, sheet_count, place, s.words[1], s.counts[1], s.words[2],
+                                           s.counts[2], s.words[3], s.counts[3]);
+  silverpoise_run(form, form_count, sheet, sheet_count, ITEMS, ANSWERS, LIST);
+  CHECK(holds(ITEMS, s.words[1], s.counts[1], 0) && holds(ANSWERS, s.words[2], s.counts[2], 0));
+  CHECK(holds(LIST, s.words[3], s.counts[3], 0));
+  free_slices(s);
+  return w;
+}
+
+// Every reason of docs/FORMAT.md, 14.2.
+static void reasons(void) {
+  // `-v` `-v=7` `-x` `-x` `a` `--` `-v`: places 0 to 7, of which 1 and 2 are from one argument
+  static const uint8_t left[] = {U16(7), U16(0), U16(2), U16(6), U16(8), U16(10), U16(11), U16(13), U16(15), '-', 'v', '-',
+                                 'v', '=', '7', '-', 'x', '-', 'x', 'a', '-', '-', '-', 'v'};
+  static const uint8_t value[] = {U16(1), U16(0), U16(5), '-', 'v', 'w', '=', '7'};
+  static const uint8_t both[] = {U16(4), U16(0), U16(2), U16(3), U16(5), U16(6), '-', 'x', '1', '-', 'y', '2'};
+  static const uint8_t cluster[] = {U16(2), U16(0), U16(1), U16(6), 'a', '-', 'v', 0xc3, 0xa9, 'x'}; // `a` `-véx`
+  CHECK(gives(why(CHOICE, sizeof CHOICE, both, sizeof both, 2), SILVERPOISE_REASON_LOST_CHOICE, 1));
+  CHECK(gives(why(FORM, left, sizeof left, 1), SILVERPOISE_REASON_GIVEN_EARLIER, 1));
+  CHECK(gives(why(FORM, left, sizeof left, 2), SILVERPOISE_REASON_NONE_OF_THESE, 0)); // an ArgWord whose key is not used
+  CHECK(gives(why(FORM, left, sizeof left, 3), SILVERPOISE_REASON_UNNAMED, 0));
+  CHECK(gives(why(FORM, left, sizeof left, 4), SILVERPOISE_REASON_GIVEN_EARLIER, 4));
+  CHECK(gives(why(FORM, left, sizeof left, 5), SILVERPOISE_REASON_NO_POSITIONAL, 0));
+  CHECK(gives(why(FORM, left, sizeof left, 7), SILVERPOISE_REASON_NO_POSITIONAL, 0));
+  CHECK(gives(why(FORM, value, sizeof value, 1), SILVERPOISE_REASON_KEY_USED, 0));
+  CHECK(gives(why(WITH_WORD, sizeof WITH_WORD, cluster, sizeof cluster, 1), SILVERPOISE_REASON_UNKNOWN_LETTER, 0xe9));
+  CHECK(gives(why(WITH_WORD, sizeof WITH_WORD, THREE_WORDS, sizeof THREE_WORDS, 2), SILVERPOISE_REASON_NONE_OF_THESE, 0));
+
+  // used: by a field, and the opening `--`; and no such place, also with 64 bits
+  static const size_t not_left[] = {0, 6, 8, 3 + ((size_t)1 << 32)};
+  for (int i = 0; i < 4; i++) CHECK(gives_none(why(FORM, left, sizeof left, not_left[i]), 28, 0));
+}
+
+// Where the run does not end in 27 there is no reason; what it is refused with comes first, and with it its place.
+static void no_reasons(void) {
+  static const uint8_t no_value[] = {U16(1), U16(0), U16(3), '-', 'v', 'w'};
+  static const uint8_t ambiguous[] = {U16(1), U16(0), U16(3), '-', 'v', 'b'}, no_kind[] = {ARGUMENT_FORM(0)};
+  CHECK(gives_none(why(FORM, SHEET, 0), 28, 0)); // accepted
+  CHECK(gives_none(why(FORM, no_value, sizeof no_value, 1), 28, 0)); // 22, at a place that is present
+  CHECK(gives_none(why(REQUIRED, sizeof REQUIRED, THREE_WORDS, sizeof THREE_WORDS, 0), 28, 0)); // 20, with its list
+  CHECK(gives_none(why(FORM, ambiguous, sizeof ambiguous, 0), 9, 2));
+  CHECK(gives_none(why(no_kind, sizeof no_kind, NULL, 0, 0), 3, 1) && gives_none(why(NULL, 0, NULL, 0, 9), 1, 0));
+  CHECK(gives_none(why(FORM, NULL, 0, 9), 5, 0));
+  CHECK(gives_none(silverpoise_why(FORM, SHEET, 9, items, SILVERPOISE_ITEM_SLICE - 1, ANSWERS, NULL, 0), 7, 0));
+  CHECK(gives_none(silverpoise_why(FORM, SHEET, 9, ITEMS, answers, SILVERPOISE_ANSWER_SLICE - 1, LIST), 7, 0));
+
+  fill(ITEMS, 7);
+  fill(ANSWERS, 7);
+  fill(LIST, 7);
+  CHECK(gives_none(silverpoise_why(FORM, SHEET, 9, ITEMS, ANSWERS, list, SILVERPOISE_LIST_SLICE - 1), 14, 0));
+  CHECK(holds(ITEMS, NULL, 0, 0) && holds(ANSWERS, NULL, 0, 0));
+  CHECK(holds(list, SILVERPOISE_LIST_SLICE - 1, NULL, 0, 0) && list[SILVERPOISE_LIST_SLICE - 1] == 7);
+}
+
 static void states(void) {
   SilverpoiseState scoped = S;
   scoped.start = 1;
@@ -632,6 +703,8 @@ int main(void) {
   commands_refused();
   batches();
   batches_refused();
+  reasons();
+  no_reasons();
   running();
   evaluation();
   states();

@@ -1,5 +1,5 @@
 // Compares the constants of silverpoise.h with what the library answers: limits, refusals, and the numbers of nodes, names,
-// items, marks and kinds. Prints each check that fails, then the counts; exits with 1 if one failed.
+// items, marks, kinds and reasons. Prints each check that fails, then the counts; exits with 1 if one failed.
 #include <string.h>
 
 #include "check.h"
@@ -211,6 +211,35 @@ static void refusals_of_commands(void) {
   CHECK(r.number == SILVERPOISE_ACCEPTED && answers[0] == 1 && r.state.marks[0] == SILVERPOISE_MARK_COMMAND);
 }
 
+#define WHY(bytes, line, place) why(bytes, sizeof bytes, line, place)
+
+static SilverpoiseWhyAnswer why(const uint8_t *bytes, size_t length, const char *line, size_t place) {
+  size_t sheet_length = make_sheet(line);
+  return silverpoise_why(bytes, length, sheet, sheet_length, place, items, SILVERPOISE_ITEM_SLICE, answers,
+                         SILVERPOISE_ANSWER_SLICE, list, SILVERPOISE_LIST_SLICE);
+}
+
+static void reasons(void) {
+  static const uint8_t switched[] = FORM(1, FLAG_V(SILVERPOISE_FLAG_SWITCH));
+  static const uint8_t number[] = FORM(2, POSITIONAL(SILVERPOISE_POSITIONAL_UNRESTRICTED, SILVERPOISE_VALUE_NUMBER),
+                                       ABOVE(0, SILVERPOISE_NODE_OPTIONAL, SILVERPOISE_CATCH));
+  // the argument v, or a word
+  static const uint8_t choice[] = FORM(3, ARGUMENT_V(SILVERPOISE_VALUE_TEXT),
+                                       POSITIONAL(SILVERPOISE_POSITIONAL_UNRESTRICTED, SILVERPOISE_VALUE_TEXT),
+                                       NODE(SILVERPOISE_NODE_CHOICE, 0, 1, 0, 0, 0));
+  SilverpoiseWhyAnswer w = WHY(choice, "a -v b", 1);
+  CHECK(w.reason == SILVERPOISE_REASON_LOST_CHOICE && w.detail == 0 + 1);
+  w = WHY(switched, "-v a -v -v", 3);
+  CHECK(w.reason == SILVERPOISE_REASON_GIVEN_EARLIER && w.detail == 2 + 1);
+  CHECK(WHY(switched, "-v=7", 1).reason == SILVERPOISE_REASON_KEY_USED);
+  CHECK(WHY(switched, "--v", 0).reason == SILVERPOISE_REASON_UNNAMED);
+  CHECK(WHY(switched, "-xy", 0).reason == SILVERPOISE_REASON_NO_POSITIONAL);
+  w = WHY(number, "-xy", 0);
+  CHECK(w.reason == SILVERPOISE_REASON_UNKNOWN_LETTER && w.detail == 'x');
+  CHECK(WHY(number, "a", 0).reason == SILVERPOISE_REASON_NONE_OF_THESE);
+  CHECK(WHY(switched, "-v", 0).number == SILVERPOISE_REFUSED_NOT_THERE);
+}
+
 static void refusals_of_calls(void) {
   static const uint8_t flag[] = FORM(1, FLAG_V(SILVERPOISE_FLAG_REQUIRED));
   SilverpoiseState state = RUN(flag, "-v").state;
@@ -325,6 +354,7 @@ int main(void) {
   refusals_of_input();
   refusals_of_runs();
   refusals_of_commands();
+  reasons();
   refusals_of_calls();
   all_kinds();
   value_kinds();

@@ -109,9 +109,22 @@ static void print_argument(const struct line *line, uint32_t place, FILE *to) {
   print_text(line, place, to);
 }
 
+// Why nothing takes the item at a place, in words for this form. It gives rise to no other reason.
+static const char *reason_in_words(struct line *line, uint32_t place) {
+  SilverpoiseWhyAnswer why =
+      silverpoise_why(FORM, sizeof FORM, line->sheet, line->length, place, line->items, SILVERPOISE_ITEM_SLICE, line->answers,
+                      SILVERPOISE_ANSWER_SLICE, line->list, SILVERPOISE_LIST_SLICE);
+  switch (why.reason) {
+  case SILVERPOISE_REASON_GIVEN_EARLIER: return "an option is given twice";
+  case SILVERPOISE_REASON_KEY_USED: return "a cradle takes no value";
+  case SILVERPOISE_REASON_UNNAMED: return "there is no such option";
+  default: return "the limit is given by its other name already";
+  }
+}
+
 // What is wrong, in words for this form. It gives rise to no other refusal.
-static const char *in_words(uint32_t number) {
-  switch (number) {
+static const char *in_words(struct line *line, SilverpoiseRunAnswer answer) {
+  switch (answer.number) {
   case SILVERPOISE_REFUSED_SHEET: return "the arguments have more than 32768 bytes";
   case SILVERPOISE_REFUSED_ARGUMENTS: return "there are more than 256 arguments";
   case SILVERPOISE_REFUSED_ITEMS: return "there are more than 256 options and words";
@@ -119,19 +132,19 @@ static const char *in_words(uint32_t number) {
   case SILVERPOISE_REFUSED_NO_ARGUMENT: return "no value follows";
   case SILVERPOISE_REFUSED_PARSE_FAILED: return "not a number, or too large";
   case SILVERPOISE_REFUSED_GUARD_FAILED: return "the limit is not from 1 to 9999";
-  case SILVERPOISE_REFUSED_UNCONSUMED: return "nothing takes it, or it is given twice";
+  case SILVERPOISE_REFUSED_UNCONSUMED: return reason_in_words(line, answer.place - 1);
   default: return "the form is not well made";
   }
 }
 
-static int refuse(const struct line *line, SilverpoiseRunAnswer answer) {
+static int refuse(struct line *line, SilverpoiseRunAnswer answer) {
   fputs("wear: ", stderr);
   // the places of lower refusals are name records and nodes of the form
   if (answer.number >= SILVERPOISE_REFUSED_AMBIGUOUS && answer.place > 0) {
     print_argument(line, answer.place - 1, stderr);
     fputs(": ", stderr);
   }
-  fprintf(stderr, "%s (refusal %" PRIu32 ")\n", in_words(answer.number), answer.number);
+  fprintf(stderr, "%s (refusal %" PRIu32 ")\n", in_words(line, answer), answer.number);
   return 1;
 }
 

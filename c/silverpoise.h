@@ -2,7 +2,8 @@
 //
 // Link with target/staticlib/libexports.a (whole forms and lines: `rt staticlib exports` writes it), for commands with
 // target/staticlib/libexports_commands.a (`rt staticlib exports_commands`), for many lines in one call with
-// target/staticlib/libexports_batch.a (`rt staticlib exports_batch`) and for the single calls with
+// target/staticlib/libexports_batch.a (`rt staticlib exports_batch`), for why a place was left over with
+// target/staticlib/libexports_why.a (`rt staticlib exports_why`) and for the single calls with
 // target/staticlib/libexports_calls.a (`rt staticlib exports_calls`), on x86-64. docs/FORMAT.md has the formats, the
 // rules and the refusals; numbers in brackets here are its sections. c/example.c reads a whole line.
 //
@@ -88,7 +89,7 @@ enum SilverpoiseRefusal {
   SILVERPOISE_REFUSED_UNCONSUMED = 27,     // nothing takes an item; place: the first left over
 
   // because of a single call, that is, any call but silverpoise_split and those that run a line; tested in the order 30, 29, 28
-  SILVERPOISE_REFUSED_NOT_THERE = 28, // no such node, name record, place, scope, field or entry
+  SILVERPOISE_REFUSED_NOT_THERE = 28, // no such node, name record, place, scope, field or entry; silverpoise_why has it too
   SILVERPOISE_REFUSED_STATE = 29,     // a state does not hold together, or does not fit the items or the form
   SILVERPOISE_REFUSED_RECORD = 30,    // an item record is at fault
 
@@ -242,6 +243,23 @@ typedef struct {
   uint32_t number, place;
   uint32_t tries, words;
 } SilverpoiseBatchRecord;
+
+// Why a place was left over (14). The first of these that holds is given.
+enum {
+  SILVERPOISE_REASON_LOST_CHOICE = 1,    // a choice was decided against it; detail: the place that decided it, PLUS 1
+  SILVERPOISE_REASON_GIVEN_EARLIER = 2,  // its name was given earlier too; detail: the nearest such place, PLUS 1
+  SILVERPOISE_REASON_KEY_USED = 3,       // an ArgWord, and the place before it, its key, is used
+  SILVERPOISE_REASON_UNNAMED = 4,        // a Short or Long that no flag and no argument of the form names
+  SILVERPOISE_REASON_NO_POSITIONAL = 5,  // a Word or PosWord, and the form has no positional
+  SILVERPOISE_REASON_UNKNOWN_LETTER = 6, // a Word that is a cluster with an unknown letter; detail: the first such, a character
+  SILVERPOISE_REASON_NONE_OF_THESE = 7
+};
+
+// A reason, 1 to 7, and its detail, which is 0 where none is said. Refused, both are 0.
+typedef struct {
+  uint32_t number, place;
+  uint32_t reason, detail;
+} SilverpoiseWhyAnswer;
 
 // Why a table was refused. For 1 to 4 `entry` is the number PLUS 1 of the entry whose form is at fault, else 0.
 typedef struct {
@@ -403,6 +421,19 @@ SilverpoiseRefused silverpoise_run_batch(const uint8_t *form, size_t form_count,
                                          uint32_t *records, size_t record_count, uint32_t *items, size_t item_count,
                                          uint32_t *answers, size_t answer_count, uint32_t *list, size_t list_count);
 
+// ---- Why a place was left over (14) ----
+
+// Reads a line as silverpoise_run does, and where that ends in 27 gives one reason why `place`, itself and not plus 1, was left
+// over. It need not be the place of the 27: any place that is present will do. The reason is the first that holds of the form,
+// the sheet, the items and the marks that the run left.
+//
+// The slices are those of silverpoise_run, and hold what it leaves in them. Refused: as silverpoise_run with 1 to 9 and 14, and
+// their place; then 28, with no place: there is no such place, or it is used, or the run did not end in 27. So 28 may leave the
+// answers of an accepted line, or a list of what is missing.
+SilverpoiseWhyAnswer silverpoise_why(const uint8_t *form, size_t form_count, const uint8_t *sheet, size_t sheet_count,
+                                     size_t place, uint32_t *items, size_t item_count, uint32_t *answers, size_t answer_count,
+                                     uint32_t *list, size_t list_count);
+
 // ---- The field of a single call ----
 //
 // The calls below that use places are told the number of the field that does so, as `field`: they write the mark
@@ -529,6 +560,8 @@ SILVERPOISE_ASSERT(offsetof(SilverpoiseRunAnswer, state) == 16, "state of Silver
 SILVERPOISE_ASSERT(sizeof(SilverpoiseCommandAnswer) == 556, "SilverpoiseCommandAnswer");
 SILVERPOISE_ASSERT(offsetof(SilverpoiseCommandAnswer, state) == 24, "state of SilverpoiseCommandAnswer");
 SILVERPOISE_ASSERT(sizeof(SilverpoiseBatchRecord) == 16, "a record of a batch has four words");
+SILVERPOISE_ASSERT(sizeof(SilverpoiseWhyAnswer) == 16, "SilverpoiseWhyAnswer");
+SILVERPOISE_ASSERT(offsetof(SilverpoiseWhyAnswer, reason) == 8, "reason of SilverpoiseWhyAnswer");
 SILVERPOISE_ASSERT(sizeof(SilverpoiseTableRefused) == 12, "SilverpoiseTableRefused");
 SILVERPOISE_ASSERT(sizeof(SilverpoiseFormPart) == 24, "SilverpoiseFormPart");
 SILVERPOISE_ASSERT(offsetof(SilverpoiseFormPart, offset) == 8, "offset of SilverpoiseFormPart");

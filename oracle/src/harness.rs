@@ -640,12 +640,17 @@ pub fn refused_run(refused: Refusal) -> Run {
 
 /// An accepted form on a sheet.
 pub fn run(form: &Form, sheet: &Sheet, wanted: Wanted) -> Run {
+    run_held(form, sheet, wanted).0
+}
+
+/// The same, and the state that is left; after 8 that of no arguments.
+pub fn run_held(form: &Form, sheet: &Sheet, wanted: Wanted) -> (Run, Held) {
     let builder = Builder::new(form, wanted);
     let fields = builder.fields();
     let (flags, args) = letters(&fields);
     let (state, refused) = construct(&sheet.arguments, &flags, &args);
     if refused.is_some_and(|r| r.number == 8) {
-        return refused_run(Refusal::new(8));
+        return (refused_run(Refusal::new(8)), Held::after_split(construct(&[], &flags, &args).0));
     }
     let records = if wanted.items { records(sheet, &state, &flags, &args) } else { Vec::new() };
     let (mut held, watch) = (Held::after_split(state), &builder.watch);
@@ -659,7 +664,7 @@ pub fn run(form: &Form, sheet: &Sheet, wanted: Wanted) -> Run {
             probe_counts(form, unused_by_split(sheet, &held.state), watch);
         }
     }
-    reported(ran, records, &held, watch)
+    (reported(ran, records, &held, watch), held)
 }
 
 /// All that is shown of fields that were run.

@@ -7,3 +7,4 @@ pub mod notation;
 pub mod cases;
 pub mod forged;
 pub mod marks;
+pub mod reasons;

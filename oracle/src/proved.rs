@@ -78,6 +78,16 @@ pub struct RunAnswer {
     pub state: State,
 }
 
+/// `reason` is from 1 to 7, or 0 if the question is refused; `detail` is a place plus 1, a character, or 0.
+#[repr(C)]
+#[derive(Clone, Copy, Debug, PartialEq, Eq)]
+pub struct WhyAnswer {
+    pub number: u32,
+    pub place: u32,
+    pub reason: u32,
+    pub detail: u32,
+}
+
 /// `entry` is plus 1, or 0 for none, as a place is.
 #[repr(C)]
 #[derive(Clone, Copy, Debug, PartialEq, Eq)]
@@ -203,6 +213,23 @@ extern "C" {
         list: *mut u32,
         p: usize,
     ) -> Refused;
+}
+
+#[link(name = "exports_why", kind = "static", modifiers = "-bundle")]
+extern "C" {
+    fn silverpoise_why(
+        form: *const u8,
+        k: usize,
+        sheet: *const u8,
+        n: usize,
+        place: usize,
+        items: *mut u32,
+        m: usize,
+        answers: *mut u32,
+        l: usize,
+        list: *mut u32,
+        p: usize,
+    ) -> WhyAnswer;
 }
 
 #[link(name = "exports_calls", kind = "static", modifiers = "-bundle")]
@@ -389,6 +416,19 @@ pub fn run_batch(
     let (f, b) = ((form.as_ptr(), form.len()), (batch.as_ptr(), batch.len()));
     let [r, i, a, l] = [records, items, answers, list].map(|slice| (slice.as_mut_ptr(), slice.len()));
     unsafe { silverpoise_run_batch(f.0, f.1, b.0, b.1, r.0, r.1, i.0, i.1, a.0, a.1, l.0, l.1) }
+}
+
+pub fn why(
+    form: &[u8],
+    sheet: &[u8],
+    place: usize,
+    items: &mut [u32],
+    answers: &mut [u32],
+    list: &mut [u32],
+) -> WhyAnswer {
+    let (f, s) = ((form.as_ptr(), form.len()), (sheet.as_ptr(), sheet.len()));
+    let [i, a, l] = [items, answers, list].map(|slice| (slice.as_mut_ptr(), slice.len()));
+    unsafe { silverpoise_why(f.0, f.1, s.0, s.1, place, i.0, i.1, a.0, a.1, l.0, l.1) }
 }
 
 pub fn eval(lent: &Lent, answers: &mut [u32], list: &mut [u32], node: usize) -> RunAnswer {

@@ -4,8 +4,8 @@ mod prove;
 
 use std::{env, path::Path, path::PathBuf, process::Command};
 
-/// Lines of one form, lines of commands, and many lines in one call.
-const LIBRARIES: [&str; 3] = ["exports", "exports_commands", "exports_batch"];
+/// Lines of one form, lines of commands, many lines in one call, and why a place was left over.
+const LIBRARIES: [&str; 4] = ["exports", "exports_commands", "exports_batch", "exports_why"];
 
 fn main() {
     println!("cargo::rerun-if-env-changed=SILVERPOISE_LIB");

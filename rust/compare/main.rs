@@ -2,8 +2,9 @@
 //!
 //! Built by `rust/test` with the libraries of `oracle/build`: `line` (formats and cases) and `bpaf` (with the harness).
 //! Compared for every line: number, place, tries, items, marks, what is missing, values with their texts; that texts are parts
-//! of the caller's arguments; that each item's part of its argument is what it stands for; the same form built from nodes; and
-//! of every fourth line that it is the same where it is read at once with another.
+//! of the caller's arguments; that each item's part of its argument is what it stands for; the same form built from nodes; that
+//! exactly the items that a 27 left over have a reason; and of every fourth line that it is the same where it is read at once with
+//! another.
 
 use std::collections::BTreeMap;
 use std::ffi::{OsStr, OsString};
@@ -13,7 +14,7 @@ use std::process::ExitCode;
 use bpaf::doc::harness::{self, Wanted};
 use line::cases::{self, Case, Rng};
 use line::format::{self, Base, Kind};
-use silverpoise::{Item, ItemKind, Line, Mark, Missing, Names, Node, ReadError, Reader, Takes, UsedBy, Value};
+use silverpoise::{Item, ItemKind, Line, Mark, Missing, Names, Node, ReadError, Reader, Reason, Takes, UsedBy, Value};
 
 /// What is compared of one read.
 #[derive(Debug, PartialEq)]
@@ -81,6 +82,7 @@ impl Compared {
         self.missing(case, form, &theirs, read.as_ref().map_or_else(ReadError::missing, |_| &[]));
         if let Err(error) = &read {
             self.must(shown_well(error), case, || format!("shown {error}"));
+            self.reasons(reader, case, ours, &args, error);
         }
         if let Ok(line) = &read {
             let borrowed = line.values().iter().all(|value| borrowed(value, &args, ours.bytes()));
@@ -91,6 +93,22 @@ impl Compared {
         self.rebuilt(reader, case, form, &args, &expected);
         if self.lines % 4 == 0 {
             self.many(reader, case, ours, &args);
+        }
+    }
+
+    /// Why each item was left over, by its mark, and at the place of the error what the error says; no reason where it was not 27.
+    fn reasons(&mut self, reader: &mut Reader, case: &Case, form: &silverpoise::Form, args: &[OsString], error: &ReadError) {
+        let left_over = error.number() == 27;
+        self.must(error.reason().is_some() == left_over, case, || format!("reason {:?}", error.reason()));
+        for (place, item) in error.items().iter().enumerate() {
+            let reason = reader.why(form, args, place);
+            let told = match item.mark {
+                Mark::Conflict(winner) if left_over => reason == Some(Reason::LostTo(winner)),
+                Mark::Unused if left_over => reason.is_some_and(|reason| !matches!(reason, Reason::LostTo(_))),
+                _ => reason.is_none(),
+            };
+            let same = reason == error.reason() || error.place() != Some(place);
+            self.must(told && same, case, || format!("why {place}: {reason:?} of {item:?}"));
         }
     }
 

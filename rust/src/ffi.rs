@@ -66,6 +66,16 @@ pub struct CommandAnswer {
     pub state: State,
 }
 
+/// Why a place was left over; `detail` is a place, handed over plus 1, or a character. Refused, both are 0.
+#[repr(C)]
+#[derive(Clone, Copy, Debug, PartialEq, Eq)]
+pub struct WhyAnswer {
+    pub number: u32,
+    pub place: u32,
+    pub reason: u32,
+    pub detail: u32,
+}
+
 #[repr(C)]
 #[derive(Clone, Copy, Debug, PartialEq, Eq)]
 pub struct TableRefused {
@@ -127,6 +137,19 @@ extern "C" {
         list: *mut u32,
         list_count: usize,
     ) -> Refused;
+    fn silverpoise_why(
+        form: *const u8,
+        form_count: usize,
+        sheet: *const u8,
+        sheet_count: usize,
+        place: usize,
+        items: *mut u32,
+        item_count: usize,
+        answers: *mut u32,
+        answer_count: usize,
+        list: *mut u32,
+        list_count: usize,
+    ) -> WhyAnswer;
 }
 
 pub fn form_check(form: &[u8]) -> Refused {
@@ -210,6 +233,27 @@ pub fn run_batch(
             batch.len(),
             records.as_mut_ptr(),
             records.len(),
+            items.as_mut_ptr(),
+            items.len(),
+            answers.as_mut_ptr(),
+            answers.len(),
+            list.as_mut_ptr(),
+            list.len(),
+        )
+    }
+}
+
+/// Why a place was left over: a whole run, which checks all that it is given, and then one reason. The slices hold what `run`
+/// leaves in them.
+pub fn why(form: &[u8], sheet: &[u8], place: usize, items: &mut [u32], answers: &mut [u32], list: &mut [u32]) -> WhyAnswer {
+    // SAFETY: as said above
+    unsafe {
+        silverpoise_why(
+            form.as_ptr(),
+            form.len(),
+            sheet.as_ptr(),
+            sheet.len(),
+            place,
             items.as_mut_ptr(),
             items.len(),
             answers.as_mut_ptr(),
@@ -356,6 +400,60 @@ mod tests {
         assert_eq!((number, left.concat().iter().sum::<u32>(), &left[0][8..]), (0, 3, &[1, 0, 0, 0][..]));
         assert_eq!(all_0(ran_batch(FORM, &[0; 6], slices(1))), Some(0));
         assert_eq!(all_0(ran_batch(FORM, &[0; 6], slices(0))), Some(0));
+    }
+
+    #[test]
+    fn the_layout_of_a_reason() {
+        assert_eq!((size_of::<WhyAnswer>(), align_of::<WhyAnswer>()), (16, 4));
+        assert_eq!((offset_of!(WhyAnswer, number), offset_of!(WhyAnswer, place)), (0, 4));
+        assert_eq!((offset_of!(WhyAnswer, reason), offset_of!(WhyAnswer, detail)), (8, 12));
+    }
+
+    /// The switch v, and a word.
+    const WITH_WORD: &[u8] = b"\x02\0\x02\0\x01\0\x01\0\0\0\x01\0\x01\0\0\0\x01\0\x01\0\0\0\0\0\0\0\0\0\
+        \x03\0\0\0\0\0\0\0\0\0\0\0\0\0\0\0\0\0\0\0\x01\0v";
+
+    /// Why a place was left over: number, place, reason and detail. Each slice then has what a run leaves there.
+    fn asked(form: &[u8], sheet: &[u8], place: usize) -> (u32, u32, u32, u32) {
+        let ([_, mut items, mut answers, mut list], [_, mut i, mut a, mut l]) = (slices(1), slices(1));
+        let WhyAnswer { number, place, reason, detail } = why(form, sheet, place, &mut items, &mut answers, &mut list);
+        run(form, sheet, &mut i, &mut a, &mut l);
+        assert_eq!([items, answers, list], [i, a, l]);
+        (number, place, reason, detail)
+    }
+
+    /// `-v` `-x` `-x` `a`, of which the flag is taken; and a line for each reason that needs another form.
+    #[test]
+    fn known_reasons() {
+        let sheet = b"\x04\0\0\0\x02\0\x04\0\x06\0\x07\0-v-x-xa";
+        let at = |place: usize| asked(FORM, sheet, place);
+        assert_eq!((at(0), at(4), at(usize::MAX)), ((28, 0, 0, 0), (28, 0, 0, 0), (28, 0, 0, 0)));
+        assert_eq!((at(1), at(2), at(3)), ((0, 0, 4, 0), (0, 0, 2, 2), (0, 0, 5, 0)));
+        // a number of 64 bits
+        assert_eq!(at(1 + (1 << 32)), (28, 0, 0, 0));
+        let (key_used, letter, other) = (
+            asked(WITH_WORD, b"\x02\0\0\0\x04\0\x05\0-v=7a", 1),
+            asked(WITH_WORD, b"\x02\0\0\0\x01\0\x04\0a-vx", 1),
+            asked(WITH_WORD, b"\x02\0\0\0\x01\0\x02\0ab", 1),
+        );
+        assert_eq!((key_used, letter, other), ((0, 0, 3, 0), (0, 0, 6, 120), (0, 0, 7, 0)));
+    }
+
+    /// Refused as the run is, with 1 to 9 and 14; and with 28 where the run did not leave the place over.
+    #[test]
+    fn no_reason() {
+        assert_eq!((asked(&[], SHEET, 0), asked(FORM, &[], 0)), ((1, 0, 0, 0), (5, 0, 0, 0)));
+        let mut at_fault = FORM.to_vec();
+        at_fault[10] = 0;
+        assert_eq!(asked(&at_fault, &[], 0), (3, 1, 0, 0));
+        // accepted: the answer slice has the value
+        assert_eq!(asked(FORM, SHEET, 0), (28, 0, 0, 0));
+        let (mut items, mut answers, mut list) = ([9; ITEM_WORDS], [9; ANSWER_WORDS], [9; LIST_WORDS]);
+        assert_eq!(why(FORM, SHEET, 9, &mut items, &mut answers, &mut list).number, 28);
+        assert_eq!((answers[0], answers[1], items[7]), (2, 0, 1));
+        assert_eq!(why(FORM, SHEET, 0, &mut items, &mut answers[1..], &mut list).number, 7);
+        assert_eq!(why(FORM, SHEET, 0, &mut items, &mut answers, &mut list[1..]).number, 14);
+        assert_eq!(why(FORM, SHEET, 0, &mut [], &mut [], &mut []).number, 7);
     }
 
     /// What is missing: node plus 1, scope start, scope end, and zeros behind. Here the flag itself, on `-x` and `a`.

@@ -36,17 +36,17 @@
 //! - **Without types**: [`Form`] over [`Node`]s and [`CommandTable`] over forms, for options that are known only at run time;
 //!   their values are [`Value`]s.
 //! - **What was read**: [`TypedForm::read_line`] and [`ReadError`] have the items, which field used each of them ([`Mark`]), and
-//!   the tries; [`ReadError::missing`] what looked in vain.
+//!   the tries; [`ReadError::missing`] what looked in vain, [`ReadError::reason`] why an item was left over.
 //! - **Many lines**: a [`Reader`] keeps the buffers, and [`Reader::read_many`] reads many lines in one call.
 //!
 //! What each parser does, and the numbers of the refusals, are in the project's docs/FORMAT.md.
 //!
 //! # What is proved
 //!
-//! The form check, the splitting and the run are the proved code, and every read runs all of it: a form or a table is checked
-//! again each time, and a line is never run unchecked. Writing the arguments as a sheet, reading the answer words as values and
-//! all texts for people are this crate's, in safe Rust, and compared with the real bpaf by `rust/test`. The calls themselves are
-//! in one file, `src/ffi.rs`, the only one with `unsafe`.
+//! The form check, the splitting, the run and the reason for an item that is left over are the proved code, and every read runs
+//! all that it needs of it: a form or a table is checked again each time, and a line is never run unchecked. Writing the arguments
+//! as a sheet, reading the answer words as values and all texts for people are this crate's, in safe Rust, and compared with the
+//! real bpaf by `rust/test`. The calls themselves are in one file, `src/ffi.rs`, the only one with `unsafe`.
 #![deny(unsafe_code)]
 #![warn(missing_docs)]
 
@@ -83,6 +83,7 @@ mod sheet;
 
 mod batch;
 mod missing;
+mod reason;
 
 mod run;
 
@@ -114,6 +115,7 @@ pub use node::{Fallback, Node, Takes};
 pub use parser::{positional, Base, Element, Kind, Parser, Taken, Text};
 pub use read_error::ReadError;
 pub use reader::Reader;
+pub use reason::Reason;
 pub use table::CommandTable;
 pub use typed::{Fields, Kinds, TypedForm};
 pub use value::Value;

@@ -9,6 +9,7 @@ use crate::ffi;
 use crate::item::{starts, Area, Item};
 use crate::missing::Missing;
 use crate::read_words::{said, Said};
+use crate::reason::Reason;
 use crate::run::Run;
 use crate::shown::{underlined, ShownArgument};
 
@@ -28,6 +29,7 @@ struct Inner {
     command: Option<usize>,
     comparisons: u32,
     missing: Vec<Missing>,
+    reason: Option<Reason>,
     said: Vec<Said>,
     program: Option<OsString>,
     /// empty where the line was not split
@@ -49,6 +51,7 @@ impl ReadError {
             comparisons: run.comparisons(),
             said: said(run, &items, place, &missing),
             missing,
+            reason: run.reason,
             program: None,
             args: if split { run.args.iter().map(OsString::from).collect() } else { Vec::new() },
             records: run.records.to_vec(),
@@ -104,6 +107,26 @@ impl ReadError {
     /// ```
     pub fn missing(&self) -> &[Missing] {
         &self.0.missing
+    }
+
+    /// Why the item at [`place`](ReadError::place) was left over, where the refusal is 27 (docs/FORMAT.md, section 14). None for
+    /// every other refusal. None for a line of commands too: the proved call that tells it knows one form, and such a line is
+    /// split by the letters of all forms. What is said in words of such a line is read from its items.
+    ///
+    /// ```
+    /// use silverpoise::{short, Reason, TypedForm};
+    ///
+    /// let form = TypedForm::of((short('v').switch(),))?;
+    /// let error = form.read(&["-v", "-v"]).unwrap_err();
+    /// assert_eq!((error.number(), error.place(), error.reason()), (27, Some(1), Some(Reason::GivenEarlier(0))));
+    /// assert_eq!(error.to_string(), "\
+    /// `-v` is given twice: already at place 0
+    ///   -v -v
+    ///      ^^");
+    /// # Ok::<(), silverpoise::FormError>(())
+    /// ```
+    pub fn reason(&self) -> Option<Reason> {
+        self.0.reason
     }
 
     /// The items of the line, each with whether it was used, and by which field, up to the refusal. None where the line could

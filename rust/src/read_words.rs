@@ -7,6 +7,7 @@ use crate::item::{Item, ItemKind, Mark, UsedBy};
 use crate::missing::Missing;
 use crate::needs::{either, has_option, some_required};
 use crate::node::{kind, LONG, SHORT};
+use crate::reason::Reason;
 use crate::run::{Run, Tried};
 use crate::sheet::ARGUMENTS;
 use crate::shown::{quoted, shown_word};
@@ -57,7 +58,7 @@ fn sentence(run: &Run, items: &[Item], place: Option<usize>, missing: &[Missing]
         (25, Some(item)) => format!("{} is not a number from 0 to 4294967295", name(item)),
         (26, Some(_)) => "a number is out of its bounds; the word that was taken last is shown".to_string(),
         (26, None) => "a number is out of its bounds, and no word was taken".to_string(),
-        (27, Some(item)) => left_over(run, items, item),
+        (27, Some(item)) => left_over(items, item, run.reason.unwrap_or_else(|| reason_under(run, items, item))),
         (number, _) => format!("the line is refused with {number}"),
     }
 }
@@ -160,22 +161,39 @@ fn with_equals(key: &Item, value: &Item) -> Option<String> {
     Some(quoted(&[&option[..], b"=", value.text.as_bytes()].concat()))
 }
 
-fn left_over(run: &Run, items: &[Item], item: &Item) -> String {
+/// Why an item was left over, in a sentence.
+fn left_over(items: &[Item], item: &Item, reason: Reason) -> String {
     let shown = name(item);
-    let winner = match item.mark {
-        Mark::Conflict(place) => items.get(place),
-        _ => None,
-    };
-    if let Some(winner) = winner {
-        return format!("{shown} cannot be given together with {}", name(winner));
-    }
-    match item.kind {
-        _ if unknown(run, item) => not_known(item),
-        ItemKind::ArgWord => format!("{} is taken as a flag, and {shown} is given to it as a value", key_of(items, item)),
-        ItemKind::Word if item.text.len() > 1 && item.text.as_bytes()[0] == b'-' => {
+    match reason {
+        Reason::LostTo(winner) => {
+            let winner_name = items.get(winner).map_or(String::new(), name);
+            format!("{shown} lost to {winner_name} at place {winner}: they cannot be given together")
+        }
+        Reason::GivenEarlier(earlier) => format!("{shown} is given twice: already at place {earlier}"),
+        Reason::KeyUsed => {
+            let key_name = key(items, item).map_or(String::new(), name);
+            format!("{key_name} is taken as a flag, and {shown} is given to it as a value")
+        }
+        Reason::Unnamed => not_known(item),
+        Reason::NoPositional => format!("{shown} is read as an operand, and no operands are taken"),
+        Reason::UnknownLetter(letter) => {
+            format!("{shown} is read as a word: no option has the letter {}", quoted(letter.to_string().as_bytes()))
+        }
+        Reason::Other if item.kind == ItemKind::Word && item.text.len() > 1 && item.text.as_bytes()[0] == b'-' => {
             format!("{shown} is not expected here: it is read as a word, not as options")
         }
-        _ => format!("{shown} is not expected here"),
+        Reason::Other => format!("{shown} is not expected here"),
+    }
+}
+
+/// Why an item was left over under a command. The proved call that tells it knows one form, and the letters of all forms split
+/// such a line: so here only what the run left, and the names of the command's form, are looked at.
+fn reason_under(run: &Run, items: &[Item], item: &Item) -> Reason {
+    match (item.mark, item.kind) {
+        (Mark::Conflict(winner), _) => Reason::LostTo(winner),
+        (_, ItemKind::ArgWord) if key(items, item).is_some_and(|key| key.mark.field().is_some()) => Reason::KeyUsed,
+        _ if unknown(run, item) => Reason::Unnamed,
+        _ => Reason::Other,
     }
 }
 
@@ -196,6 +214,6 @@ fn unknown(run: &Run, item: &Item) -> bool {
 }
 
 /// The option that a value behind a `=` was given to: the first of its argument.
-fn key_of(items: &[Item], value: &Item) -> String {
-    items.iter().find(|item| item.argument == value.argument).map_or(String::new(), name)
+fn key<'i, 'a>(items: &'i [Item<'a>], value: &Item) -> Option<&'i Item<'a>> {
+    items.iter().find(|item| item.argument == value.argument)
 }

@@ -8,6 +8,7 @@ use crate::form::Form;
 use crate::item::{starts, Area};
 use crate::line::Line;
 use crate::read_error::ReadError;
+use crate::reason::Reason;
 use crate::run::{Run, Tried};
 use crate::sheet;
 use crate::table::CommandTable;
@@ -94,7 +95,22 @@ impl Reader {
         self.write_sheet(&args);
         let Slices { items, answers, list } = slices(&mut self.words);
         let answer = ffi::run(form.bytes(), &self.sheet, items, answers, list);
-        self.ran(args, Some(form), None, answer)
+        // to ask why is to run the line once more, so only a line that needs it is asked
+        let left_over = ffi::place(answer.place).filter(|_| answer.number == 27);
+        let reason = left_over.and_then(|place| self.reason(form, place));
+        self.ran(args, Some(form), None, answer, reason)
+    }
+
+    /// Why a place of the line in the sheet was left over. The slices then have what a run of the line leaves.
+    fn reason(&mut self, form: &Form, place: usize) -> Option<Reason> {
+        let Slices { items, answers, list } = slices(&mut self.words);
+        Reason::of(ffi::why(form.bytes(), &self.sheet, place, items, answers, list))
+    }
+
+    /// Why an item of a line was left over, as [`Form::why`] tells it.
+    pub fn why<A: AsRef<OsStr>>(&mut self, form: &Form, args: &[A], place: usize) -> Option<Reason> {
+        self.write_sheet(&references(args));
+        self.reason(form, place)
     }
 
     /// Runs the form of the command that a line begins with, to its values or its refusal.
@@ -110,7 +126,7 @@ impl Reader {
         let ffi::CommandAnswer { number, place, tries, words, comparisons, entry, state } = answer;
         let tried = Tried { table, command: ffi::place(entry), comparisons };
         let form = tried.command.and_then(|command| table.forms().get(command));
-        self.ran(args, form, Some(tried), ffi::RunAnswer { number, place, tries, words, state })
+        self.ran(args, form, Some(tried), ffi::RunAnswer { number, place, tries, words, state }, None)
     }
 
     /// What a run left in the buffers, as a run or as its refusal.
@@ -120,11 +136,12 @@ impl Reader {
         form: Option<&'a Form>,
         commands: Option<Tried<'a>>,
         answer: ffi::RunAnswer,
+        reason: Option<Reason>,
     ) -> Result<Run<'r, 'a>, ReadError> {
         let (records, rest) = self.words.split_at(ffi::ITEM_WORDS);
         let (words, list) = rest.split_at(ffi::ANSWER_WORDS);
         let (records, words) = (&records[..7 * answer.state.count as usize], &words[..answer.words as usize]);
-        let run = Run { form, commands, args, answer, starts: &self.starts, records, words, list };
+        let run = Run { form, commands, args, answer, reason, starts: &self.starts, records, words, list };
         match answer.number {
             0 => Ok(run),
             _ => Err(ReadError::new(&run)),
@@ -190,6 +207,26 @@ impl Form {
     ) -> Vec<Result<Vec<Value<'a>>, ReadError>> {
         Reader::new().read_many_values(self, lines)
     }
+
+    /// Why the item at a place of a line was left over. The line must be refused with 27 and the item not be used: where it is
+    /// not so, and where there is no such place, there is no reason.
+    ///
+    /// [`ReadError::reason`] has that of the first item that was left over, and here those behind it are told too:
+    ///
+    /// ```
+    /// use silverpoise::{short, Form, Node, Reason};
+    ///
+    /// let form = Form::of([Node::switch(short('v'))])?;
+    /// let args = ["-v", "lock", "-v"];
+    /// let error = form.read_values(&args).unwrap_err();
+    /// assert_eq!((error.place(), error.reason()), (Some(1), Some(Reason::NoPositional)));
+    /// assert_eq!(form.why(&args, 2), Some(Reason::GivenEarlier(0)));
+    /// assert_eq!(form.why(&args, 0), None); // it is used
+    /// # Ok::<(), silverpoise::FormError>(())
+    /// ```
+    pub fn why<A: AsRef<OsStr>>(&self, args: &[A], place: usize) -> Option<Reason> {
+        Reader::new().why(self, args, place)
+    }
 }
 
 impl CommandTable {
@@ -222,7 +259,7 @@ mod tests {
         let answer = ffi::run(form.bytes(), &reader.sheet, items, rest, &mut []);
         let args = vec![OsStr::new("-v")];
         let (form, commands) = (Some(&form), None);
-        let run = Run { form, commands, args, answer, starts: &[0], records: &[], words: &[], list: &[] };
+        let run = Run { form, commands, args, answer, reason: None, starts: &[0], records: &[], words: &[], list: &[] };
         refused(ReadError::new(&run), 7);
     }
 

@@ -6,6 +6,7 @@ use crate::ffi::RunAnswer;
 use crate::form::Form;
 use crate::item::{Area, Item};
 use crate::missing::{self, Missing};
+use crate::reason::Reason;
 use crate::table::CommandTable;
 
 /// What a run left, with what it was run on.
@@ -16,6 +17,8 @@ pub struct Run<'r, 'a> {
     pub(crate) commands: Option<Tried<'a>>,
     pub(crate) args: Vec<&'a OsStr>,
     pub(crate) answer: RunAnswer,
+    /// why the place of a 27 was left over; none for a line of commands
+    pub(crate) reason: Option<Reason>,
     /// where each argument begins in the sheet's area
     pub(crate) starts: &'r [usize],
     /// the records of the items

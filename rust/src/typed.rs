@@ -173,7 +173,8 @@ impl Reader {
     /// ```
     ///
     /// There may be any number of lines: one call of the proved code reads 32 of them. A line that is refused is then read once
-    /// more by itself, since its error has what such a call does not report: which field used which item.
+    /// more by itself, since its error has what such a call does not report: which field used which item, and why one was left
+    /// over.
     pub fn read_many<'a, K: Kinds, L: AsRef<[A]>, A: AsRef<OsStr> + 'a>(
         &mut self,
         form: &'a TypedForm<K>,

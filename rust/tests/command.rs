@@ -347,9 +347,27 @@ fn a_conflict_and_its_winner() {
    5                          ^^  Short           not used
 
 refused with 27 at place 2 in 3 tries
-  `--cradle` cannot be given together with `--stand`
+  `--cradle` lost to `--stand` at place 0: they cannot be given together
     --stand=b --cradle=a -v -v
               ^^^^^^^^
+";
+    assert_eq!((printed.status.code(), String::from_utf8_lossy(&printed.stdout).as_ref()), (Some(1), expected));
+}
+
+/// A cluster with an unknown letter that is left over: the refusal says so, and no note says it again. One that is used by a
+/// field has its note all the same.
+#[test]
+fn an_unknown_letter_that_is_left_over() {
+    let printed = command(&["-", "-vx", "-yv"], b"verbose: switch -v\nlabel: text\n");
+    let expected = "line  -vx -yv
+   0  ^^^      Word  used by label
+   1      ^^^  Word  not used
+
+refused with 27 at place 1 in 2 tries
+  `-yv` is read as a word: no option has the letter `y`
+    -vx -yv
+        ^^^
+note: `-vx` is one word, not options: no option has the letter `x`
 ";
     assert_eq!((printed.status.code(), String::from_utf8_lossy(&printed.stdout).as_ref()), (Some(1), expected));
 }

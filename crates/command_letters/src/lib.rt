@@ -15,8 +15,7 @@ ghost use Rattle.command_letters.specs.Gather.{putIn, opened, HasRoom, H
 use form_letters::Counts;
 use split_args::Ended;
 
-// Room for the letters of 32 forms, with 128 names each.
-// Room for the letters of the forms of any table, and of one with few: 2 KB to clear, not 16.
+// Room for the letters of 32 forms with 128 names each, and for those of a table with few: 2 KB to clear, not 16.
 const LETTERS: usize = 4096;
 
 const FEW_LETTERS: usize = 512;

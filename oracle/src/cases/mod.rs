@@ -7,6 +7,7 @@ mod commands;
 mod contested;
 mod damaged;
 mod forms;
+mod left_over;
 mod limits;
 mod sheets;
 mod short_lines;
@@ -19,6 +20,7 @@ pub use batches::{agreeing, batched, damaged_batch, each_number, good_batches, l
 pub use commands::{commanded, damaged_commands, TableCase};
 pub use contested::contested;
 pub use damaged::{damaged, forms_at_fault};
+pub use left_over::left_over;
 pub use limits::{chain, limits, shared};
 pub use short_lines::{sample_forms, short_lines};
 pub use tables::{each_byte, good_tables, limit_tables, wear_log};

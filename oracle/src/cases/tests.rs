@@ -297,6 +297,29 @@ fn contested_cases_have_many_fields() {
 }
 
 #[test]
+fn left_over_cases_have_names_of_no_node_and_lack_positionals() {
+    let mut rng = Rng::new(1);
+    let (mut bare, mut spare, mut again, mut kinds) = (0, 0, 0, BTreeSet::new());
+    for _ in 0..CASES {
+        let case = left_over(&mut rng);
+        let form = Form::check(&case.form).expect("an accepted form");
+        let sheet = Sheet::check(&case.sheet).expect("a sheet");
+        let named: usize = form.nodes.iter().filter(|n| n.kind <= ARGUMENT).map(|n| n.q as usize).sum();
+        let untyped = form.names.iter().filter(|n| n.ty != TEXT).count();
+        let different: BTreeSet<_> = sheet.arguments.iter().collect();
+        bare += usize::from(form.nodes.iter().all(|n| n.kind != POSITIONAL));
+        spare += usize::from(named < untyped);
+        again += usize::from(different.len() < sheet.arguments.len());
+        kinds.extend(form.nodes.iter().map(|n| (n.kind, if n.kind == POSITIONAL { n.p } else { 0 })));
+    }
+    assert!((CASES / 4..3 * CASES / 4).contains(&bare), "{bare}");
+    assert!(spare > CASES / 8 && again > CASES / 8, "{spare} {again}");
+    let none = [SOME, LAST];
+    let all = (FLAG..=GUARD).filter(|k| !none.contains(k)).map(|k| (k, 0)).chain([(POSITIONAL, 1), (POSITIONAL, 2)]);
+    assert_eq!(kinds, all.collect());
+}
+
+#[test]
 fn short_lines_are_all_lines() {
     for (letters, arguments, bytes) in [(2, 2, 2), (3, 1, 4), (1, 4, 1), (2, 3, 1), (0, 3, 2), (4, 0, 3)] {
         let words: usize = (0..=bytes).map(|length| usize::pow(letters, length)).sum();

@@ -21,6 +21,8 @@ mod slices;
 mod split;
 mod tables;
 mod utf8;
+mod why;
+mod why_known;
 
 pub use replay::replay;
 #[cfg(live)]
@@ -89,6 +91,7 @@ pub fn compare(layer: &str, seed: u64, count: Option<u64>) -> Option<Compared> {
         "forged-eval" => run::compare_forged(seed, count.unwrap_or(100_000)),
         "batches" => batches::compare(seed, count.unwrap_or(100_000)),
         "forged-tables" => tables::compare(seed, count.unwrap_or(200_000)),
+        "why" => why::compare(seed, count.unwrap_or(1_000_000)),
         #[cfg(live)]
         "calls" => calls::compare(seed, count.unwrap_or(300_000)),
         #[cfg(live)]

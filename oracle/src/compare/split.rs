@@ -135,8 +135,7 @@ fn length(k: u64) -> usize {
 }
 
 /// Every argument of up to `symbols` of the alphabet's symbols.
-#[cfg(live)]
-fn arguments(symbols: usize) -> Vec<Vec<u8>> {
+pub fn arguments(symbols: usize) -> Vec<Vec<u8>> {
     const ALPHABET: [&str; 7] = ["v", "w", "b", "x", "-", "=", "é"];
     let mut all = vec![Vec::new()];
     let mut last = all.clone();

@@ -212,32 +212,38 @@ fn numbers() {
     );
 }
 
+/// A sentence for each reason.
 #[test]
 fn left_over() {
+    is(
+        [Node::flag(short('v')).or(Node::flag(long("quiet")))],
+        &["--quiet", "-v"],
+        27,
+        "`-v` lost to `--quiet` at place 0: they cannot be given together\n  wear --quiet -v\n               ^^",
+    );
+    is([switch('v')], &["-v", "-v"], 27, "`-v` is given twice: already at place 0\n  wear -v -v\n          ^^");
+    is([switch('v')], &["-v=7"], 27, "`-v` is taken as a flag, and `7` is given to it as a value\n  wear -v=7\n          ^");
+    is([switch('v')], &["-x=1"], 27, "`-x` is not a known option\n  wear -x=1\n       ^^");
+    is([weight().optional()], &["--weights"], 27, "`--weights` is not a known option\n  wear --weights\n       ^^^^^^^^^");
+    is([switch('v')], &["-"], 27, "`-` is read as an operand, and no operands are taken\n  wear -\n       ^");
+    is([switch('v')], &["--", "-v"], 27, "`-v` is read as an operand, and no operands are taken\n  wear -- -v\n          ^^");
     is(
         [switch('v')],
         &["-v", "-vx"],
         27,
-        "`-vx` is not expected here: it is read as a word, not as options\n  wear -v -vx\n          ^^^",
+        "`-vx` is read as an operand, and no operands are taken\n  wear -v -vx\n          ^^^",
     );
-    is([switch('v')], &["-v", "-v"], 27, "`-v` is not expected here\n  wear -v -v\n          ^^");
-    is([switch('v')], &["-x=1"], 27, "`-x` is not a known option\n  wear -x=1\n       ^^");
-    is([weight().optional()], &["--weights"], 27, "`--weights` is not a known option\n  wear --weights\n       ^^^^^^^^^");
+    let letter = "`-v\\u{1b}x` is read as a word: no option has the letter `\\u{1b}`\n  wear a -v\\u{1b}x\n         ^^^^^^^^^";
+    is([switch('v'), text()], &["a", "-v\u{1b}x"], 27, letter);
     is(
         [weight().adjacent().optional()],
         &["--weight", "7"],
         27,
         "`--weight` is not expected here\n  wear --weight 7\n       ^^^^^^^^",
     );
-    is([switch('v')], &["-v=7"], 27, "`-v` is taken as a flag, and `7` is given to it as a value\n  wear -v=7\n          ^");
-    is([switch('v')], &["-"], 27, "`-` is not expected here\n  wear -\n       ^");
-    is([switch('v')], &["--", "-v"], 27, "`-v` is not expected here\n  wear -- -v\n          ^^");
-    is(
-        [Node::flag(short('v')).or(Node::flag(long("quiet")))],
-        &["--quiet", "-v"],
-        27,
-        "`-v` cannot be given together with `--quiet`\n  wear --quiet -v\n               ^^",
-    );
+    is([text()], &["a", "b"], 27, "`b` is not expected here\n  wear a b\n         ^");
+    let word = "`-é=7` is not expected here: it is read as a word, not as options\n  wear a -é=7\n         ^^^^";
+    is([text()], &["a", "-é=7"], 27, word);
 }
 
 /// What a terminal would act on or leave out is escaped, in the sentence and in the line.
@@ -246,12 +252,13 @@ fn what_is_not_printable() {
     let form = Form::of([switch('v')]).unwrap();
     let args = [&b"-v"[..], b"it's a\xff\x1b[0m\"\\", b"x"].map(|bytes| OsString::from_vec(bytes.to_vec()));
     let error = form.read_values(&args).unwrap_err();
-    let words = r#"`it's a\xff\u{1b}[0m\"\\` is not expected here
+    let words = r#"`it's a\xff\u{1b}[0m\"\\` is read as an operand, and no operands are taken
   -v "it's a\xff\u{1b}[0m\"\\" x
       ^^^^^^^^^^^^^^^^^^^^^^^"#;
     assert_eq!(error.to_string(), words);
     let args = ["\u{202e}\u{301}\u{a0}", "é語"];
-    let words = "`\\u{202e}\\u{301}\\u{a0}` is not expected here\n  \\u{202e}\\u{301}\\u{a0} é語\n  ^^^^^^^^^^^^^^^^^^^^^";
+    let words = "`\\u{202e}\\u{301}\\u{a0}` is read as an operand, and no operands are taken\n  \
+                 \\u{202e}\\u{301}\\u{a0} é語\n  ^^^^^^^^^^^^^^^^^^^^^";
     assert_eq!(form.read_values(&args).unwrap_err().to_string(), words);
 }
 
@@ -264,7 +271,8 @@ fn a_long_line() {
     args[21] = "here";
     let error = form.read_values(&args).unwrap_err();
     let around = "abcdefghi ".repeat(10);
-    assert_eq!(error.to_string(), format!("`abcdefghi` is not expected here\n  {around}...\n  ^^^^^^^^^"));
+    let words = "`abcdefghi` is read as an operand, and no operands are taken";
+    assert_eq!(error.to_string(), format!("{words}\n  {around}...\n  ^^^^^^^^^"));
 
     let number = Form::of([text().many(), weight()]).unwrap();
     let args: Vec<&str> = [&["abcdefghi"; 30][..], &["-w"]].concat();

@@ -7,6 +7,7 @@ mod help;
 mod lines;
 mod many;
 mod marks;
+mod reasons;
 mod tables;
 mod typed;
 mod wrong_use;

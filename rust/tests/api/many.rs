@@ -40,7 +40,7 @@ fn every_short_line() {
     assert_eq!(seen, [0, 20, 25, 27].into());
     let typed = reader.read_many(&form, &lines);
     assert!(typed.iter().zip(&lines).all(|(read, line)| *read == form.read(line)) && typed.len() == lines.len());
-    let conflicts = typed.iter().filter(|read| read.as_ref().is_err_and(|error| error.to_string().contains("together with")));
+    let conflicts = typed.iter().filter(|read| read.as_ref().is_err_and(|error| error.to_string().contains(" lost to ")));
     assert!(conflicts.count() > 10 && typed == form.read_many(&lines));
 }
 

@@ -3,13 +3,14 @@
 use std::ffi::OsString;
 use std::os::unix::ffi::OsStrExt;
 
-use silverpoise::{Item, ItemKind, ReadError, Value};
+use silverpoise::{Item, ItemKind, ReadError, Reason, Value};
 
 use crate::shown::{quoted, shown};
 use crate::written::{Field, Letters, OptionName, Under};
 
 pub fn notes(under: Under, args: &[OsString], items: &[Item], answer: Result<&[Value], &ReadError>) -> Vec<String> {
-    let mut notes: Vec<String> = items.iter().filter_map(|item| withdrawn(under.letters, args, item)).collect();
+    let words = items.iter().enumerate().filter(|(place, _)| Some(*place) != answer.err().and_then(said_to_be_a_word));
+    let mut notes: Vec<String> = words.filter_map(|(_, item)| withdrawn(under.letters, args, item)).collect();
     notes.extend(items.windows(2).filter_map(|pair| rest_taken(args, &pair[0], &pair[1])));
     match answer {
         Ok(values) => {
@@ -19,6 +20,11 @@ pub fn notes(under: Under, args: &[OsString], items: &[Item], answer: Result<&[V
         Err(error) => notes.extend(stays_used(error, items)),
     }
     notes
+}
+
+/// The place of which the refusal itself says that it is a cluster with an unknown letter.
+fn said_to_be_a_word(error: &ReadError) -> Option<usize> {
+    error.place().filter(|_| matches!(error.reason(), Some(Reason::UnknownLetter(_))))
 }
 
 /// A cluster with a letter that no option has is one word, whatever its other letters are.

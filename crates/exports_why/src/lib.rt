@@ -1,0 +1,21 @@
+// The library for C and Rust: why a place was left over. It stands apart from `exports` for the reason that `exports_commands` does.
+ghost use mathlib.Core.Path.{_≡_};
+ghost use mathlib.Core.Option.{some};
+ghost use lib.ListN.{length};
+ghost use Rattle.rules.specs.Why.{why as whyOf};
+ghost use Rattle.why.specs.Reasons.{whyAnswer};
+use why::WhyAnswer;
+
+#[no_mangle]
+pub extern "C" fn silverpoise_why(
+    form: &[u8],
+    sheet: &[u8],
+    place: usize,
+    items: &mut [u32],
+    answers: &mut [u32],
+    list: &mut [u32],
+) -> WhyAnswer
+    ensures { λ r. ⌜ whyAnswer (whyOf (now (form .entry)) (now (sheet .entry)) place (length (now (items .entry))) (length (now (answers .entry))) (length (now (list .entry)))) ≡ some (record { answer = r; items = now (items .exit); answers = now (answers .exit); list = now (list .exit) }) ⌝ }
+{
+    why::why(form, sheet, place, items, answers, list)
+}
