@@ -3,7 +3,7 @@ use mathlib.Core.List.{List, []}
 use mathlib.Core.Logic.{_⊎_, inl, inr}
 use mathlib.Core.Option.{Option, none}
 use mathlib.Core.Path.{_≡_, refl, sym, ap, _∙_}
-use Prim.Native.Nat.{ℕ, _≤_}
+use Prim.Native.Nat.{ℕ, _≤_, _<_}
 use native.Mathlib.Omega.{arith}
 use lib.ListN.{length}
 use borrow.Author.Tests.{eq-eqb}
@@ -24,25 +24,25 @@ use Rattle.rules.proofs.GivenLaws.{run-goes}
 use Rattle.rules.proofs.MissingLaws.{missing-told}
 use Rattle.rules.proofs.Demand1Holds.{demand1}
 
--- nothing that is at fault of the input is refused with 20 or more
-form-other : (b : List ℕ) (n : ℕ) (k : Option ℕ) → FormFault b n k → 20 ≤ n → ⊥
-form-other b n k (badCounts c) e = omega arith
-form-other b n k (badName i m c a g h) e = omega arith
-form-other b n k (badNode i c a g h) e = omega arith
-form-other b n k (badField i j c a g h l) e = omega arith
-form-other b n k (badUse i c a g h l m o) e = omega arith
+-- what is at fault of the input has a number from 1 to 14
+form-range : (b : List ℕ) (n : ℕ) (k : Option ℕ) → FormFault b n k → (0 < n) × (n ≤ 14)
+form-range b n k (badCounts c) = (omega arith, omega arith)
+form-range b n k (badName i m c a g h) = (omega arith, omega arith)
+form-range b n k (badNode i c a g h) = (omega arith, omega arith)
+form-range b n k (badField i j c a g h l) = (omega arith, omega arith)
+form-range b n k (badUse i c a g h l m o) = (omega arith, omega arith)
 
-sheet-other : (s : List ℕ) (n : ℕ) → SheetFault s n → 20 ≤ n → ⊥
-sheet-other s n (manyArguments c h) e = omega arith
-sheet-other s n (badSheet c h) e = omega arith
+sheet-range : (s : List ℕ) (n : ℕ) → SheetFault s n → (0 < n) × (n ≤ 14)
+sheet-range s n (manyArguments c h) = (omega arith, omega arith)
+sheet-range s n (badSheet c h) = (omega arith, omega arith)
 
-pub fault-other : (b s : List ℕ) (ni na nl n : ℕ) (k : Option ℕ) → AtFault b s ni na nl n k → 20 ≤ n → ⊥
-fault-other b s ni na nl n k (badForm m j x) e = form-other b m j x e
-fault-other b s ni na nl n k (sheetAtFault m w x) e = sheet-other s m x e
-fault-other b s ni na nl n k (shortSlice w m h) e = omega arith
-fault-other b s ni na nl n k (shortList w m i o h) e = omega arith
-fault-other b s ni na nl n k (manyItems x w m i o l p h) e = omega arith
-fault-other b s ni na nl n k (ambiguousLetter x j w m i o l p h q) e = omega arith
+pub fault-range : (b s : List ℕ) (ni na nl n : ℕ) (k : Option ℕ) → AtFault b s ni na nl n k → (0 < n) × (n ≤ 14)
+fault-range b s ni na nl n k (badForm m j x) = form-range b m j x
+fault-range b s ni na nl n k (sheetAtFault m w x) = sheet-range s m x
+fault-range b s ni na nl n k (shortSlice w m h) = (omega arith, omega arith)
+fault-range b s ni na nl n k (shortList w m i o h) = (omega arith, omega arith)
+fault-range b s ni na nl n k (manyItems x w m i o l p h) = (omega arith, omega arith)
+fault-range b s ni na nl n k (ambiguousLetter x j w m i o l p h q) = (omega arith, omega arith)
 
 module _ (b s : List ℕ) (ni na nl : ℕ) (ready : Ready b s ni na nl) (a : Accepted) (form : checkForm b ≡ accepted a) where
   abbrev all : Ran (List Value)
@@ -101,4 +101,4 @@ missing-reported b s ni na nl r e h =
         → demand1 b s ni na nl .report .number ≡ 20
         → ListReported b s nl r
     go (inl x) n = let (a, form) = made-accepted b (x .0 .form) in list-reported b s ni na nl (x .0) a form r e h
-    go (inr x) n = absurd (fault-other b s ni na nl _ _ (x .1) (omega (arith, n)))
+    go (inr x) n = absurd (omega (arith, n, fault-range b s ni na nl _ _ (x .1) .1))

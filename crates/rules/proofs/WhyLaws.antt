@@ -1,7 +1,7 @@
--- What a run that ended in 27 leaves, and where the places before one are looked through.
+-- What a run that its input does not stop leaves, and where the places before one are looked through.
 use mathlib.Core.Bool.{Bool, true, false, false≢true}
 use mathlib.Core.List.{List, []}
-use mathlib.Core.Logic.{_⊎_, inl, inr}
+use mathlib.Core.Logic.{_⊎_, inl, inr, ⊎-elim}
 use mathlib.Core.Option.{Option, none}
 use mathlib.Core.Path.{_≡_, refl, sym, ap, _∙_}
 use Prim.Native.Nat.{ℕ, _≤_, _<_}
@@ -10,13 +10,13 @@ use lib.Dec.{ltb}
 use lib.ListN.{length}
 use Rattle.utf8.specs.Utf8.{if_then_else_}
 use Rattle.rules.specs.Base.{contains}
-use Rattle.rules.specs.Outcome.{Outcome, ok, refused, fault, Refusal}
+use Rattle.rules.specs.Outcome.{Outcome, ok, refused, fault, MissingItem}
 use Rattle.rules.specs.Value.{Value, answerWords}
 use Rattle.rules.specs.Sheet.{sheetFault, arguments}
 use Rattle.rules.specs.Form.{Form, readForm}
 use Rattle.rules.specs.Accept.{Accepted, accepted, checkForm, lettersOf}
 use Rattle.rules.specs.Split.{Item, Split, splitFrom, itemsOf}
-use Rattle.rules.specs.State.{markerMark, construct, presentAt, onlyOnce}
+use Rattle.rules.specs.State.{State, markerMark, construct, presentAt, onlyOnce}
 use Rattle.rules.specs.Eval.{Ran}
 use Rattle.rules.specs.Run.{Line, Report, tooMany, padded, lineOf, split, runLine, report, reportWith, run}
 use Rattle.rules.specs.Answered.{AtFault, Left, Ready, RunNumber}
@@ -30,7 +30,7 @@ use Rattle.rules.proofs.InputFaults.{bind-ok}
 use Rattle.rules.proofs.CallsAnswer.{once-answers}
 use Rattle.rules.proofs.Demand3Holds.{line-good, line-runs, run-reported}
 use Rattle.rules.proofs.Demand1Holds.{demand1}
-use Rattle.rules.proofs.MissingReported.{fault-other}
+use Rattle.rules.proofs.MissingReported.{fault-range}
 
 -- ---- places
 -- a name at a place below the number of items is looked for without a panic
@@ -57,25 +57,28 @@ line-items args x l e u = go (ltb 256 (length (itemsOf x))) refl
         let same = ok-injective k in
         (ambiguity-none (x .ambiguous) (ap (λ (l : Line). l .refusal) same ∙ u), sym (ap (λ (l : Line). l .items) same))
 
--- ---- a run that is refused because of the state
--- a report with a number is of a refusal
-refusal-told :
+-- ---- a run that is not refused because of its input
+-- whatever its outcome, the report has the items of the line and the state reached
+report-keeps :
     (ni na nl : ℕ) (l : Line) (x : Ran (List Value)) (r : Report)
     → report ni na nl l x ≡ ok r
-    → 0 < r .number
-    → (d : Refusal) × (reportWith ni na nl l x (d .number) (d .place) [] (d .missing) ≡ r)
+    → (r .items ≡ padded ni (l .records)) × (r .state ≡ x .state)
 unfolding report reportWith
-refusal-told ni na nl l x r e h = go (x .outcome) refl
+report-keeps ni na nl l x r e = go (x .outcome) refl
   where
-    go : (o : Outcome (List Value)) → x .outcome ≡ o → (d : Refusal) × (reportWith ni na nl l x (d .number) (d .place) [] (d .missing) ≡ r)
-    go (ok vs) q =
-        let same : reportWith ni na nl l x 0 none (answerWords vs) [] ≡ r = ok-injective (rw (q, report) at e) in
-        absurd (omega (arith, h, ap (λ (r : Report). r .number) same))
-    go (refused d) q = (d, ok-injective (rw (q, report) at e))
+    told :
+        (n : ℕ) (k : Option ℕ) (w : List ℕ) (m : List MissingItem)
+        → reportWith ni na nl l x n k w m ≡ r
+        → (r .items ≡ padded ni (l .records)) × (r .state ≡ x .state)
+    told n k w m same = (ap (λ (r : Report). r .items) (sym same), ap (λ (r : Report). r .state) (sym same))
+
+    go : (o : Outcome (List Value)) → x .outcome ≡ o → (r .items ≡ padded ni (l .records)) × (r .state ≡ x .state)
+    go (ok vs) q = told 0 none (answerWords vs) [] (ok-injective (rw (q, report) at e))
+    go (refused d) q = told (d .number) (d .place) [] (d .missing) (ok-injective (rw (q, report) at e))
     go (fault f) q = absurd (let bad = rw (q, report) at e in let z : _≡_ {A = ℕ} 0 1 = cc in omega arith)
 
 -- form, sheet and item slice are those of the run; the line, its groups, and a mark for each item
-pub record LeftOver (b s : List ℕ) (ni : ℕ) (r : Report) : Type 0 where
+pub record LineRan (b s : List ℕ) (ni : ℕ) (r : Report) : Type 0 where
   pub result : Accepted
   pub accepts : checkForm b ≡ accepted result
   pub made : sheetFault s ≡ 0
@@ -90,13 +93,11 @@ pub record LeftOver (b s : List ℕ) (ni : ℕ) (r : Report) : Type 0 where
   pub items : line .items ≡ itemsOf given
   pub records : r .items ≡ padded ni (line .records)
   pub marks : length (r .state .marks) ≡ length (line .items)
-  pub words : r .words ≡ []
 
 module _ (b s : List ℕ) (ni na nl : ℕ) (r : Report) (e : run b s ni na nl ≡ ok r) where
-  -- of an input that is run, whatever it is refused with
-  ready-left : Ready b s ni na nl → 0 < r .number → LeftOver b s ni r
-  unfolding split reportWith
-  ready-left ready h =
+  ready-ran : Ready b s ni na nl → LineRan b s ni r
+  unfolding split
+  ready-ran ready =
       let (a, form) = made-accepted b (ready .form) in
       let l : Line = ready .line in
       let free = ready .unrefused in
@@ -105,7 +106,7 @@ module _ (b s : List ℕ) (ni na nl : ℕ) (r : Report) (e : run b s ni na nl �
       let (clear, items) = line-items (arguments s) x l k free in
       let sheet = made-sheet s (ready .sheet) in
       let reported = run-reported b s a form l splits free ni na nl sheet (ready .items) (ready .answers) (ready .list) in
-      let (d, same) = refusal-told ni na nl l (runLine (a .fields) l) r (sym reported ∙ e) h in
+      let (records, state) = report-keeps ni na nl l (runLine (a .fields) l) r (sym reported ∙ e) in
       record {
         result = a;
         accepts = form;
@@ -119,25 +120,30 @@ module _ (b s : List ℕ) (ni na nl : ℕ) (r : Report) (e : run b s ni na nl �
         grouped = grouped;
         clear = clear;
         items = items;
-        records = ap (λ (r : Report). r .items) (sym same);
-        marks = ap (λ (r : Report). length (r .state .marks)) (sym same) ∙ line-runs b s a form l splits free .step .good .long;
-        words = ap (λ (r : Report). r .words) (sym same);
+        records = records;
+        marks = ap (λ (u : State). length (u .marks)) state ∙ line-runs b s a form l splits free .step .good .long;
       }
 
-  run-left : r .number ≡ 27 → LeftOver b s ni r
-  run-left h =
+  pub line-ran : (14 < r .number) ⊎ (r .number ≡ 0) → LineRan b s ni r
+  line-ran h =
       let d = demand1 b s ni na nl in
-      let same = ok-injective (sym (d .answered) ∙ e) in
-      go (d .report) same (d .number)
+      go (d .report) (ok-injective (sym (d .answered) ∙ e)) (d .number)
     where
       go :
           (x : Report)
           → x ≡ r
           → (Ready b s ni na nl × RunNumber (x .number))
           ⊎ ((Ready b s ni na nl → ⊥) × AtFault b s ni na nl (x .number) (x .place) × Left b s ni na nl x)
-          → LeftOver b s ni r
-      go x same (inl y) = ready-left (y .0) (omega (arith, h))
-      go x same (inr y) = absurd (fault-other b s ni na nl _ _ (y .1) (omega (arith, h, ap (λ (r : Report). r .number) same)))
+          → LineRan b s ni r
+      go x same (inl y) = ready-ran (y .0)
+      go x same (inr y) =
+          let (some, few) = fault-range b s ni na nl (x .number) (x .place) (y .1) in
+          let n = ap (λ (r : Report). r .number) same in
+          absurd (⊎-elim (λ (k : 14 < r .number). omega (arith, n, few)) (λ k. omega (arith, n, some)) h)
+
+-- one that ended in 27
+abbrev pub LeftOver : List ℕ → List ℕ → ℕ → Report → Type 0
+LeftOver b s ni r = LineRan b s ni r
 
 pub left-over : (b s : List ℕ) (ni na nl : ℕ) (r : Report) → run b s ni na nl ≡ ok r → r .number ≡ 27 → LeftOver b s ni r
-left-over b s ni na nl r e h = run-left b s ni na nl r e h
+left-over b s ni na nl r e h = line-ran b s ni na nl r e (inl (omega arith))

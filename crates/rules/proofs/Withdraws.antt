@@ -155,14 +155,14 @@ module _ (l : Letters) (os : List ℕ) where
 
 -- ---- the arguments of a line
 -- the items of one argument, and of the others behind it
-record Cut (l : Letters) (k : ℕ) (os : List ℕ) (rest : List (List ℕ)) (x : Split) : Type 0 where
-  group : Group
-  split : splitArgument l os ≡ ok group
-  clear : group .ambiguous ≡ none
-  others : List (List Item)
-  groups : x .groups ≡ group .items ∷ others
-  after : same os dashes ≡ true → others ≡ positionals rest
-  before :
+pub record Cut (l : Letters) (k : ℕ) (os : List ℕ) (rest : List (List ℕ)) (x : Split) : Type 0 where
+  pub group : Group
+  pub split : splitArgument l os ≡ ok group
+  pub clear : group .ambiguous ≡ none
+  pub others : List (List Item)
+  pub groups : x .groups ≡ group .items ∷ others
+  pub after : same os dashes ≡ true → others ≡ positionals rest
+  pub before :
       same os dashes ≡ false
       → (y : Split) × (splitFrom l (k + length (group .items)) rest ≡ ok y) × (y .ambiguous ≡ none) × (others ≡ y .groups)
 
@@ -197,7 +197,7 @@ module _ (l : Letters) (k : ℕ) (os : List ℕ) (rest : List (List ℕ)) (x : S
   joined-cut is none false (refused r) g h o e = absurd (let z : _≡_ {A = ℕ} 0 1 = cc in omega arith)
   joined-cut is none false (fault r) g h o e = absurd (let z : _≡_ {A = ℕ} 0 1 = cc in omega arith)
 
-  cut : splitFrom l k (os ∷ rest) ≡ ok x → Cut l k os rest x
+  pub cut : splitFrom l k (os ∷ rest) ≡ ok x → Cut l k os rest x
   unfolding splitFrom _>>=_
   cut e =
       let g = argument-grouped l os in
@@ -353,8 +353,27 @@ or-neither : (a b : Bool) → a || b ≡ false → (a ≡ false) × (b ≡ false
 or-neither true b e = absurd (false≢true (sym e))
 or-neither false b e = (refl, e)
 
--- an argument before the first `--` that is one Word
-word-there :
+-- an argument before the first `--` is split by itself
+pub group-there :
+    (l : Letters) (k : ℕ) (args : List (List ℕ)) (x : Split) (j : ℕ) (os : List ℕ)
+    → splitFrom l k args ≡ ok x
+    → x .ambiguous ≡ none
+    → getElem? args j ≡ some os
+    → hasMarker (take j args) ≡ false
+    → (g : Group) × (splitArgument l os ≡ ok g) × (g .ambiguous ≡ none) × (getElem? (x .groups) j ≡ some (g .items))
+unfolding hasMarker
+group-there l k [] x j os e clear a free = absurd (some≢none (sym a))
+group-there l k (o ∷ rest) x zero os e clear a free =
+    let c = cut l k o rest x clear e in
+    (c .group, ap (splitArgument l) (sym (Option·some-injective o os a)) ∙ c .split, c .clear, ap (λ (gs : List (List Item)). getElem? gs 0) (c .groups))
+group-there l k (o ∷ rest) x (suc j) os e clear a free =
+    let c = cut l k o rest x clear e in
+    let both = or-neither (same o dashes) (hasMarker (take j rest)) free in
+    let y = c .before (both .0) in
+    rw (c .groups, y .3) (group-there l (k + length (c .group .items)) rest (y .0) j os (y .1) (y .2) a (both .1))
+
+-- and may be one Word
+pub word-there :
     (l : Letters) (k : ℕ) (args : List (List ℕ)) (x : Split) (j : ℕ) (os : List ℕ)
     → splitFrom l k args ≡ ok x
     → x .ambiguous ≡ none
@@ -362,17 +381,9 @@ word-there :
     → hasMarker (take j args) ≡ false
     → splitArgument l os ≡ ok (plain (Word os ∷ []))
     → getElem? (x .groups) j ≡ some (Word os ∷ [])
-unfolding hasMarker
-word-there l k [] x j os e clear a free w = absurd (some≢none (sym a))
-word-there l k (o ∷ rest) x zero os e clear a free w =
-    let c = cut l k o rest x clear e in
-    let this = ap (splitArgument l) (Option·some-injective o os a) in
-    rw (c .groups) (ap some (plain-items (c .group) (Word os ∷ []) (sym (c .split) ∙ this ∙ w)))
-word-there l k (o ∷ rest) x (suc j) os e clear a free w =
-    let c = cut l k o rest x clear e in
-    let both = or-neither (same o dashes) (hasMarker (take j rest)) free in
-    let y = c .before (both .0) in
-    rw (c .groups, y .3) (word-there l (k + length (c .group .items)) rest (y .0) j os (y .1) (y .2) a (both .1) w)
+word-there l k args x j os e clear a free w =
+    let (g, split, _, there) = group-there l k args x j os e clear a free in
+    there ∙ ap some (plain-items g (Word os ∷ []) (sym split ∙ w))
 
 whole-word : (l : Letters) (os : List ℕ) (b : Bool) → WordIs l os os b → splitArgument l os ≡ ok (plain (Word os ∷ []))
 whole-word l os true h = absurd (omega arith)

@@ -19,6 +19,8 @@ pub mod Bench
 pub mod Codes
 pub mod Calls
 pub mod Encode
+-- Ours: a run that refuses what looks otherwise than it is read
+pub mod Careful
 -- What the theorems say
 pub mod Lines
 pub mod Demands
@@ -29,6 +31,7 @@ pub mod CallsAnswered
 pub mod CommandsAnswered
 pub mod BatchAnswered
 pub mod WhyAnswered
+pub mod Looks
 pub mod CommandLines
 pub mod Portable
 pub mod Clusters
