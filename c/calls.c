@@ -7,6 +7,7 @@
 #include <string.h>
 
 #include "check.h"
+#include "sheet.h"
 #include "silverpoise.h"
 
 #define U16 SILVERPOISE_U16
@@ -50,6 +51,13 @@ static const uint8_t WITH_WORD[] = {
   U16(2), U16(2), U16(1), U16(1), U16(0), U16(1), NODE(SILVERPOISE_NODE_FLAG, 0, 1, SILVERPOISE_FLAG_SWITCH, 0, 0),
   NODE(SILVERPOISE_NODE_POSITIONAL, SILVERPOISE_POSITIONAL_UNRESTRICTED, 0, SILVERPOISE_VALUE_TEXT, 0, 0),
   NAME(SILVERPOISE_NAME_SHORT, 0, 1), 'v'};
+// optional text argument with the names l and limit, switch v, and any number of words: the fields 0, 1 and 2
+static const uint8_t LIMIT[] = {
+  U16(5), U16(3), U16(3), U16(6), U16(1), U16(2), U16(4), NODE(SILVERPOISE_NODE_ARGUMENT, 0, 2, SILVERPOISE_VALUE_TEXT, 0, 0),
+  NODE(SILVERPOISE_NODE_OPTIONAL, 0, 0, 0, 0, 0), NODE(SILVERPOISE_NODE_FLAG, 2, 1, SILVERPOISE_FLAG_SWITCH, 0, 0),
+  NODE(SILVERPOISE_NODE_POSITIONAL, SILVERPOISE_POSITIONAL_UNRESTRICTED, 0, SILVERPOISE_VALUE_TEXT, 0, 0),
+  NODE(SILVERPOISE_NODE_MANY, 3, 0, 0, 0, 0), NAME(SILVERPOISE_NAME_SHORT, 0, 1), NAME(SILVERPOISE_NAME_LONG, 0, 5),
+  NAME(SILVERPOISE_NAME_SHORT, 5, 1), 'l', 'i', 'm', 'i', 't', 'v'};
 // choice of text argument x and text argument y: nodes 0 and 1, and the choice 2
 static const uint8_t CHOICE[] = {
   U16(3), U16(1), U16(2), U16(2), U16(2), NODE(SILVERPOISE_NODE_ARGUMENT, 0, 1, SILVERPOISE_VALUE_TEXT, 0, 0),
@@ -567,6 +575,111 @@ static void no_reasons(void) {
   CHECK(holds(list, SILVERPOISE_LIST_SLICE - 1, NULL, 0, 0) && list[SILVERPOISE_LIST_SLICE - 1] == 7);
 }
 
+static bool careful_is(SilverpoiseCarefulAnswer c, uint32_t number, uint32_t place, uint32_t letter) {
+  return c.number == number && c.place == place && c.letter == letter;
+}
+
+// Runs a line carefully, in slices that are longer than they need be, and sees that it answers and leaves what a run does: all
+// of it, or after 50 all but the answers, where the run is accepted.
+static SilverpoiseCarefulAnswer careful(const uint8_t *form, size_t form_count, const uint8_t *sheet, size_t sheet_count) {
+  BatchSlices s = lend_slices(1, 1);
+  SilverpoiseCarefulAnswer c = silverpoise_careful(form, form_count, sheet, sheet_count, s.words[1], s.counts[1], s.words[2],
+                                                   s.counts[2], s.words[3], s.counts[3]);
+  SilverpoiseRunAnswer r = silverpoise_run(form, form_count, sheet, sheet_count, ITEMS, ANSWERS, LIST);
+  bool misread = c.number == 50;
+  CHECK(misread ? r.number == 0 : careful_is(c, r.number, r.place, 0));
+  CHECK(c.tries == r.tries && c.words == (misread ? 0 : r.words) && same(c.state, r.state));
+  CHECK(holds(s.words[1], s.counts[1], ITEMS, 0) && holds(s.words[3], s.counts[3], LIST, 0));
+  CHECK(holds(s.words[2], s.counts[2], answers, misread ? 0 : SILVERPOISE_ANSWER_SLICE, 0));
+  free_slices(s);
+  return c;
+}
+
+// A line of LIMIT, run carefully. Its arguments are separated by one space each.
+static SilverpoiseCarefulAnswer careful_line(const char *line) {
+  uint8_t bytes[64];
+  size_t count = write_sheet(bytes, line);
+  uint8_t *exact = (uint8_t *)lend(bytes, count);
+  SilverpoiseCarefulAnswer c = careful(LIMIT, sizeof LIMIT, exact, count);
+  free(exact);
+  return c;
+}
+
+static bool misread(const char *line, uint32_t place, uint32_t letter) {
+  return careful_is(careful_line(line), 50, place + 1, letter);
+}
+
+// What is refused with 50, most of it that of docs/FORMAT.md, 15.4, and why it is a word.
+static void misread_lines(void) {
+  // as a word, and as the value of an option
+  CHECK(misread("-17", 0, '1' + 1) && misread("a -17", 1, '1' + 1));
+  CHECK(misread("-l -17", 1, '1' + 1) && misread("--limit -17", 1, '1' + 1));
+  // the first letter that is not known, wherever it stands
+  CHECK(misread("-vx", 0, 'x' + 1) && misread("-xv", 0, 'x' + 1) && misread("-xy", 0, 'x' + 1));
+  CHECK(misread("-v\xc3\xa9x", 0, 0xe9 + 1) && misread("-v-", 0, '-' + 1));
+  // a name that is not UTF-8
+  CHECK(misread("-\xff", 0, 0) && misread("-vx\xff", 0, 0) && misread("--\xff", 0, 0) && misread("--\xff=7", 0, 0));
+  CHECK(misread("-\xc3\xa9=7", 0, 0)); // the first byte of the letter is its name
+  // the lowest place; not that of `-`, nor of the rest behind -l
+  CHECK(misread("a -l-17 - -x7 -18 -- -19", 4, 'x' + 1));
+
+  static const uint32_t records[] = {1, 0, 'l', 0, 0, 0, 2, 4, 0, 0, 0, 0, 2, 3, 4, 0, 0, 0, 0, 5, 1};
+  SilverpoiseCarefulAnswer c = careful_line("-l -x7 a");
+  CHECK(careful_is(c, 50, 2, 'x' + 1) && c.tries == 4 && c.words == 0 && same(c.state, state(512, 512, 514, 0, 3)));
+  CHECK(holds(ITEMS, records, 21, 0)); // the run's, which are the same
+}
+
+// Whether a line is accepted with these four answer words.
+static bool accepts(const char *line, uint32_t word0, uint32_t word1, uint32_t word2, uint32_t word3) {
+  const uint32_t words[] = {word0, word1, word2, word3};
+  SilverpoiseCarefulAnswer c = careful_line(line);
+  return careful_is(c, 0, 0, 0) && c.words == 4 && holds(ANSWERS, words, 4, 0); // the run's answers, which are the same
+}
+
+// What is accepted, as the run accepts it.
+static void careful_lines(void) {
+  CHECK(accepts("-l-17", 1, 1, 0, 0) && accepts("-l=-17", 1, 1, 0, 0) && accepts("--limit=-17", 1, 1, 0, 0));
+  CHECK(accepts("-l-foo", 1, 1, 0, 0) && accepts("-l -", 1, 1, 0, 0) && accepts("-vl-17", 1, 2, 1, 0));
+  CHECK(accepts("-l\xff=7", 1, 1, 0, 0) && accepts("-l=-\xff", 1, 1, 0, 0) && accepts("--limit=-\xff", 1, 1, 0, 0));
+  CHECK(accepts("-- -17", 0, 0, 1, 1) && accepts("-", 0, 0, 1, 0) && accepts("a", 0, 0, 1, 0));
+  CHECK(accepts("-v ", 0, 1, 1, 1)); // with an empty word
+
+  SilverpoiseCarefulAnswer c = careful_line("-l-17 -");
+  CHECK(c.number == 0 && c.tries == 4 && c.words == 5 && same(c.state, state(512, 512, 514, 0, 3)));
+  CHECK(careful_is(careful_line(""), 0, 0, 0));
+}
+
+// Where the run is refused, its refusal is the answer: 50 comes last.
+static void careful_refused(void) {
+  static const uint8_t ambiguous[] = {U16(1), U16(0), U16(3), '-', 'v', 'b'}, no_kind[] = {ARGUMENT_FORM(0)};
+  static const uint8_t below_0[] = {U16(2), U16(0), U16(2), U16(5), '-', 'w', '-', '1', '7'}, count_257[] = {U16(257)};
+  CHECK(careful_is(careful_line("-x"), 27, 1, 0) && careful_is(careful_line("-17 -x"), 27, 2, 0));
+  CHECK(careful_is(careful_line("-17 -l"), 22, 2, 0));
+  CHECK(careful_is(careful(FORM, below_0, sizeof below_0), 25, 2, 0)); // -17 is no number
+  CHECK(careful_is(careful(REQUIRED, sizeof REQUIRED, THREE_WORDS, sizeof THREE_WORDS), 20, 0, 0)); // with its list
+  CHECK(careful_is(careful(FORM, ambiguous, sizeof ambiguous), 9, 2, 0));
+  CHECK(careful_is(careful(NULL, 0, NULL, 0), 1, 0, 0) && careful_is(careful(no_kind, sizeof no_kind, NULL, 0), 3, 1, 0));
+  CHECK(careful_is(careful(FORM, NULL, 0), 5, 0, 0) && careful_is(careful(FORM, count_257, sizeof count_257), 6, 0, 0));
+}
+
+// Short slices, on a line that would be refused with 50: each is all 0, and no word behind it is touched.
+static void careful_slices(void) {
+  static const uint8_t word[] = {U16(1), U16(0), U16(3), '-', '1', '7'};
+  static const uint32_t numbers[SLICES] = {0, 7, 7, 14};
+  for (int i = 1; i < SLICES; i++) {
+    BatchSlices s = lend_slices(1, 0);
+    s.counts[i]--;
+    SilverpoiseCarefulAnswer c =
+        silverpoise_careful(LIMIT, sizeof LIMIT, word, sizeof word, s.words[1], s.counts[1], s.words[2], s.counts[2],
+                            s.words[3], s.counts[3]);
+    CHECK(careful_is(c, numbers[i], 0, 0) && c.tries == 0 && c.words == 0 && c.state.count == 0);
+    for (int k = 1; k < SLICES; k++) CHECK(holds(s.words[k], s.counts[k], NULL, 0, 0));
+    CHECK(s.words[i][s.counts[i]] == 7);
+    free_slices(s);
+  }
+  CHECK(silverpoise_careful(LIMIT, sizeof LIMIT, word, sizeof word, NULL, 0, NULL, 0, NULL, 0).number == 7);
+}
+
 static void states(void) {
   SilverpoiseState scoped = S;
   scoped.start = 1;
@@ -705,6 +818,10 @@ int main(void) {
   batches_refused();
   reasons();
   no_reasons();
+  misread_lines();
+  careful_lines();
+  careful_refused();
+  careful_slices();
   running();
   evaluation();
   states();

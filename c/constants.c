@@ -3,6 +3,7 @@
 #include <string.h>
 
 #include "check.h"
+#include "sheet.h"
 #include "silverpoise.h"
 
 #define U16 SILVERPOISE_U16
@@ -20,27 +21,8 @@
 static uint8_t form[SILVERPOISE_MAX_FORM + 64], sheet[SILVERPOISE_MAX_SHEET + 64]; // with room for one more of everything
 static uint32_t items[SILVERPOISE_ITEM_SLICE], answers[SILVERPOISE_ANSWER_SLICE], list[SILVERPOISE_LIST_SLICE];
 
-static uint8_t *put_u16(uint8_t *to, size_t x) {
-  to[0] = x & 255;
-  to[1] = (x >> 8) & 255;
-  return to + 2;
-}
-
-// Writes the sheet of a line, whose arguments are separated by one space each, and returns its length.
-static size_t make_sheet(const char *line) {
-  size_t count = line[0] != 0;
-  for (const char *c = line; *c; c++) count += *c == ' ';
-  uint8_t *offset = put_u16(put_u16(sheet, count), 0), *area = offset + 2 * count, *to = area;
-  for (; *line; line++) {
-    if (*line == ' ') {
-      offset = put_u16(offset, (size_t)(to - area));
-    } else {
-      *to++ = (uint8_t)*line;
-    }
-  }
-  if (count > 0) put_u16(offset, (size_t)(to - area));
-  return (size_t)(to - sheet);
-}
+// Writes the sheet of a line and returns its length.
+static size_t make_sheet(const char *line) { return write_sheet(sheet, line); }
 
 #define RUN(bytes, line) run(bytes, sizeof bytes, line, SILVERPOISE_LIST_SLICE)
 
@@ -240,6 +222,21 @@ static void reasons(void) {
   CHECK(WHY(switched, "-v", 0).number == SILVERPOISE_REFUSED_NOT_THERE);
 }
 
+static SilverpoiseCarefulAnswer careful(const uint8_t *bytes, size_t length, const char *line) {
+  size_t sheet_length = make_sheet(line);
+  return silverpoise_careful(bytes, length, sheet, sheet_length, items, SILVERPOISE_ITEM_SLICE, answers,
+                             SILVERPOISE_ANSWER_SLICE, list, SILVERPOISE_LIST_SLICE);
+}
+
+static void refusal_of_the_careful_run(void) {
+  static const uint8_t value[] = FORM(1, ARGUMENT_V(SILVERPOISE_VALUE_TEXT));
+  SilverpoiseCarefulAnswer a = careful(value, sizeof value, "-v -xy");
+  CHECK(a.number == SILVERPOISE_REFUSED_MISREAD && a.letter == 'x' + 1 && item_kind(1) == SILVERPOISE_ITEM_WORD);
+  CHECK(a.state.marks[1] == SILVERPOISE_MARK_FIELD + 0);
+  CHECK(careful(value, sizeof value, "-v-xy").number == SILVERPOISE_ACCEPTED);
+  CHECK(RUN(value, "-v -xy").number == SILVERPOISE_ACCEPTED);
+}
+
 static void refusals_of_calls(void) {
   static const uint8_t flag[] = FORM(1, FLAG_V(SILVERPOISE_FLAG_REQUIRED));
   SilverpoiseState state = RUN(flag, "-v").state;
@@ -355,6 +352,7 @@ int main(void) {
   refusals_of_runs();
   refusals_of_commands();
   reasons();
+  refusal_of_the_careful_run();
   refusals_of_calls();
   all_kinds();
   value_kinds();

@@ -3,7 +3,7 @@
 //     example [-l LIMIT | --limit LIMIT] [-1] [-2] [-3] [-4] [-5] [-6] LABEL [PART..]
 //
 // Prints the order, with what used each option and word of the line, and exits with 0; or says what is wrong with the line and
-// exits with 1. A limit is 1 to 9999; a label that begins with a dash stands behind `--`.
+// exits with 1. A limit is 1 to 9999. A label or part that begins with a dash stands behind `--`; `-` alone need not.
 #include <inttypes.h>
 #include <stdio.h>
 #include <string.h>
@@ -122,8 +122,34 @@ static const char *reason_in_words(struct line *line, uint32_t place) {
   }
 }
 
-// What is wrong, in words for this form. It gives rise to no other refusal.
-static const char *in_words(struct line *line, SilverpoiseRunAnswer answer) {
+// Prints a letter of the text at a place as it stands there.
+static void print_letter(const struct line *line, uint32_t place, uint32_t letter, FILE *to) {
+  SilverpoiseTextPart part = text_of(line, place);
+  const uint8_t *text = line->sheet + part.offset;
+  size_t at = 0;
+  SilverpoiseDecoding next = silverpoise_utf8_decode(text, part.length, at);
+  while (next.found && next.character != letter) {
+    at += next.size;
+    next = silverpoise_utf8_decode(text, part.length, at);
+  }
+  fwrite(text + at, 1, next.size, to);
+}
+
+// Prints why an argument that looks like options, such as `-12x`, was read as a word.
+static void print_cause(const struct line *line, SilverpoiseCarefulAnswer answer, FILE *to) {
+  if (answer.letter == 0) {
+    fputs("its name is not UTF-8; ", to);
+    return;
+  }
+  fputs("no option has the letter ", to);
+  print_letter(line, answer.place - 1, answer.letter - 1, to);
+  fputs("; ", to);
+}
+
+// What is wrong, in words for this form. It gives rise to no other refusal. What is misread is always the label or a part: the
+// limit is a number, so that `-l -17` is a 25. Where an option has a text, the mark of the place in the state tells that the
+// option took it, and the words would be: it can be given as `--name=-17` or `-n-17`.
+static const char *in_words(struct line *line, SilverpoiseCarefulAnswer answer) {
   switch (answer.number) {
   case SILVERPOISE_REFUSED_SHEET: return "the arguments have more than 32768 bytes";
   case SILVERPOISE_REFUSED_ARGUMENTS: return "there are more than 256 arguments";
@@ -133,26 +159,21 @@ static const char *in_words(struct line *line, SilverpoiseRunAnswer answer) {
   case SILVERPOISE_REFUSED_PARSE_FAILED: return "not a number, or too large";
   case SILVERPOISE_REFUSED_GUARD_FAILED: return "the limit is not from 1 to 9999";
   case SILVERPOISE_REFUSED_UNCONSUMED: return reason_in_words(line, answer.place - 1);
+  case SILVERPOISE_REFUSED_MISREAD: return "as a label or part it stands behind --";
   default: return "the form is not well made";
   }
 }
 
-static int refuse(struct line *line, SilverpoiseRunAnswer answer) {
+static int refuse(struct line *line, SilverpoiseCarefulAnswer answer) {
   fputs("wear: ", stderr);
   // the places of lower refusals are name records and nodes of the form
   if (answer.number >= SILVERPOISE_REFUSED_AMBIGUOUS && answer.place > 0) {
     print_argument(line, answer.place - 1, stderr);
     fputs(": ", stderr);
   }
+  if (answer.number == SILVERPOISE_REFUSED_MISREAD) print_cause(line, answer, stderr);
   fprintf(stderr, "%s (refusal %" PRIu32 ")\n", in_words(line, answer), answer.number);
   return 1;
-}
-
-// A cluster with an unknown letter, such as `-12x`, is a Word, and so it would be the label: a rule of this program refuses it.
-static bool is_mistyped_option(const struct line *line, uint32_t place) {
-  SilverpoiseItemRecord item = item_at(line, place);
-  SilverpoiseTextPart part = text_of(line, place);
-  return item.kind == SILVERPOISE_ITEM_WORD && part.length > 0 && line->sheet[part.offset] == '-';
 }
 
 // Prints which field used each item. The line is accepted, so every item is used: by a field, or it is the opening `--`.
@@ -174,12 +195,6 @@ static int print_order(const struct line *line, const SilverpoiseState *state) {
   const uint32_t *label = cradles + CRADLES;
   const uint32_t *parts = label + 1; // their count, then each
 
-  if (is_mistyped_option(line, *label)) {
-    fputs("wear: ", stderr);
-    print_text(line, *label, stderr);
-    fputs(": a label that begins with a dash stands behind --\n", stderr);
-    return 1;
-  }
   printf("limit: %" PRIu32 "\ncradles:", limit);
   for (int i = 0; i < CRADLES; i++) {
     if (cradles[i] == 1) printf(" %d", i + 1);
@@ -198,8 +213,9 @@ static int print_order(const struct line *line, const SilverpoiseState *state) {
 int main(int argc, char **argv) {
   static struct line line;
   line.length = make_sheet(line.sheet, argc > 0 ? argc - 1 : 0, argv + 1);
-  SilverpoiseRunAnswer answer =
-      silverpoise_run(FORM, sizeof FORM, line.sheet, line.length, line.items, SILVERPOISE_ITEM_SLICE, line.answers,
-                      SILVERPOISE_ANSWER_SLICE, line.list, SILVERPOISE_LIST_SLICE);
+  // by silverpoise_run `-12x` would be a label, since no option has the letter x
+  SilverpoiseCarefulAnswer answer =
+      silverpoise_careful(FORM, sizeof FORM, line.sheet, line.length, line.items, SILVERPOISE_ITEM_SLICE, line.answers,
+                          SILVERPOISE_ANSWER_SLICE, line.list, SILVERPOISE_LIST_SLICE);
   return answer.number == SILVERPOISE_ACCEPTED ? print_order(&line, &answer.state) : refuse(&line, answer);
 }

@@ -2,10 +2,10 @@
 //
 // Link with target/staticlib/libexports.a (whole forms and lines: `rt staticlib exports` writes it), for commands with
 // target/staticlib/libexports_commands.a (`rt staticlib exports_commands`), for many lines in one call with
-// target/staticlib/libexports_batch.a (`rt staticlib exports_batch`), for why a place was left over with
-// target/staticlib/libexports_why.a (`rt staticlib exports_why`) and for the single calls with
-// target/staticlib/libexports_calls.a (`rt staticlib exports_calls`), on x86-64. docs/FORMAT.md has the formats, the
-// rules and the refusals; numbers in brackets here are its sections. c/example.c reads a whole line.
+// target/staticlib/libexports_batch.a (`rt staticlib exports_batch`), for what looks at a line that was run, which is the
+// careful run and why a place was left over, with target/staticlib/libexports_why.a (`rt staticlib exports_why`) and for the
+// single calls with target/staticlib/libexports_calls.a (`rt staticlib exports_calls`), on x86-64. docs/FORMAT.md has the
+// formats, the rules and the refusals; numbers in brackets here are its sections. c/example.c reads a whole line.
 //
 // What holds of every call:
 // - A slice is a pointer and a count of elements. What is written, a slice or a lent state, must not overlap anything else that
@@ -94,7 +94,10 @@ enum SilverpoiseRefusal {
   SILVERPOISE_REFUSED_RECORD = 30,    // an item record is at fault
 
   // because of the command word, found after 9 and before 20
-  SILVERPOISE_REFUSED_COMMAND = 31 // the line begins with no command of the table
+  SILVERPOISE_REFUSED_COMMAND = 31, // the line begins with no command of the table
+
+  // because of how a word looks, found after all others, and only by silverpoise_careful
+  SILVERPOISE_REFUSED_MISREAD = 50 // an argument that looks like options was read as a word; place: the lowest such
 };
 
 // ---- Forms (3): the numbers of nodes and names ----
@@ -238,6 +241,16 @@ typedef struct {
   SilverpoiseState state;
 } SilverpoiseCommandAnswer;
 
+// The answer of the careful run (15). `letter` says why the argument at the place of 50 was read as a word: it is the first
+// letter of it that no option has, PLUS 1, or 0 where its name is not UTF-8. There is no third cause. After any other number it
+// is 0.
+typedef struct {
+  uint32_t number, place;
+  uint32_t tries, words; // as in SilverpoiseRunAnswer
+  uint32_t letter;
+  SilverpoiseState state;
+} SilverpoiseCarefulAnswer;
+
 // What silverpoise_run_batch writes of a sheet, as the four words of its record: what SilverpoiseRunAnswer has, but the state.
 typedef struct {
   uint32_t number, place;
@@ -349,6 +362,9 @@ SilverpoiseSplitAnswer silverpoise_split(const uint8_t *form, size_t form_count,
 //
 // In `state` a place that field k used has the mark SILVERPOISE_MARK_FIELD + k, so it tells which field took which word.
 //
+// An argument such as `-17`, where no option has the letter 1, is a word by bpaf's rules, and may be taken as one:
+// silverpoise_careful refuses the line.
+//
 // The words behind the last value are 0. Refused: as silverpoise_split, with 14 right behind 7, then one of 20 to 27. Refused,
 // the answer slice is all 0 and so is `words`. After 1 to 9 item slice and state are as silverpoise_split leaves them, and
 // `tries` is 0; after 14 as after 7. After 20 to 27 the item slice has the items, and `state` and `tries` are those reached.
@@ -433,6 +449,19 @@ SilverpoiseRefused silverpoise_run_batch(const uint8_t *form, size_t form_count,
 SilverpoiseWhyAnswer silverpoise_why(const uint8_t *form, size_t form_count, const uint8_t *sheet, size_t sheet_count,
                                      size_t place, uint32_t *items, size_t item_count, uint32_t *answers, size_t answer_count,
                                      uint32_t *list, size_t list_count);
+
+// ---- The careful run (15) ----
+
+// Reads a line as silverpoise_run does, and refuses it with 50 where that is accepted and an argument that looks like options
+// was read as a word: an item is a Word that is a whole argument, begins with a dash and is longer than `-`. This rule is ours
+// and not bpaf's. It does not matter who took the Word: where no option has the letter 1, `-l` `-17` is refused too. What
+// cannot be meant as options is not: `-l-17`, `-l=-17`, `--limit=-17`, `-` alone, and all that stands behind `--`.
+//
+// The answer and the slices are those of silverpoise_run. After 50 the item slice, `state` and `tries` are as after an accepted
+// line; the answer slice and the list are all 0, and so is `words`. Refused: as silverpoise_run; then 50.
+SilverpoiseCarefulAnswer silverpoise_careful(const uint8_t *form, size_t form_count, const uint8_t *sheet, size_t sheet_count,
+                                             uint32_t *items, size_t item_count, uint32_t *answers, size_t answer_count,
+                                             uint32_t *list, size_t list_count);
 
 // ---- The field of a single call ----
 //
@@ -559,6 +588,9 @@ SILVERPOISE_ASSERT(sizeof(SilverpoiseRunAnswer) == 548, "SilverpoiseRunAnswer");
 SILVERPOISE_ASSERT(offsetof(SilverpoiseRunAnswer, state) == 16, "state of SilverpoiseRunAnswer");
 SILVERPOISE_ASSERT(sizeof(SilverpoiseCommandAnswer) == 556, "SilverpoiseCommandAnswer");
 SILVERPOISE_ASSERT(offsetof(SilverpoiseCommandAnswer, state) == 24, "state of SilverpoiseCommandAnswer");
+SILVERPOISE_ASSERT(sizeof(SilverpoiseCarefulAnswer) == 552, "SilverpoiseCarefulAnswer");
+SILVERPOISE_ASSERT(offsetof(SilverpoiseCarefulAnswer, letter) == 16, "letter of SilverpoiseCarefulAnswer");
+SILVERPOISE_ASSERT(offsetof(SilverpoiseCarefulAnswer, state) == 20, "state of SilverpoiseCarefulAnswer");
 SILVERPOISE_ASSERT(sizeof(SilverpoiseBatchRecord) == 16, "a record of a batch has four words");
 SILVERPOISE_ASSERT(sizeof(SilverpoiseWhyAnswer) == 16, "SilverpoiseWhyAnswer");
 SILVERPOISE_ASSERT(offsetof(SilverpoiseWhyAnswer, reason) == 8, "reason of SilverpoiseWhyAnswer");

@@ -8,3 +8,4 @@ pub mod cases;
 pub mod forged;
 pub mod marks;
 pub mod reasons;
+pub mod looks;

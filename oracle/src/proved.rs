@@ -78,6 +78,18 @@ pub struct RunAnswer {
     pub state: State,
 }
 
+/// `letter` is a character plus 1, or 0.
+#[repr(C)]
+#[derive(Clone, Copy, Debug, PartialEq, Eq)]
+pub struct CarefulAnswer {
+    pub number: u32,
+    pub place: u32,
+    pub tries: u32,
+    pub words: u32,
+    pub letter: u32,
+    pub state: State,
+}
+
 /// `reason` is from 1 to 7, or 0 if the question is refused; `detail` is a place plus 1, a character, or 0.
 #[repr(C)]
 #[derive(Clone, Copy, Debug, PartialEq, Eq)]
@@ -230,6 +242,18 @@ extern "C" {
         list: *mut u32,
         p: usize,
     ) -> WhyAnswer;
+    fn silverpoise_careful(
+        form: *const u8,
+        k: usize,
+        sheet: *const u8,
+        n: usize,
+        items: *mut u32,
+        m: usize,
+        answers: *mut u32,
+        l: usize,
+        list: *mut u32,
+        p: usize,
+    ) -> CarefulAnswer;
 }
 
 #[link(name = "exports_calls", kind = "static", modifiers = "-bundle")]
@@ -429,6 +453,12 @@ pub fn why(
     let (f, s) = ((form.as_ptr(), form.len()), (sheet.as_ptr(), sheet.len()));
     let [i, a, l] = [items, answers, list].map(|slice| (slice.as_mut_ptr(), slice.len()));
     unsafe { silverpoise_why(f.0, f.1, s.0, s.1, place, i.0, i.1, a.0, a.1, l.0, l.1) }
+}
+
+pub fn careful(form: &[u8], sheet: &[u8], items: &mut [u32], answers: &mut [u32], list: &mut [u32]) -> CarefulAnswer {
+    let (f, s) = ((form.as_ptr(), form.len()), (sheet.as_ptr(), sheet.len()));
+    let [i, a, l] = [items, answers, list].map(|slice| (slice.as_mut_ptr(), slice.len()));
+    unsafe { silverpoise_careful(f.0, f.1, s.0, s.1, i.0, i.1, a.0, a.1, l.0, l.1) }
 }
 
 pub fn eval(lent: &Lent, answers: &mut [u32], list: &mut [u32], node: usize) -> RunAnswer {

@@ -3,3 +3,4 @@ pub mod Back
 pub mod States
 pub mod Begun
 pub mod Runs
+pub mod Told

@@ -1,7 +1,7 @@
 -- From what the run hands back to what the call answers.
 use mathlib.Core.Bool.{Bool, true, false, not, _&&_}
 use mathlib.Core.List.{List, [], _∷_, _++_}
-use mathlib.Core.Option.{Option, some, none, Option·some-injective}
+use mathlib.Core.Option.{Option, some, none}
 use mathlib.Core.Path.{_≡_, refl, sym, ap, subst, _∙_}
 use Prim.Native.Nat.{ℕ, zero, suc, _+_, _-_, _≤_, _<_}
 use native.Mathlib.Omega.{arith}
@@ -9,7 +9,7 @@ use lib.Dec.{eqb, ltb}
 use lib.ListN.{length, getD, getElem?, replicate}
 use borrow.Author.Tests.{not-true, not-false, eqb-true, lt-ltb, ltb-true, ltb-false}
 use Rattle.utf8.specs.Utf8.{if_then_else_}
-use Rattle.rules.specs.Outcome.{Outcome, ok, refused, fault, _>>=_}
+use Rattle.rules.specs.Outcome.{ok, _>>=_}
 use Rattle.rules.specs.Sheet.{sheetArea, arguments}
 use Rattle.rules.specs.Form.{readForm}
 use Rattle.rules.specs.Accept.{lettersOf}
@@ -27,41 +27,13 @@ use Rattle.rules.proofs.Demand1Holds.{padded-length}
 use Rattle.rules.proofs.WhyLaws.{LeftOver, left-over, marks-present}
 use Rattle.take_search.specs.Items.{Table}
 use Rattle.run_fields.specs.declared.RunAnswer.{RunAnswer}
-use Rattle.run.specs.Runner.{Ended, runAnswer}
+use Rattle.run.specs.Runner.{runAnswer}
+use Rattle.run.proofs.Told.{RunTold, run-told}
 use Rattle.run.proofs.Back.{line-table}
 use Rattle.why_letter.specs.Withdrawn.{LinePlace}
 use Rattle.why.specs.declared.Reason.{Reason}
 use Rattle.why.specs.declared.WhyAnswer.{WhyAnswer}
 use Rattle.why.specs.Reasons.{MarkedUp, LeftAt, FindsReason, leftIn, unexplained, WhyEnded, answerFor, whyAnswer}
-
--- ---- what a run told
-pub record Ran (o : Outcome Report) (r : RunAnswer) (is os ls : List ℕ) : Type 0 where
-  pub report : Report
-  pub same : o ≡ ok report
-  pub number : r .number ≡ report .number
-  pub place : r .place ≡ placeCode (report .place)
-  pub state : r .state ≡ toRaw (report .state)
-  pub items : report .items ≡ is
-  pub answers : report .answers ≡ os
-  pub list : report .list ≡ ls
-
-run-told : (o : Outcome Report) (r : RunAnswer) (is os ls : List ℕ)
-    → runAnswer o ≡ some (record { answer = r; items = is; answers = os; list = ls }) → Ran o r is os ls
-unfolding runAnswer
-run-told (refused e) r is os ls h = absurd (let z : _≡_ {A = ℕ} 0 1 = cc in omega arith)
-run-told (fault e) r is os ls h = absurd (let z : _≡_ {A = ℕ} 0 1 = cc in omega arith)
-run-told (ok x) r is os ls h =
-    let e = Option·some-injective _ _ h in
-    record {
-      report = x;
-      same = refl;
-      number = sym (ap (λ (z : Ended). z .answer .number) e);
-      place = sym (ap (λ (z : Ended). z .answer .place) e);
-      state = sym (ap (λ (z : Ended). z .answer .state) e);
-      items = ap (λ (z : Ended). z .items) e;
-      answers = ap (λ (z : Ended). z .answers) e;
-      list = ap (λ (z : Ended). z .list) e;
-    }
 
 -- ---- the marks as they are handed over
 front : (l z : List ℕ) (k : ℕ) → k < length l → getElem? l k ≡ some (getD (l ++ z) k 0)
@@ -105,7 +77,7 @@ module _ (number : ℕ) (marks : List ℕ) (raw : Raw) (i : ℕ) (count : raw .c
       go false e = refl
 
 module _ (b s : List ℕ) (i ni na nl : ℕ) (r : RunAnswer) (is os ls : List ℕ) (ran : runAnswer (run b s ni na nl) ≡ some (record { answer = r; items = is; answers = os; list = ls })) where
-  x : Ran (run b s ni na nl) r is os ls
+  x : RunTold (run b s ni na nl) r is os ls
   x = run-told (run b s ni na nl) r is os ls ran
 
   abbrev report : Report

@@ -1,5 +1,5 @@
 -- From an argument that became one Word to its first unknown letter, and from a place to its argument.
-use mathlib.Core.Bool.{Bool, true, false}
+use mathlib.Core.Bool.{Bool, true, false, not, false≢true}
 use mathlib.Core.List.{List, [], _∷_, flatten}
 use mathlib.Core.Logic.{⊎-elim}
 use mathlib.Core.Option.{Option, some, none, Option·some-injective}
@@ -8,33 +8,30 @@ use Prim.Native.Nat.{ℕ, _+_, _-_, _*_, _≤_}
 use native.Mathlib.Nat.{sub-zero}
 use native.Mathlib.Omega.{arith}
 use lib.ListN.{length, take, drop, getElem?, replicate}
+use borrow.Author.Tests.{not-true, not-false}
 use types.Run.{OneOf}
 use denote.Enum.Declared.{tagOf}
 use Rattle.utf8.specs.Utf8.{if_then_else_, wellFormed}
-use Rattle.rules.specs.Base.{same, _>>?_}
-use Rattle.rules.specs.Outcome.{ok}
+use Rattle.rules.specs.Base.{same, isSome, _>>?_}
 use Rattle.rules.specs.Sheet.{sheetArea, arguments}
 use Rattle.rules.specs.Form.{readForm}
 use Rattle.rules.specs.Accept.{Accepted, accepted, checkForm, Letters, lettersOf}
 use Rattle.rules.specs.Split as rules
-use Rattle.rules.specs.Split.{short, long, Letter, splitOsArgument, itemsOf}
+use Rattle.rules.specs.Split.{Letter, clusterFrom, itemsOf}
 use Rattle.rules.specs.Calls.{itemFrom}
-use Rattle.rules.specs.Why.{LeftPlace, lineItems, isWhole, argumentAt, clusterLetters, firstUnknown, unknownIn}
+use Rattle.rules.specs.Why.{LeftPlace, lineItems, isWhole, argumentAt, dashedName, clusterLetters, firstUnknown, unknownIn}
 use Rattle.rules.specs.WhyAnswered.{behindAdjacent, Withdrawn}
-use Rattle.rules.proofs.Acceptance.{lookup-some}
-use Rattle.rules.proofs.SplitLaws.{some≢none, ok-injective, same-self}
+use Rattle.rules.proofs.Acceptance.{lookup-some, is-some}
+use Rattle.rules.proofs.SplitLaws.{ok-injective, same-self}
 use Rattle.rules.proofs.LetterLaws.{SameLetters, argument-same}
-use Rattle.rules.proofs.WithdrawLaws.{no-parts-no-cluster, word-withdrawn, word-parts, withdrawn-letter}
+use Rattle.rules.proofs.ArgumentNames.{NameShape, name-shape, shape-parts}
+use Rattle.rules.proofs.WithdrawLaws.{word-withdrawn, stopped, shape-cluster}
 use Rattle.rules.proofs.Withdraws.{argument-there, rest-not-whole, word-whole}
 use Rattle.form_layout.specs.Layout.{GoodNames}
 use Rattle.form_layout.proofs.Sizes.{accepted-names}
 use Rattle.form_letters.specs.Letters.{WroteLetters}
 use Rattle.form_letters.proofs.Order.{same-letters}
 use Rattle.form_letters.proofs.Words.{letters-taken}
-use Rattle.split_arg.specs.declared.Parts.{Parts}
-use Rattle.split_arg.specs.declared.Parts.the-variants as parts
-use Rattle.split_arg.specs.Parts.{partsOf, TellsParts}
-use Rattle.split_arg.proofs.Parts as P
 use Rattle.split_arg.specs.Clusters.{letters}
 use Rattle.split_arg.specs.declared.Part.{Part}
 use Rattle.split_arg.specs.declared.Item.{Item}
@@ -43,59 +40,58 @@ use Rattle.split_arg.proofs.Item as T
 use Rattle.split_arg.specs.Items.{recordAt, itemOf}
 use Rattle.take_search.specs.Items.{partBytes, HasPart}
 use Rattle.take_search.proofs.Items.{is-short, is-long, is-arg-word, is-word, is-pos-word}
+use Rattle.why_letter.proofs.Laws.{none-small}
+use Rattle.why_letter.proofs.Names.{take-all}
 use Rattle.why_letter.specs.declared.LetterOption.{LetterOption}
 use Rattle.why_letter.specs.declared.LetterOption.the-variants.{None}
-use Rattle.why_letter.specs.Withdrawn.{letterOf, LinePlace, CanExplain, RestTold, LetterTold, ClusterTold, UnknownTold}
+use Rattle.why_letter.specs.Withdrawn.{letterOf, LinePlace, CanExplain, SmallLetter, RestTold, LetterTold, ClusterTold, UnknownTold}
 
 -- ---- an argument
-module _ (l : Letters) (os : List ℕ) (p : Parts) (t : TellsParts os p (splitOsArgument os)) where
-  -- a value behind `=`, or a long name, is no Word
-  not-short : (m : rules.Parts) → partsOf os p ≡ some m → ((m .type ≡ short) × (m .body ≡ none) → ⊥) → ClusterTold l os None
-  not-short m e unlike = record {
-    same = λ word. absurd (unlike (word-parts l os m word (sym (t .same) ∙ ap ok e)));
-  }
+same-bytes : {os a b : List ℕ} {c d e f : ℕ} → os ≡ c ∷ d ∷ a → os ≡ e ∷ f ∷ b → d ∷ a ≡ f ∷ b
+same-bytes p q = ap (drop 1) (sym p ∙ q)
 
-  pub cluster-other : OneOf (0 ∷ 2 ∷ 3 ∷ 4 ∷ []) (tagOf P.the-type p) → ClusterTold l os None
-  unfolding _>>?_
-  cluster-other k = go p refl k
+module _ (l : Letters) (os : List ℕ) (r : Bool) (h : r ≡ isSome (dashedName os)) where
+  pub cluster-none : not r ≡ true → ClusterTold l os None
+  unfolding clusterLetters _>>?_ isSome
+  cluster-none n = record { letter = none-small; same = λ word. go (dashedName os) refl (sym h ∙ not-true r n) }
     where
-      go : (z : Parts) → p ≡ z → OneOf (0 ∷ 2 ∷ 3 ∷ 4 ∷ []) (tagOf P.the-type z) → ClusterTold l os None
-      go parts.None e k = record { same = λ word. rw (no-parts-no-cluster os (sym (t .same) ∙ ap (λ (q : Parts). ok (partsOf os q)) e)) }
-      go (parts.Short n) e k =
-          absurd (⊎-elim (λ (w : _≡_ {A = ℕ} 1 0). omega arith) (⊎-elim (λ (w : _≡_ {A = ℕ} 1 2). omega arith)
-          (⊎-elim (λ (w : _≡_ {A = ℕ} 1 3). omega arith) (λ (w : _≡_ {A = ℕ} 1 4). omega arith))) k)
-      go (parts.ShortBody n j) e k = not-short _ (ap (partsOf os) e) (λ w. some≢none (w .1))
-      go (parts.Long n) e k = not-short _ (ap (partsOf os) e) (λ w. let z : long ≡ short = w .0 in let y : _≡_ {A = ℕ} 0 1 = cc in omega arith)
-      go (parts.LongBody n j) e k = not-short _ (ap (partsOf os) e) (λ w. some≢none (w .1))
+      go : (o : Option (List ℕ)) → dashedName os ≡ o → isSome o ≡ false → none ≡ (clusterLetters os >>? firstUnknown l)
+      go none e f = rw (e, clusterLetters)
+      go (some name) e f = absurd (false≢true (sym f))
 
-  module _ (n : ℕ) (e : p ≡ parts.Short n) where
-    sized : (1 ≤ n) × (1 + n ≡ length os)
-    sized = rw e at (t .sized)
+  module _ (n : not r ≡ false) where
+    named : (name : List ℕ) × (dashedName os ≡ some name)
+    named = is-some (dashedName os) (sym h ∙ not-false r n)
+
+    shape : NameShape os (named .0)
+    shape = name-shape os (named .0) (named .1)
 
     pub name-begins : 1 ≤ length os
-    name-begins = let s = sized in omega (arith, s .1)
+    name-begins = let z = ap length (shape .bytes) in omega arith
 
     -- the name reaches to the end
-    name-whole : take n (drop 1 os) ≡ take (length os - 1) (drop 1 os)
-    name-whole = let s = sized in let z : n ≡ length os - 1 = omega (arith, s .1) in ap (λ (j : ℕ). take j (drop 1 os)) z
+    name-whole : take (length os - 1) (drop 1 os) ≡ named .0
+    name-whole =
+        let s = shape in
+        let z : length os - 1 ≡ length (s .first ∷ s .more) = omega (arith, ap length (s .bytes)) in
+        ap (λ (k : ℕ). take k (drop 1 os)) z
+        ∙ ap (λ (k : List ℕ). take (length (s .first ∷ s .more)) (drop 1 k)) (s .bytes)
+        ∙ take-all (s .first ∷ s .more)
+        ∙ sym (s .all)
 
     pub name-good : wellFormed (take (length os - 1) (drop 1 os)) ≡ true
-    name-good = sym (ap wellFormed name-whole) ∙ rw e at (t .good)
+    name-good = ap wellFormed (name-whole ∙ shape .all) ∙ shape .utf8
 
-    parts-are : splitOsArgument os ≡ ok (some (record { type = short; name = take n (drop 1 os); body = none }))
-    parts-are = sym (t .same) ∙ ap (λ (q : Parts). ok (partsOf os q)) e
-
-    -- a withdrawn argument's name is this one
-    same-name : (w : Withdrawn l os) → w .name ≡ take (length os - 1) (drop 1 os)
-    same-name w = ap (λ (q : rules.Parts). q .name) (Option·some-injective _ _ (ok-injective (sym (w .parts) ∙ parts-are))) ∙ name-whole
-
-    pub cluster-short : (r : LetterOption) → LetterTold l (take (length os - 1) (drop 1 os)) r → ClusterTold l os r
-    cluster-short r h = record {
+    pub cluster-short : (z : LetterOption) → LetterTold l (take (length os - 1) (drop 1 os)) z → ClusterTold l os z
+    unfolding _>>?_
+    cluster-short z k = record {
+      letter = k .letter;
       same = λ word.
-          let w : Withdrawn l os = word-withdrawn l os _ word parts-are in
-          let (c, m, d, u) = withdrawn-letter l os w in
-          let told : LetterTold l (w .name) r = rw (same-name w) h in
-          told .same (w .place) c m (w .outcome) d ∙ sym u;
+          let w : Withdrawn l os = word-withdrawn l os _ word (shape-parts os (named .0) shape) in
+          let cluster = stopped l os w .flags in
+          let c = cluster .shape in
+          let this : take (length os - 1) (drop 1 os) ≡ c .first ∷ c .more = name-whole ∙ shape .all ∙ same-bytes (shape .bytes) (c .bytes) in
+          k .same (cluster .letters) (ap (clusterFrom 0 0) this ∙ c .these) ∙ sym (rw (shape-cluster os (cluster .letters) c));
     }
 
 -- ---- the letters of the form
@@ -112,6 +108,7 @@ unknown-same l m s (some ls) = first-same l m s ls
 -- letters that the form's splitting may be done with
 told-same : (l m : Letters) → SameLetters l m → (os : List ℕ) (r : LetterOption) → ClusterTold l os r → ClusterTold m os r
 told-same l m s os r h = record {
+  letter = h .letter;
   same = λ word. h .same (argument-same l m s os ∙ word) ∙ unknown-same l m s (clusterLetters os);
 }
 
@@ -161,13 +158,14 @@ module _ (b s words : List ℕ) (i : ℕ) where
     -- what is told of a place, from its item's record
     told-by :
         (r : LetterOption)
+        → SmallLetter r
         → ((x : LeftPlace) (y : rules.Item) → LinePlace b s words i x → getElem? (lineItems x) i ≡ some y → itemFrom (sheetArea s) (recordAt words i) ≡ some y → letterOf r ≡ unknownIn x y)
         → UnknownTold b s words i r
-    told-by r h = record { same = λ x y p e. h x y p e (p .table .at i y e) }
+    told-by r small h = record { letter = small; same = λ x y p e. h x y p e (p .table .at i y e) }
 
     pub unknown-other : OneOf (0 ∷ 1 ∷ 2 ∷ 4 ∷ []) (tagOf T.the-type item) → UnknownTold b s words i None
     unfolding isWhole
-    unknown-other k = told-by None (λ x y p e f. not-whole x y (λ os a. go y f os item refl k))
+    unknown-other k = told-by None none-small (λ x y p e f. not-whole x y (λ os a. go y f os item refl k))
       where
         go : (y : rules.Item) → itemFrom (sheetArea s) (recordAt words i) ≡ some y → (os : List ℕ) → (z : Item) → item ≡ z → OneOf (0 ∷ 1 ∷ 2 ∷ 4 ∷ []) (tagOf T.the-type z) → isWhole y os ≡ false
         go y f os (Short c a t) e k = rw (is-short _ _ y f item q c a t e .0)
@@ -220,11 +218,11 @@ module _ (b s words : List ℕ) (i : ℕ) where
               told .same (rw w one) ∙ rw (word-here y f, same-argument, a, ← w, same-self text, p .form)
 
       pub unknown-rest : (r : Bool) → RestTold words i r → r ≡ true → UnknownTold b s words i None
-      unknown-rest r h e = told-by None (λ x y p g f. rest-none x p y g f (rw e at h))
+      unknown-rest r h e = told-by None none-small (λ x y p g f. rest-none x p y g f (rw e at h))
 
       pub unknown-word :
           (r : Bool) → RestTold words i r → r ≡ false
           → (os : List ℕ) → os ≡ partBytes (sheetArea s) t
           → (z : LetterOption) → ClusterTold (lettersOf (readForm b)) os z
           → UnknownTold b s words i z
-      unknown-word r h e os o z told = told-by z (λ x y p g f. whole-told x p y g f (rw e at h) z (rw o at told))
+      unknown-word r h e os o z told = told-by z (told .letter) (λ x y p g f. whole-told x p y g f (rw e at h) z (rw o at told))

@@ -5,15 +5,12 @@ use mathlib.Core.Option.{Option, some, none}
 use mathlib.Core.Path.{_≡_}
 use Prim.Native.Nat.{ℕ, _<_}
 use lib.ListN.{length, getElem?}
-use Rattle.utf8.specs.Utf8.{decodeAt}
-use Rattle.utf8.specs.declared.Decoded.the-variants.{Char}
 use Rattle.rules.specs.Base.{_>>?_}
 use Rattle.rules.specs.Outcome.{ok}
 use Rattle.rules.specs.Sheet.{sheetArea, sheetFault, arguments}
 use Rattle.rules.specs.Form.{readForm}
 use Rattle.rules.specs.Accept.{Accepted, accepted, checkForm, Letters, lettersOf}
-use Rattle.rules.specs.Split.{Item, Word, withdrawn, plain, splitArgument, Split, splitFrom}
-use Rattle.rules.specs.Clusters.{outcomeOf}
+use Rattle.rules.specs.Split.{Item, Word, Letter, clusterFrom, plain, splitArgument, Split, splitFrom}
 use Rattle.rules.specs.WhyAnswered.{behindAdjacent}
 use Rattle.rules.specs.Why.{LeftPlace, lineItems, clusterLetters, firstUnknown, unknownIn}
 use Rattle.form_codes.specs.Codes.{CodedNames}
@@ -47,17 +44,24 @@ pub record CanExplain (b codes s words : List ℕ) (i : ℕ) : Type 0 where
   pub line : LinePlace b s words i spot
 
 -- ---- what each part tells
+-- a letter is a character
+pub record SmallLetter (r : LetterOption) : Type 0 where
+  pub small : (c : ℕ) → letterOf r ≡ some c → c < 1114112
+
 pub record RestTold (words : List ℕ) (i : ℕ) (r : Bool) : Type 0 where
   pub same : (area : List ℕ) (is : List Item) → Table area words is → i < length is → r ≡ behindAdjacent is i
 
--- the letter at the place for which a name is withdrawn
+-- the first unknown letter of a name
 pub record LetterTold (l : Letters) (name : List ℕ) (r : LetterOption) : Type 0 where
-  pub same : (k c n : ℕ) → outcomeOf l name ≡ ok (withdrawn k) → decodeAt name k ≡ Char c n → letterOf r ≡ some c
+  pub letter : SmallLetter r
+  pub same : (ls : List Letter) → clusterFrom 0 0 name ≡ ok ls → letterOf r ≡ firstUnknown l ls
 
 -- the first unknown letter of an argument that became one Word
 pub record ClusterTold (l : Letters) (os : List ℕ) (r : LetterOption) : Type 0 where
+  pub letter : SmallLetter r
   pub same : splitArgument l os ≡ ok (plain (Word os ∷ [])) → letterOf r ≡ (clusterLetters os >>? firstUnknown l)
 
 -- of a place
 pub record UnknownTold (b s words : List ℕ) (i : ℕ) (r : LetterOption) : Type 0 where
+  pub letter : SmallLetter r
   pub same : (x : LeftPlace) (y : Item) → LinePlace b s words i x → getElem? (lineItems x) i ≡ some y → letterOf r ≡ unknownIn x y

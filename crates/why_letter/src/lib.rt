@@ -1,15 +1,15 @@
 // The letter for which a cluster was withdrawn: the first that no flag and no argument of the form has.
 ghost use mathlib.Core.Path.{_≡_};
-ghost use mathlib.Core.Bool.{true};
+ghost use mathlib.Core.Bool.{true, _||_};
 ghost use Prim.Native.Nat.{_*_, _≤_};
-ghost use lib.ListN.{length, replicate};
+ghost use lib.ListN.{length, drop, replicate};
 ghost use Rattle.utf8.specs.Utf8.{wellFormed};
+ghost use Rattle.rules.specs.Base.{contains, isSome};
+ghost use Rattle.rules.specs.Split.{behindEquals};
+ghost use Rattle.rules.specs.Why.{dashedName};
 ghost use Rattle.split_arg.specs.Clusters.{letters};
-ghost use Rattle.split_arg.specs.Order.{CanLookUp};
 ghost use Rattle.why_letter.specs.Withdrawn.{CanExplain, RestTold, LetterTold, ClusterTold, UnknownTold};
 use split_arg::Item;
-use split_arg::Outcome;
-use split_arg::Parts;
 use utf8::Decoded;
 
 pub enum LetterOption {
@@ -18,7 +18,7 @@ pub enum LetterOption {
 }
 
 // Whether the item before place i is a Short that has its value in its own argument: a Word behind it is the rest of that argument.
-fn is_rest(items: &[u32], i: usize) -> bool
+pub fn is_rest(items: &[u32], i: usize) -> bool
     requires { ⌜ 7 * i ≤ length (now items) ⌝ }
     ensures { λ r. ⌜ RestTold (now (items .entry)) i r ⌝ }
 {
@@ -32,31 +32,89 @@ fn is_rest(items: &[u32], i: usize) -> bool
     own
 }
 
-// Of a name for which a cluster is withdrawn, the letter.
-fn withdrawn_letter(name: &[u8], flags: &[u32], arguments: &[u32]) -> LetterOption
-    requires { ⌜ (wellFormed (now name) ≡ true) × CanLookUp (now flags) (now arguments) ⌝ }
+fn knows(s: &[u32], letter: u32) -> bool
+    ensures { λ r. ⌜ r ≡ contains (now (s .entry)) letter ⌝ }
+{
+    let mut i = 0;
+    while i < s.len() {
+        if s[i] == letter {
+            return true;
+        }
+        i += 1;
+    }
+    false
+}
+
+// Whether a letter is a flag's or an argument's.
+fn is_known(flags: &[u32], arguments: &[u32], letter: u32) -> bool
+    ensures { λ r. ⌜ r ≡ (contains (now (flags .entry)) letter || contains (now (arguments .entry)) letter) ⌝ }
+{
+    if knows(flags, letter) {
+        return true;
+    }
+    knows(arguments, letter)
+}
+
+// The first letter of a name that is not.
+fn first_unknown(name: &[u8], flags: &[u32], arguments: &[u32]) -> LetterOption
+    requires { ⌜ wellFormed (now name) ≡ true ⌝ }
     ensures { λ r. ⌜ LetterTold (letters (now (flags .entry)) (now (arguments .entry))) (now (name .entry)) r ⌝ }
 {
-    let outcome = split_arg::disambiguate_short(name, flags, arguments);
-    let Outcome::Withdrawn { place } = outcome else {
-        return LetterOption::None;
-    };
-    let Decoded::Char(letter, _) = split_arg::letter_at(name, place) else {
-        return LetterOption::None;
-    };
-    LetterOption::Some(letter)
+    let mut at = 0;
+    loop {
+        let Decoded::Char(letter, size) = split_arg::letter_at(name, at) else {
+            return LetterOption::None;
+        };
+        if !is_known(flags, arguments, letter) {
+            return LetterOption::Some(letter);
+        }
+        at += size;
+    }
+}
+
+// Whether an `=` stands from a byte on.
+fn has_equals(os: &[u8], from: usize) -> bool
+    requires { ⌜ from ≤ length (now os) ⌝ }
+    ensures { λ r. ⌜ r ≡ isSome (behindEquals (drop from (now (os .entry)))) ⌝ }
+{
+    let mut i = from;
+    while i < os.len() {
+        if os[i] == b'=' {
+            return true;
+        }
+        i += 1;
+    }
+    false
+}
+
+// Whether an argument has one dash and a UTF-8 name with no `=` behind its first byte. Splitting asks this too, and looks letters up; with
+// a second caller the compiler would leave calls in splitting that it now puts in place, and every line would take longer.
+fn has_name(os: &[u8]) -> bool
+    ensures { λ r. ⌜ r ≡ isSome (dashedName (now (os .entry))) ⌝ }
+{
+    if os.len() < 2 {
+        return false;
+    }
+    if os[0] != b'-' {
+        return false;
+    }
+    if os[1] == b'-' {
+        return false;
+    }
+    if has_equals(os, 2) {
+        return false;
+    }
+    utf8::valid(&os[1..])
 }
 
 // Of an argument that became one Word, the first unknown letter, if it looks like a cluster.
 fn cluster_letter(os: &[u8], flags: &[u32], arguments: &[u32]) -> LetterOption
-    requires { ⌜ CanLookUp (now flags) (now arguments) ⌝ }
     ensures { λ r. ⌜ ClusterTold (letters (now (flags .entry)) (now (arguments .entry))) (now (os .entry)) r ⌝ }
 {
-    let parts = split_arg::split_os_argument(os);
-    let Parts::Short { name: _ } = parts else {
+    if !has_name(os) {
         return LetterOption::None;
-    };
-    withdrawn_letter(&os[1..], flags, arguments)
+    }
+    first_unknown(&os[1..], flags, arguments)
 }
 
 fn no_letters() -> [u32; 128]

@@ -71,7 +71,7 @@ fn field(rng: &mut Rng) -> String {
     }
 }
 
-fn spare_name(rng: &mut Rng, form: &mut Form) {
+pub fn spare_name(rng: &mut Rng, form: &mut Form) {
     let (ty, name) = *rng.pick(&SPARE);
     form.names.push(Name { ty, offset: form.area.len() as u16, length: name.len() as u16 });
     form.area.extend(name.as_bytes());

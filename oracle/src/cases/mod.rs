@@ -6,6 +6,7 @@ mod batches;
 mod commands;
 mod contested;
 mod damaged;
+mod dashed;
 mod forms;
 mod left_over;
 mod limits;
@@ -20,6 +21,7 @@ pub use batches::{agreeing, batched, damaged_batch, each_number, good_batches, l
 pub use commands::{commanded, damaged_commands, TableCase};
 pub use contested::contested;
 pub use damaged::{damaged, forms_at_fault};
+pub use dashed::dashed;
 pub use left_over::left_over;
 pub use limits::{chain, limits, shared};
 pub use short_lines::{sample_forms, short_lines};

@@ -7,6 +7,7 @@ use super::limits::{good_forms, limit_forms, limit_sheets, longest};
 use super::*;
 use crate::batches::{self, SHEETS};
 use crate::commands::{Command, Table, ENTRIES};
+use crate::looks::{at_marker, looks_like_options, Reading};
 use crate::notation;
 
 const CASES: usize = 20_000;
@@ -315,6 +316,30 @@ fn left_over_cases_have_names_of_no_node_and_lack_positionals() {
     assert!((CASES / 4..3 * CASES / 4).contains(&bare), "{bare}");
     assert!(spare > CASES / 8 && again > CASES / 8, "{spare} {again}");
     let none = [SOME, LAST];
+    let all = (FLAG..=GUARD).filter(|k| !none.contains(k)).map(|k| (k, 0)).chain([(POSITIONAL, 1), (POSITIONAL, 2)]);
+    assert_eq!(kinds, all.collect());
+}
+
+#[test]
+fn dashed_cases_have_words_that_look_like_options() {
+    let mut rng = Rng::new(1);
+    let (mut letters, mut names, mut dashes, mut behind, mut kinds) = (0, 0, 0, 0, BTreeSet::new());
+    for _ in 0..CASES {
+        let case = dashed(&mut rng);
+        let form = Form::check(&case.form).expect("an accepted form");
+        let sheet = Sheet::check(&case.sheet).expect("a sheet");
+        let misread = Reading::of(&form, &sheet.arguments).misread;
+        let (before, after) = at_marker(&sheet.arguments);
+        letters += usize::from(misread.iter().any(|m| m.letter.is_some()));
+        names += usize::from(misread.iter().any(|m| m.letter.is_none()));
+        dashes += usize::from(before.iter().any(|a| a == b"-"));
+        behind += usize::from(after.iter().any(|a| a != b"--" && looks_like_options(a)));
+        kinds.extend(form.nodes.iter().map(|n| (n.kind, if n.kind == POSITIONAL { n.p } else { 0 })));
+    }
+    for seen in [letters, names, dashes, behind] {
+        assert!((CASES / 16..CASES / 2).contains(&seen), "{letters} {names} {dashes} {behind}");
+    }
+    let none = [CHOICE, FALLBACK, GUARD];
     let all = (FLAG..=GUARD).filter(|k| !none.contains(k)).map(|k| (k, 0)).chain([(POSITIONAL, 1), (POSITIONAL, 2)]);
     assert_eq!(kinds, all.collect());
 }

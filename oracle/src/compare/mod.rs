@@ -3,6 +3,8 @@
 mod batch_slices;
 mod batches;
 mod calls;
+mod careful;
+mod careful_known;
 mod checks;
 #[cfg(live)]
 mod command_slices;
@@ -92,6 +94,7 @@ pub fn compare(layer: &str, seed: u64, count: Option<u64>) -> Option<Compared> {
         "batches" => batches::compare(seed, count.unwrap_or(100_000)),
         "forged-tables" => tables::compare(seed, count.unwrap_or(200_000)),
         "why" => why::compare(seed, count.unwrap_or(1_000_000)),
+        "careful" => careful::compare(seed, count.unwrap_or(1_000_000)),
         #[cfg(live)]
         "calls" => calls::compare(seed, count.unwrap_or(300_000)),
         #[cfg(live)]

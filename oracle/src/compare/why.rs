@@ -246,7 +246,7 @@ fn places(rng: &mut Rng, asked: &Asked) -> Vec<usize> {
 }
 
 /// The stated lengths, in a third of the cases longer; now and then one of them a word short or none.
-fn lengths(rng: &mut Rng) -> Lengths {
+pub fn lengths(rng: &mut Rng) -> Lengths {
     let more = rng.chance(1, 3);
     let mut lengths = LEAST.map(|length| length + if more { 1 + rng.below(29) } else { 0 });
     if rng.chance(1, 32) {

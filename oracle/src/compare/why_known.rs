@@ -65,17 +65,17 @@ const DOUBTFUL: [Known; 17] = [
     ("operand", &[b"a", "-😀".as_bytes(), b"-x"], &[USED, (4, 0), (4, 0)]),
 ];
 
-fn of(form: &Form, arguments: &[&[u8]]) -> Case {
+pub fn of(form: &Form, arguments: &[&[u8]]) -> Case {
     let sheet = Sheet { arguments: arguments.iter().map(|a| a.to_vec()).collect() };
     Case { form: form.write(), sheet: sheet.write() }
 }
 
-fn parsed(form: &str) -> Form {
+pub fn parsed(form: &str) -> Form {
     notation::parse(form).expect("the notation")
 }
 
 /// The least lengths; each slice longer, a word short or none; all longer, all short, and none.
-fn all_lengths() -> Vec<Lengths> {
+pub fn all_lengths() -> Vec<Lengths> {
     let mut all = vec![LEAST, LEAST.map(|length| length + 29), LEAST.map(|length| length - 1), [0; 3]];
     for k in 0..3 {
         for length in [LEAST[k] + 1, LEAST[k] + 100, LEAST[k] - 1, 0] {

@@ -5,6 +5,7 @@ mod batch;
 mod benchmarks;
 #[cfg(beside)]
 mod beside;
+mod careful;
 mod clock;
 mod commands;
 mod counts;
@@ -31,8 +32,9 @@ measure stack           the deepest use of the stack
 measure slowest         inputs that take long; fails if one takes over 20 ms
 measure commands        lines of commands, and clusters under the largest tables; fails if one takes over 20 ms
 measure batch           six lines in one call; fails if that is not 1.5 times as fast as six calls, clearing left out
+measure careful         the careful run beside the plain one; fails if one line takes over 3 % more instructions
 measure profile [NAME]  the functions that the instructions of a benchmark, or of each, are in
-measure count PART      runs every side of `lines` or `batch` a few times, for callgrind to count
+measure count PART      runs every side of `lines`, `batch` or `careful` a few times, for callgrind to count
 ";
 
 const LINES: &str = "
@@ -83,6 +85,12 @@ const BATCH: &str = "
 
 Six calls of `run` over the same slices beside one call of `run_batch` over six parts, in turn in one process. Clearing is the
 writing of zeros alone, to the words that either has to clear; instructions are callgrind's.
+";
+
+const CAREFUL: &str = "
+## The careful run
+
+Instructions of whole calls on the accepted lines above, clearing and all, by callgrind, which counts it byte by byte.
 ";
 
 fn same() -> bool {
@@ -144,6 +152,11 @@ fn batch() -> bool {
     batch::print()
 }
 
+fn careful() -> bool {
+    println!("{CAREFUL}");
+    careful::print()
+}
+
 /// What callgrind is to count.
 fn count(count: fn()) -> bool {
     count();
@@ -154,7 +167,7 @@ fn main() -> ExitCode {
     let words: Vec<String> = std::env::args().skip(1).collect();
     let words: Vec<&str> = words.iter().map(String::as_str).collect();
     let good = match words[..] {
-        ["all", file] => lines() & others() & growth(file) & stack() & slowest() & commands() & batch(),
+        ["all", file] => lines() & others() & growth(file) & stack() & slowest() & commands() & batch() & careful(),
         ["same"] => same(),
         ["lines"] => lines(),
         ["beside", _] => beside(),
@@ -164,10 +177,12 @@ fn main() -> ExitCode {
         ["slowest"] => slowest(),
         ["commands"] => commands(),
         ["batch"] => batch(),
+        ["careful"] => careful(),
         ["profile"] => table::print_profile(None),
         ["profile", name] => table::print_profile(Some(name)),
         ["count", "lines"] => count(table::count),
         ["count", "batch"] => count(batch::count),
+        ["count", "careful"] => count(careful::count),
         _ => {
             print!("{USAGE}");
             false

@@ -1,29 +1,26 @@
--- By the parts of the argument. Assumes nothing.
-use Rattle.why_letter.proofs.Clusters.{cluster-other, name-begins, name-good, cluster-short}
+-- By whether it has a name. Assumes nothing.
+use Rattle.why_letter.proofs.Clusters.{cluster-none, name-begins, name-good, cluster-short}
 use borrow.Author.Needs.{needs}
 use Rattle.why_letter.proofs.cluster_letter.Statement.{statement}
 use Rattle.why_letter.proofs.cluster_letter.Tie as tie
 
-split-os-argument-requires : tie.Need-split-os-argument-requires
-split-os-argument-requires c κs = search needs
-
-enum-told : tie.Need-enum-told
-enum-told c = search needs
+has-name-requires : tie.Need-has-name-requires
+has-name-requires c κs = search needs
 
 returns : tie.Need-returns
-returns c = search cluster-other
+returns c = search cluster-none
 
-sub-withdrawn-letter : tie.Need-sub-withdrawn-letter
-sub-withdrawn-letter c = search (name-begins, needs)
+sub-first-unknown : tie.Need-sub-first-unknown
+sub-first-unknown c = search (name-begins, needs)
 
-part-withdrawn-letter-start : tie.Need-part-withdrawn-letter-start
-part-withdrawn-letter-start c = search (name-begins, needs)
+part-first-unknown-start : tie.Need-part-first-unknown-start
+part-first-unknown-start c = search (name-begins, needs)
 
-part-withdrawn-letter-end : tie.Need-part-withdrawn-letter-end
-part-withdrawn-letter-end c = search needs
+part-first-unknown-end : tie.Need-part-first-unknown-end
+part-first-unknown-end c = search needs
 
-withdrawn-letter-requires : tie.Need-withdrawn-letter-requires
-withdrawn-letter-requires c κs = (search name-good, search needs)
+first-unknown-requires : tie.Need-first-unknown-requires
+first-unknown-requires c κs = search name-good
 
 returns-2 : tie.Need-returns-2
 returns-2 c = search cluster-short
@@ -32,11 +29,10 @@ pub cluster-letter-spec : {M : Type 1} → statement M
 cluster-letter-spec =
     tie.close
     (tie.spec
-    split-os-argument-requires
-    enum-told
+    has-name-requires
     returns
-    sub-withdrawn-letter
-    part-withdrawn-letter-start
-    part-withdrawn-letter-end
-    withdrawn-letter-requires
+    sub-first-unknown
+    part-first-unknown-start
+    part-first-unknown-end
+    first-unknown-requires
     returns-2)

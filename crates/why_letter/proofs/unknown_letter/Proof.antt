@@ -1,6 +1,5 @@
 -- By the item, and for a Word that is a whole argument by its letters. Assumes nothing.
 use Rattle.form_letters.proofs.Words.{letters-fit}
-use Rattle.split_line.proofs.Lines.{scanned-letters}
 use Rattle.why_letter.proofs.Clusters.{explain-names, explain-room, explain-before, buffers-told, unknown-other, word-part, unknown-rest, unknown-word}
 use borrow.Author.Needs.{needs}
 use Rattle.why_letter.proofs.unknown_letter.Statement.{statement}
@@ -52,7 +51,7 @@ part-cluster-letter-end-2 : tie.Need-part-cluster-letter-end-2
 part-cluster-letter-end-2 c = search (letters-fit, explain-names, needs)
 
 cluster-letter-requires : tie.Need-cluster-letter-requires
-cluster-letter-requires c κs = search scanned-letters
+cluster-letter-requires c κs = search needs
 
 returns-3 : tie.Need-returns-3
 returns-3 c = search (unknown-word, buffers-told)

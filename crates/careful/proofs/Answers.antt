@@ -1,0 +1,183 @@
+-- From what the run hands back to what the careful run answers.
+use mathlib.Core.Bool.{false}
+use mathlib.Core.List.{List, []}
+use mathlib.Core.Option.{Option, some, none}
+use mathlib.Core.Path.{_≡_, refl, sym, ap, subst, _∙_}
+use Prim.Native.Nat.{ℕ, suc, _+_, _<_}
+use native.Mathlib.Omega.{arith}
+use lib.Dec.{eqb}
+use lib.ListN.{length, replicate}
+use lib.Seq.{sets}
+use borrow.Author.Tests.{eq-eqb, ne-eqb}
+use Rattle.utf8.specs.Utf8.{if_then_else_}
+use Rattle.rules.specs.Outcome.{ok, _>>=_}
+use Rattle.rules.specs.Sheet.{sheetArea, arguments}
+use Rattle.rules.specs.Form.{readForm}
+use Rattle.rules.specs.Accept.{lettersOf}
+use Rattle.rules.specs.Split.{itemsOf}
+use Rattle.rules.specs.Run.{Report, padded, split, run}
+use Rattle.rules.specs.Commands.{splitWith}
+use Rattle.rules.specs.Codes.{placeCode}
+use Rattle.rules.specs.Calls.{toRaw}
+use Rattle.rules.specs.declared.State.{State as Raw}
+use Rattle.rules.specs.Why.{LeftPlace, lineItems}
+use Rattle.rules.specs.Careful.{firstMisread, misreadLetter, refusedWord, lookAt, careful}
+use Rattle.rules.proofs.Acceptance.{lookup-some}
+use Rattle.rules.proofs.Demand1Holds.{demand1}
+use Rattle.rules.proofs.InputFaults.{padded-nil}
+use Rattle.rules.proofs.SplitLaws.{ok-injective}
+use Rattle.rules.proofs.LooksLaws.{AcceptedLine, accepted-line, accepted-list, misread-letter}
+use Rattle.split_args.proofs.States.{all-zero}
+use Rattle.take_search.specs.Items.{Table}
+use Rattle.form_codes.specs.Codes.{CodedNames}
+use Rattle.form_layout.specs.Layout.{GoodNames}
+use Rattle.form_layout.proofs.Sizes.{accepted-names}
+use Rattle.run_fields.specs.declared.RunAnswer.{RunAnswer}
+use Rattle.run.specs.Runner.{runAnswer}
+use Rattle.run.proofs.Back.{line-table}
+use Rattle.run.proofs.Told.{RunTold, run-told}
+use Rattle.why_letter.specs.declared.LetterOption.{LetterOption}
+use Rattle.why_letter.specs.Withdrawn.{LinePlace, CanExplain, UnknownTold}
+use Rattle.careful.specs.declared.CarefulAnswer.{CarefulAnswer}
+use Rattle.careful_words.specs.Looking.{LineIs, HasLine, Finds}
+use Rattle.careful_words.proofs.Laws.{found-misread}
+use Rattle.careful.specs.Looked.{letterCode, asRun, CarefulEnded, carefulAnswer}
+
+-- an answer and its slices, part by part
+same-ended :
+    {n m k l t u v w c d : ℕ} {x y : Raw} {i j p q e f : List ℕ}
+    → n ≡ m → k ≡ l → t ≡ u → v ≡ w → c ≡ d → x ≡ y → i ≡ j → p ≡ q → e ≡ f
+    → _≡_ {A = Option CarefulEnded}
+    (some (record { answer = record { number = n; place = k; tries = t; words = v; letter = c; state = x }; items = i; answers = p; list = e }))
+    (some (record { answer = record { number = m; place = l; tries = u; words = w; letter = d; state = y }; items = j; answers = q; list = f }))
+same-ended n k t v c x i p e = λ z. some (record {
+  answer = record { number = n z; place = k z; tries = t z; words = v z; letter = c z; state = x z };
+  items = i z;
+  answers = p z;
+  list = e z;
+})
+
+module _ (b s : List ℕ) (ni na nl : ℕ) (r : RunAnswer) (is os ls : List ℕ) (ran : runAnswer (run b s ni na nl) ≡ some (record { answer = r; items = is; answers = os; list = ls })) where
+  x : RunTold (run b s ni na nl) r is os ls
+  x = run-told (run b s ni na nl) r is os ls ran
+
+  abbrev report : Report
+  report = x .report
+
+  abbrev ended : CarefulAnswer → List ℕ → Option CarefulEnded
+  ended q a = some (record { answer = q; items = is; answers = a; list = ls })
+
+  -- as the run ended
+  as-ran : carefulAnswer (ok (record { report = report; letter = 0 })) ≡ ended (asRun r) os
+  unfolding carefulAnswer
+  as-ran = same-ended (sym (x .number)) (sym (x .place)) (sym (x .tries)) (sym (x .words)) refl (sym (x .state)) (x .items) (x .answers) (x .list)
+
+  pub answer-refused : (r .number ≡ 0 → ⊥) → (q : CarefulAnswer) → q ≡ asRun r → carefulAnswer (careful b s ni na nl) ≡ ended q os
+  unfolding careful _>>=_ if_then_else_
+  answer-refused n q d =
+      let other : eqb (report .number) 0 ≡ false = ne-eqb (report .number) 0 (λ e. n (x .number ∙ e)) in
+      let done : careful b s ni na nl ≡ ok (record { report = report; letter = 0 }) = rw (x .same, other) in
+      ap carefulAnswer done ∙ as-ran ∙ ap (λ (z : CarefulAnswer). ended z os) (sym d)
+
+  module _ (n : r .number ≡ 0) where
+    ended-well : report .number ≡ 0
+    ended-well = sym (x .number) ∙ n
+
+    over : AcceptedLine b s ni report
+    over = accepted-line b s ni na nl report (x .same) ended-well
+
+    module _ (count : ℕ) (c : count ≡ r .state .count) where
+      count-is : length (itemsOf (over .given)) ≡ count
+      unfolding toRaw
+      count-is = sym (ap length (over .items)) ∙ sym (over .marks) ∙ sym (ap (λ (z : Raw). z .count) (x .state)) ∙ sym c
+
+      line : LineIs s is count (lettersOf (readForm b)) (over .given)
+      unfolding split splitWith
+      line =
+          let o = over in
+          let table = line-table (lettersOf (readForm b)) s (o .line) ni (o .made) (o .splits) (o .free) (o .good) (o .room) in
+          record {
+            splits = o .grouped;
+            clear = o .clear;
+            made = o .made;
+            table =
+                subst (λ (w : List ℕ). Table (sheetArea s) w (itemsOf (o .given))) (sym (o .records) ∙ x .items)
+                (subst (Table (sheetArea s) (padded ni (o .line .records))) (o .items) table);
+            long = count-is;
+            few = omega (arith, count-is, o .good .few, ap length (o .items));
+          }
+
+      pub line-asked : HasLine s is count
+      line-asked = record { letters = lettersOf (readForm b); given = over .given; line = line }
+
+      looked : (p : ℕ) → Finds s is count p → (f : Option ℕ) → (if eqb p count then none else some p) ≡ f
+          → careful b s ni na nl ≡ ok (elim f [
+            | none ↦ record { report = report; letter = 0 }
+            | some i ↦ record { report = refusedWord na nl report i; letter = misreadLetter (lettersOf (readForm b)) (arguments s) (over .given .groups) i }
+          ])
+      unfolding careful lookAt _>>=_ if_then_else_
+      looked p h f e =
+          let found : firstMisread (arguments s) (over .given .groups) ≡ f = h .same (lettersOf (readForm b)) (over .given) line ∙ e in
+          rw (x .same, eq-eqb (report .number) 0 ended-well, over .grouped, found, lookAt)
+
+      pub answer-clean : (p : ℕ) → Finds s is count p → p ≡ count → (q : CarefulAnswer) → q ≡ asRun r → carefulAnswer (careful b s ni na nl) ≡ ended q os
+      unfolding if_then_else_
+      answer-clean p h e q d =
+          ap carefulAnswer (looked p h none (rw (eq-eqb p count e))) ∙ as-ran ∙ ap (λ (z : CarefulAnswer). ended z os) (sym d)
+
+      module _ (p : ℕ) (h : Finds s is count p) (e : p ≡ count → ⊥) where
+        inside : p < count
+        inside = omega (arith, h .within)
+
+        pub misread-names : GoodNames b
+        misread-names = accepted-names b (over .result) (over .accepts)
+
+        abbrev spot : LeftPlace
+        spot = record { form = readForm b; arguments = arguments s; groups = over .given .groups; marks = []; place = p }
+
+        spot-line : LinePlace b s is p spot
+        unfolding lineItems itemsOf
+        spot-line = record {
+          form = refl;
+          args = refl;
+          given = over .given;
+          splits = over .grouped;
+          clear = over .clear;
+          groups = refl;
+          place = refl;
+          made = over .made;
+          table = line .table;
+          below = omega (arith, inside, count-is);
+        }
+
+        pub misread-asked : (codes : List ℕ) → CodedNames b codes → CanExplain b codes s is p
+        misread-asked codes k = record { result = over .result; accepts = over .accepts; coded = k; spot = spot; line = spot-line }
+
+        found : firstMisread (arguments s) (over .given .groups) ≡ some p
+        unfolding if_then_else_
+        found = h .same (lettersOf (readForm b)) (over .given) line ∙ rw (ne-eqb p count e)
+
+        letter-is : (u : LetterOption) → UnknownTold b s is p u → misreadLetter (lettersOf (readForm b)) (arguments s) (over .given .groups) p ≡ letterCode u
+        unfolding letterCode lineItems
+        letter-is u t =
+            let y = lookup-some (lineItems spot) p (spot-line .below) in
+            misread-letter b (arguments s) (over .given .groups) [] p (y .0) (y .1) (found-misread (arguments s) (over .given .groups) p found)
+            ∙ ap placeCode (sym (t .same spot (y .0) spot-line (y .1)))
+
+        pub answer-misread : (u : LetterOption) → UnknownTold b s is p u → (k : ℕ) → k ≡ letterCode u → (a : List ℕ) → a ≡ sets os 0 (replicate (length os) 0)
+            → carefulAnswer (careful b s ni na nl) ≡ ended (record { number = 50; place = p + 1; tries = r .tries; words = 0; letter = k; state = r .state }) a
+        unfolding carefulAnswer refusedWord if_then_else_
+        answer-misread u t k d a z =
+            let long : length os ≡ na = sym (ap length (x .answers)) ∙ answers-long in
+            let cleared : padded na [] ≡ a = padded-nil na ∙ sym (z ∙ all-zero os (length os) refl ∙ ap (λ (j : ℕ). replicate j 0) long) in
+            let listed : padded nl [] ≡ ls = sym (accepted-list b s ni na nl report (x .same) ended-well) ∙ x .list in
+            let lettered = letter-is u t ∙ sym d in
+            let after : p + 1 ≡ suc p = omega arith in
+            ap carefulAnswer (looked p h (some p) (rw (ne-eqb p count e)))
+            ∙ same-ended refl (sym after) (sym (x .tries)) refl lettered (sym (x .state)) (x .items) cleared listed
+          where
+            answers-long : length (report .answers) ≡ na
+            answers-long =
+                let d = demand1 b s ni na nl in
+                let same : d .report ≡ report = ok-injective (sym (d .answered) ∙ x .same) in
+                sym (ap (λ (y : Report). length (y .answers)) same) ∙ d .answers

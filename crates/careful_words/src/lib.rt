@@ -1,0 +1,53 @@
+// The lowest place at which an argument that looks like options is a word.
+ghost use mathlib.Core.Path.{_≡_};
+ghost use Prim.Native.Nat.{_<_};
+ghost use Rattle.wire.specs.Wire.{areaStart};
+ghost use Rattle.rules.specs.Sheet.{argumentCount};
+ghost use Rattle.careful_words.specs.Looking.{HasLine, WordLooks, LooksAt, Finds};
+use wire::wide;
+
+// The kind of a Word. A record has the offset and the length of its text in its last two words.
+const WORD: u32 = 4;
+
+// Whether record i is a Word that begins with a dash and is longer than `-`. It reads no more of the record than it needs: most items
+// are done with after a word or two.
+fn looks_like_options(sheet: &[u8], area: usize, items: &[u32], i: usize, count: usize) -> bool
+    requires { ⌜ HasLine (now sheet) (now items) count × (i < count) × (area ≡ areaStart 2 (argumentCount (now sheet))) ⌝ }
+    ensures { λ r. ⌜ WordLooks (now (sheet .entry)) (now (items .entry)) count i r ⌝ }
+{
+    let at = 7 * i;
+    if items[at] != WORD {
+        return false;
+    }
+    if items[at + 6] < 2 {
+        return false;
+    }
+    sheet[area + wide(items[at + 5])] == b'-'
+}
+
+// Whether item i is all of its argument too.
+fn is_misread(sheet: &[u8], area: usize, items: &[u32], i: usize, count: usize) -> bool
+    requires { ⌜ HasLine (now sheet) (now items) count × (i < count) × (area ≡ areaStart 2 (argumentCount (now sheet))) ⌝ }
+    ensures { λ r. ⌜ LooksAt (now (sheet .entry)) (now (items .entry)) count i r ⌝ }
+{
+    if !looks_like_options(sheet, area, items, i, count) {
+        return false;
+    }
+    !why_letter::is_rest(items, i)
+}
+
+// The lowest place of such an item, or the count.
+pub fn first_misread(sheet: &[u8], items: &[u32], count: usize) -> usize
+    requires { ⌜ HasLine (now sheet) (now items) count ⌝ }
+    ensures { λ r. ⌜ Finds (now (sheet .entry)) (now (items .entry)) count r ⌝ }
+{
+    let area = wire::area_start(2, split_sheet::count(sheet));
+    let mut i = 0;
+    while i < count {
+        if is_misread(sheet, area, items, i, count) {
+            return i;
+        }
+        i += 1;
+    }
+    i
+}
