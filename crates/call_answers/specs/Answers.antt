@@ -8,8 +8,11 @@ use Rattle.rules.specs.State.{Conflict, Picked, Scope}
 use Rattle.rules.specs.Take.{Taken, Operand}
 use Rattle.rules.specs.Calls.{Called}
 use Rattle.rules.specs.declared.State.{State as Raw}
+use Rattle.utf8.specs.declared.Decoded.{Decoded}
+use Rattle.utf8.specs.declared.Decoded.the-variants.{Char, Bad}
 use Rattle.call_answers.specs.declared.Answer.{Answer}
 use Rattle.call_answers.specs.declared.StateAnswer.{StateAnswer}
+use Rattle.call_answers.specs.declared.Decoding.{Decoding}
 
 -- an answer in three numbers
 pub record Coded : Type 0 where
@@ -94,3 +97,8 @@ stateAnswerOf code (ok c) = some (record {
 })
 stateAnswerOf code (refused e) = none
 stateAnswerOf code (fault x) = none
+
+-- a character and its size, or none
+abbrev pub decoding : Decoded → Decoding
+decoding (Char value size) = record { found = true; character = value; size = size }
+decoding Bad = record { found = false; character = 0; size = 0 }

@@ -1,8 +1,10 @@
 // What a single call hands back: how it ended, and its answer in three numbers. Refused, the three are 0.
 ghost use mathlib.Core.Path.{_≡_};
 ghost use Prim.Native.Nat.{_≤_};
-ghost use Rattle.call_answers.specs.Answers.{coded, yesNo, answerWith, stateWith};
+ghost use Rattle.utf8.specs.Utf8.{decodeAt};
+ghost use Rattle.call_answers.specs.Answers.{coded, yesNo, answerWith, stateWith, decoding};
 use rules::State;
+use utf8::Decoded;
 
 // The refusals of single calls: a slice, or the list, is too short; no word is left for a positional, a key has no value; there is no such
 // node, name, place or scope; a state, or an item record, breaks its rule.
@@ -39,6 +41,14 @@ pub struct StateAnswer {
     pub first: u32,
     pub second: u32,
     pub state: State,
+}
+
+// The character at a place. Where there is none, found is false and the numbers are 0.
+#[repr(C)]
+pub struct Decoding {
+    pub found: bool,
+    pub character: u32,
+    pub size: u32,
 }
 
 // Yes 1, no 0.
@@ -109,5 +119,24 @@ pub fn changed(found: u32, first: u32, second: u32, s: State) -> StateAnswer
         first,
         second,
         state: s,
+    }
+}
+
+// The character of a text that begins at a byte.
+pub fn decode(s: &[u8], at: usize) -> Decoding
+    ensures { λ r. ⌜ r ≡ decoding (decodeAt (now (s .entry)) at) ⌝ }
+{
+    let d = utf8::decode_at(s, at);
+    match d {
+        Decoded::Char(value, size) => Decoding {
+            found: true,
+            character: value,
+            size: size as u32,
+        },
+        Decoded::Bad => Decoding {
+            found: false,
+            character: 0,
+            size: 0,
+        },
     }
 }

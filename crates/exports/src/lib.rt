@@ -12,21 +12,13 @@ ghost use Rattle.rules.specs.Run as Run;
 ghost use Rattle.run.specs.Runner.{runAnswer};
 ghost use Rattle.call_check.specs.Reader.{sheetCode, told, yesCode, splittingOf};
 ghost use Rattle.call_text.specs.Text.{PartOf};
-ghost use Rattle.exports.specs.Exports.{decoding};
+ghost use Rattle.call_answers.specs.Answers.{decoding};
+use call_answers::Decoding;
 use call_check::SplitAnswer;
 use call_check::Told;
 use call_text::TextPart;
 use rules::Refused;
 use run_fields::RunAnswer;
-use utf8::Decoded;
-
-// The character at a place. Where there is none, found is false and the numbers are 0.
-#[repr(C)]
-pub struct Decoding {
-    pub found: bool,
-    pub character: u32,
-    pub size: u32,
-}
 
 #[no_mangle]
 pub extern "C" fn silverpoise_utf8_valid(s: &[u8]) -> bool
@@ -39,19 +31,7 @@ pub extern "C" fn silverpoise_utf8_valid(s: &[u8]) -> bool
 pub extern "C" fn silverpoise_utf8_decode(s: &[u8], at: usize) -> Decoding
     ensures { λ r. ⌜ r ≡ decoding (decodeAt (now (s .entry)) at) ⌝ }
 {
-    let d = utf8::decode_at(s, at);
-    match d {
-        Decoded::Char(value, size) => Decoding {
-            found: true,
-            character: value,
-            size: size as u32,
-        },
-        Decoded::Bad => Decoding {
-            found: false,
-            character: 0,
-            size: 0,
-        },
-    }
+    call_answers::decode(s, at)
 }
 
 #[no_mangle]

@@ -6,7 +6,7 @@ ghost use lib.ListN.{length};
 ghost use Rattle.rules.specs.Careful.{careful as carefulOf};
 ghost use Rattle.rules.specs.Why.{why as whyOf};
 ghost use Rattle.careful.specs.Looked.{carefulAnswer};
-ghost use Rattle.why.specs.Reasons.{whyAnswer};
+ghost use Rattle.why.specs.Explained.{whyAnswer};
 use careful::CarefulAnswer;
 use why::WhyAnswer;
 

@@ -31,9 +31,10 @@ use Rattle.run.specs.Runner.{runAnswer}
 use Rattle.run.proofs.Told.{RunTold, run-told}
 use Rattle.run.proofs.Back.{line-table}
 use Rattle.why_letter.specs.Withdrawn.{LinePlace}
-use Rattle.why.specs.declared.Reason.{Reason}
+use Rattle.why_reason.specs.declared.Reason.{Reason}
+use Rattle.why_reason.specs.Reasons.{MarkedUp, LeftAt, FindsReason}
 use Rattle.why.specs.declared.WhyAnswer.{WhyAnswer}
-use Rattle.why.specs.Reasons.{MarkedUp, LeftAt, FindsReason, leftIn, unexplained, WhyEnded, answerFor, whyAnswer}
+use Rattle.why.specs.Explained.{leftIn, unexplained, WhyEnded, answerFor, whyAnswer}
 
 -- ---- the marks as they are handed over
 front : (l z : List ℕ) (k : ℕ) → k < length l → getElem? l k ≡ some (getD (l ++ z) k 0)
