@@ -2,7 +2,7 @@
 use mathlib.Core.Bool.{false}
 use mathlib.Core.List.{List, []}
 use mathlib.Core.Option.{Option, some, none}
-use mathlib.Core.Path.{_≡_, refl, sym, ap, subst, _∙_}
+use mathlib.Core.Path.{_≡_, refl, sym, ap, _∙_}
 use Prim.Native.Nat.{ℕ, suc, _+_, _<_}
 use native.Mathlib.Omega.{arith}
 use lib.Dec.{eqb}
@@ -11,36 +11,33 @@ use lib.Seq.{sets}
 use borrow.Author.Tests.{eq-eqb, ne-eqb}
 use Rattle.utf8.specs.Utf8.{if_then_else_}
 use Rattle.rules.specs.Outcome.{ok, _>>=_}
-use Rattle.rules.specs.Sheet.{sheetArea, arguments}
+use Rattle.rules.specs.Sheet.{arguments}
 use Rattle.rules.specs.Form.{readForm}
 use Rattle.rules.specs.Accept.{lettersOf}
 use Rattle.rules.specs.Split.{itemsOf}
-use Rattle.rules.specs.Run.{Report, padded, split, run}
-use Rattle.rules.specs.Commands.{splitWith}
+use Rattle.rules.specs.Run.{Report, padded, run}
 use Rattle.rules.specs.Codes.{placeCode}
-use Rattle.rules.specs.Calls.{toRaw}
 use Rattle.rules.specs.declared.State.{State as Raw}
 use Rattle.rules.specs.Why.{LeftPlace, lineItems}
-use Rattle.rules.specs.Careful.{firstMisread, misreadLetter, refusedWord, lookAt, careful}
+use Rattle.rules_careful.specs.Careful.{firstMisread, misreadLetter, refusedWord, lookAt, careful}
 use Rattle.rules.proofs.Acceptance.{lookup-some}
 use Rattle.rules.proofs.Demand1Holds.{demand1}
 use Rattle.rules.proofs.InputFaults.{padded-nil}
 use Rattle.rules.proofs.SplitLaws.{ok-injective}
-use Rattle.rules.proofs.LooksLaws.{AcceptedLine, accepted-line, accepted-list, misread-letter}
+use Rattle.rules_careful.proofs.LooksLaws.{AcceptedLine, accepted-line, accepted-list, misread-letter}
 use Rattle.split_args.proofs.States.{all-zero}
-use Rattle.take_search.specs.Items.{Table}
 use Rattle.form_codes.specs.Codes.{CodedNames}
 use Rattle.form_layout.specs.Layout.{GoodNames}
 use Rattle.form_layout.proofs.Sizes.{accepted-names}
 use Rattle.run_fields.specs.declared.RunAnswer.{RunAnswer}
 use Rattle.run.specs.Runner.{runAnswer}
-use Rattle.run.proofs.Back.{line-table}
 use Rattle.run.proofs.Told.{RunTold, run-told}
 use Rattle.why_letter.specs.declared.LetterOption.{LetterOption}
 use Rattle.why_letter.specs.Withdrawn.{LinePlace, CanExplain, UnknownTold}
 use Rattle.careful.specs.declared.CarefulAnswer.{CarefulAnswer}
 use Rattle.careful_words.specs.Looking.{LineIs, HasLine, Finds}
 use Rattle.careful_words.proofs.Laws.{found-misread}
+use Rattle.careful.proofs.Lines.{ran-line-is, ran-line-asked}
 use Rattle.careful.specs.Looked.{letterCode, asRun, CarefulEnded, carefulAnswer}
 
 -- an answer and its slices, part by part
@@ -87,45 +84,28 @@ module _ (b s : List ℕ) (ni na nl : ℕ) (r : RunAnswer) (is os ls : List ℕ)
     over = accepted-line b s ni na nl report (x .same) ended-well
 
     module _ (count : ℕ) (c : count ≡ r .state .count) where
-      count-is : length (itemsOf (over .given)) ≡ count
-      unfolding toRaw
-      count-is = sym (ap length (over .items)) ∙ sym (over .marks) ∙ sym (ap (λ (z : Raw). z .count) (x .state)) ∙ sym c
-
-      line : LineIs s is count (lettersOf (readForm b)) (over .given)
-      unfolding split splitWith
-      line =
-          let o = over in
-          let table = line-table (lettersOf (readForm b)) s (o .line) ni (o .made) (o .splits) (o .free) (o .good) (o .room) in
-          record {
-            splits = o .grouped;
-            clear = o .clear;
-            made = o .made;
-            table =
-                subst (λ (w : List ℕ). Table (sheetArea s) w (itemsOf (o .given))) (sym (o .records) ∙ x .items)
-                (subst (Table (sheetArea s) (padded ni (o .line .records))) (o .items) table);
-            long = count-is;
-            few = omega (arith, count-is, o .good .few, ap length (o .items));
-          }
+      line : LineIs s is count (lettersOf (readForm b)) (over .line .given)
+      line = ran-line-is (lettersOf (readForm b)) s ni report (over .line) is (x .items) (r .state) (x .state) count c
 
       pub line-asked : HasLine s is count
-      line-asked = record { letters = lettersOf (readForm b); given = over .given; line = line }
+      line-asked = ran-line-asked (lettersOf (readForm b)) s ni report (over .line) is (x .items) (r .state) (x .state) count c
 
-      looked : (p : ℕ) → Finds s is count p → (f : Option ℕ) → (if eqb p count then none else some p) ≡ f
+      looked : (p : ℕ) → Finds s is 0 count p → (f : Option ℕ) → (if eqb p count then none else some p) ≡ f
           → careful b s ni na nl ≡ ok (elim f [
             | none ↦ record { report = report; letter = 0 }
-            | some i ↦ record { report = refusedWord na nl report i; letter = misreadLetter (lettersOf (readForm b)) (arguments s) (over .given .groups) i }
+            | some i ↦ record { report = refusedWord na nl report i; letter = misreadLetter (lettersOf (readForm b)) (arguments s) (over .line .given .groups) i }
           ])
       unfolding careful lookAt _>>=_ if_then_else_
       looked p h f e =
-          let found : firstMisread (arguments s) (over .given .groups) ≡ f = h .same (lettersOf (readForm b)) (over .given) line ∙ e in
-          rw (x .same, eq-eqb (report .number) 0 ended-well, over .grouped, found, lookAt)
+          let found : firstMisread 0 (arguments s) (over .line .given .groups) ≡ f = h .same (lettersOf (readForm b)) (over .line .given) line ∙ e in
+          rw (x .same, eq-eqb (report .number) 0 ended-well, over .line .grouped, found, lookAt)
 
-      pub answer-clean : (p : ℕ) → Finds s is count p → p ≡ count → (q : CarefulAnswer) → q ≡ asRun r → carefulAnswer (careful b s ni na nl) ≡ ended q os
+      pub answer-clean : (p : ℕ) → Finds s is 0 count p → p ≡ count → (q : CarefulAnswer) → q ≡ asRun r → carefulAnswer (careful b s ni na nl) ≡ ended q os
       unfolding if_then_else_
       answer-clean p h e q d =
           ap carefulAnswer (looked p h none (rw (eq-eqb p count e))) ∙ as-ran ∙ ap (λ (z : CarefulAnswer). ended z os) (sym d)
 
-      module _ (p : ℕ) (h : Finds s is count p) (e : p ≡ count → ⊥) where
+      module _ (p : ℕ) (h : Finds s is 0 count p) (e : p ≡ count → ⊥) where
         inside : p < count
         inside = omega (arith, h .within)
 
@@ -133,35 +113,35 @@ module _ (b s : List ℕ) (ni na nl : ℕ) (r : RunAnswer) (is os ls : List ℕ)
         misread-names = accepted-names b (over .result) (over .accepts)
 
         abbrev spot : LeftPlace
-        spot = record { form = readForm b; arguments = arguments s; groups = over .given .groups; marks = []; place = p }
+        spot = record { form = readForm b; arguments = arguments s; groups = over .line .given .groups; marks = []; place = p }
 
         spot-line : LinePlace b s is p spot
         unfolding lineItems itemsOf
         spot-line = record {
           form = refl;
           args = refl;
-          given = over .given;
-          splits = over .grouped;
-          clear = over .clear;
+          given = over .line .given;
+          splits = over .line .grouped;
+          clear = over .line .clear;
           groups = refl;
           place = refl;
-          made = over .made;
+          made = over .line .made;
           table = line .table;
-          below = omega (arith, inside, count-is);
+          below = omega (arith, inside, line .long);
         }
 
         pub misread-asked : (codes : List ℕ) → CodedNames b codes → CanExplain b codes s is p
         misread-asked codes k = record { result = over .result; accepts = over .accepts; coded = k; spot = spot; line = spot-line }
 
-        found : firstMisread (arguments s) (over .given .groups) ≡ some p
+        found : firstMisread 0 (arguments s) (over .line .given .groups) ≡ some p
         unfolding if_then_else_
-        found = h .same (lettersOf (readForm b)) (over .given) line ∙ rw (ne-eqb p count e)
+        found = h .same (lettersOf (readForm b)) (over .line .given) line ∙ rw (ne-eqb p count e)
 
-        letter-is : (u : LetterOption) → UnknownTold b s is p u → misreadLetter (lettersOf (readForm b)) (arguments s) (over .given .groups) p ≡ letterCode u
+        letter-is : (u : LetterOption) → UnknownTold b s is p u → misreadLetter (lettersOf (readForm b)) (arguments s) (over .line .given .groups) p ≡ letterCode u
         unfolding letterCode lineItems
         letter-is u t =
             let y = lookup-some (lineItems spot) p (spot-line .below) in
-            misread-letter b (arguments s) (over .given .groups) [] p (y .0) (y .1) (found-misread (arguments s) (over .given .groups) p found)
+            misread-letter b (arguments s) (over .line .given .groups) [] p (y .0) (y .1) (found-misread 0 (arguments s) (over .line .given .groups) p found)
             ∙ ap placeCode (sym (t .same spot (y .0) spot-line (y .1)))
 
         pub answer-misread : (u : LetterOption) → UnknownTold b s is p u → (k : ℕ) → k ≡ letterCode u → (a : List ℕ) → a ≡ sets os 0 (replicate (length os) 0)

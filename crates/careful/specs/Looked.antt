@@ -6,7 +6,7 @@ use lib.ListN.{length}
 use Rattle.rules.specs.Outcome.{Outcome, ok, refused, fault}
 use Rattle.rules.specs.Codes.{placeCode}
 use Rattle.rules.specs.Calls.{toRaw}
-use Rattle.rules.specs.Careful.{CarefulReport}
+use Rattle.rules_careful.specs.Careful.{CarefulReport}
 use Rattle.run_fields.specs.declared.RunAnswer.{RunAnswer}
 use Rattle.why_letter.specs.declared.LetterOption.{LetterOption}
 use Rattle.why_letter.specs.Withdrawn.{letterOf}

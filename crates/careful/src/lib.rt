@@ -2,7 +2,7 @@
 ghost use mathlib.Core.Path.{_≡_};
 ghost use mathlib.Core.Option.{some};
 ghost use lib.ListN.{length};
-ghost use Rattle.rules.specs.Careful.{careful as carefulOf};
+ghost use Rattle.rules_careful.specs.Careful.{careful as carefulOf};
 ghost use Rattle.why_letter.specs.Withdrawn.{SmallLetter};
 ghost use Rattle.careful.specs.Looked.{letterCode, asRun, carefulAnswer};
 use rules::State;
@@ -11,7 +11,7 @@ use why_letter::LetterOption;
 use wire::wide;
 
 // An argument that looks like options is a word.
-const MISREAD: u32 = 50;
+pub const MISREAD: u32 = 50;
 
 // As the answer of a run, and why a word is one: the letter that no option has plus 1, or 0 where its name is not UTF-8.
 #[repr(C)]
@@ -25,7 +25,7 @@ pub struct CarefulAnswer {
 }
 
 // The letter plus 1, or 0 for none.
-fn letter_code(letter: LetterOption) -> u32
+pub fn letter_code(letter: LetterOption) -> u32
     requires { ⌜ SmallLetter letter ⌝ }
     ensures { λ r. ⌜ r ≡ letterCode letter ⌝ }
 {
@@ -67,7 +67,7 @@ pub fn careful(
     }
     let state = ran.state;
     let count = wide(state.count);
-    let place = careful_words::first_misread(sheet, items, count);
+    let place = careful_words::first_misread(sheet, items, 0, count);
     if place == count {
         return as_run(ran);
     }

@@ -4,7 +4,7 @@ use mathlib.Core.List.{List, [], _∷_, flatten}
 use mathlib.Core.Logic.{inl}
 use mathlib.Core.Option.{some, none, Option·some-injective}
 use mathlib.Core.Path.{_≡_, refl, sym, ap, _∙_}
-use Prim.Native.Nat.{ℕ, zero, suc, _+_, _*_, _≤_, _<_}
+use Prim.Native.Nat.{ℕ, zero, suc, _+_, _-_, _*_, _≤_, _<_}
 use native.Mathlib.Omega.{arith}
 use lib.Dec.{eqb, lit<}
 use lib.ListN.{length, getD, drop, length-drop}
@@ -20,12 +20,12 @@ use Rattle.rules.specs.Accept.{Letters}
 use Rattle.rules.specs.Split as rules
 use Rattle.rules.specs.Split.{dash, Split, itemsOf}
 use Rattle.rules.specs.Calls.{itemFrom}
-use Rattle.rules.specs.Careful.{looksLikeOptions, isMisread, firstMisread}
+use Rattle.rules_careful.specs.Careful.{looksLikeOptions, isMisread, firstMisread}
 use Rattle.rules.specs.WhyAnswered.{behindAdjacent}
 use Rattle.rules.proofs.Acceptance.{lookup-some}
 use Rattle.rules.proofs.Formats.{good-sheet}
 use Rattle.rules.proofs.SplitLaws.{some≢none}
-use Rattle.rules.proofs.LooksLaws.{readsAs, misread-is}
+use Rattle.rules_careful.proofs.LooksLaws.{readsAs, misread-is}
 use Rattle.split_arg.specs.declared.Part.{Part}
 use Rattle.split_arg.specs.declared.Item.{Item}
 use Rattle.split_arg.specs.declared.Item.the-variants.{Short, Long, ArgWord, Word, PosWord}
@@ -66,47 +66,47 @@ module _ (p : ℕ → Bool) where
       go more true e = let s : k ≡ j = eqb-true k j e in rw (s, t)
       go more false e = let d = eqb-false k j e in rw (h k (omega arith) (omega arith)) (more d)
 
-module _ (s words : List ℕ) (count : ℕ) where
+module _ (s words : List ℕ) (from count : ℕ) where
   -- no place below this one is misread
   pub record Clean (i : ℕ) : Type 0 where
-    pub below : i ≤ count
-    pub none : (l : Letters) (x : Split) → LineIs s words count l x → (j : ℕ) → j < i → isMisread (arguments s) (x .groups) j ≡ false
+    pub behind : from ≤ i
+    pub none : (l : Letters) (x : Split) → LineIs s words count l x → (j : ℕ) → from ≤ j → j < i → isMisread (arguments s) (x .groups) j ≡ false
 
-  pub clean-first : Clean 0
-  clean-first = record { below = omega arith; none = λ l x g j h. absurd (omega arith) }
+  pub clean-first : Clean from
+  clean-first = record { behind = omega arith; none = λ l x g j f h. absurd (omega arith) }
 
   module _ (i : ℕ) (c : Clean i) where
     module _ (h : i < count) (r : Bool) (t : LooksAt s words count i r) where
       pub clean-next : r ≡ false → Clean (i + 1)
       clean-next f = record {
-        below = omega arith;
-        none = λ l x g j b. go l x g j b (eqb j i) refl;
+        behind = omega (arith, c .behind);
+        none = λ l x g j a b. go l x g j a b (eqb j i) refl;
       }
         where
-          go : (l : Letters) (x : Split) → LineIs s words count l x → (j : ℕ) → j < i + 1 → (e : Bool) → eqb j i ≡ e → isMisread (arguments s) (x .groups) j ≡ false
-          go l x g j b true e = let z : j ≡ i = eqb-true j i e in ap (isMisread (arguments s) (x .groups)) z ∙ sym (t .same l x g) ∙ f
-          go l x g j b false e = let d = eqb-false j i e in c .none l x g j (omega arith)
+          go : (l : Letters) (x : Split) → LineIs s words count l x → (j : ℕ) → from ≤ j → j < i + 1 → (e : Bool) → eqb j i ≡ e
+              → isMisread (arguments s) (x .groups) j ≡ false
+          go l x g j a b true e = let z : j ≡ i = eqb-true j i e in ap (isMisread (arguments s) (x .groups)) z ∙ sym (t .same l x g) ∙ f
+          go l x g j a b false e = let d = eqb-false j i e in c .none l x g j a (omega arith)
 
-      pub found-here : r ≡ true → Finds s words count i
+      pub found-here : r ≡ true → Finds s words from count i
       unfolding firstMisread if_then_else_ itemsOf
       found-here e = record {
-        within = c .below;
+        within = omega arith;
         same = λ l x g.
             let n : length (flatten (x .groups)) ≡ count = g .long in
             rw (ne-eqb i count (λ z. omega arith))
-            (one-fault (isMisread (arguments s) (x .groups)) (length (flatten (x .groups))) 0 i (omega arith) (omega (arith, n))
-            (sym (t .same l x g) ∙ e) (λ j a b. c .none l x g j b));
+            (one-fault (isMisread (arguments s) (x .groups)) (length (flatten (x .groups)) - from) from i (c .behind) (omega (arith, n, c .behind))
+            (sym (t .same l x g) ∙ e) (λ j a b. c .none l x g j a b));
       }
 
-    pub found-none : count ≤ i → Finds s words count i
+    pub found-none : count ≤ i → Finds s words from count count
     unfolding firstMisread if_then_else_ itemsOf
     found-none h = record {
-      within = c .below;
+      within = omega arith;
       same = λ l x g.
           let n : length (flatten (x .groups)) ≡ count = g .long in
-          let z : i ≡ count = omega (arith, c .below) in
-          rw (eq-eqb i count z)
-          (none-fault (isMisread (arguments s) (x .groups)) (length (flatten (x .groups))) 0 (λ j a b. c .none l x g j (omega (arith, n))));
+          rw (eq-eqb count count refl)
+          (none-fault (isMisread (arguments s) (x .groups)) (length (flatten (x .groups)) - from) from (λ j a b. c .none l x g j a (omega (arith, n))));
     }
 
 -- ---- an item
@@ -274,6 +274,7 @@ module _ (p : ℕ → Bool) where
       go more true h e = let z : k ≡ j = Option·some-injective k j e in sym (ap p z) ∙ h
       go more false h e = more e
 
-pub found-misread : (args : List (List ℕ)) (groups : List (List rules.Item)) (i : ℕ) → firstMisread args groups ≡ some i → isMisread args groups i ≡ true
+pub found-misread :
+    (from : ℕ) (args : List (List ℕ)) (groups : List (List rules.Item)) (i : ℕ) → firstMisread from args groups ≡ some i → isMisread args groups i ≡ true
 unfolding firstMisread
-found-misread args groups i e = hit (isMisread args groups) (length (flatten groups)) 0 i e
+found-misread from args groups i e = hit (isMisread args groups) (length (flatten groups) - from) from i e

@@ -11,7 +11,7 @@ use Rattle.rules.specs.Outcome.{ok}
 use Rattle.rules.specs.Sheet.{sheetArea, sheetFault, arguments}
 use Rattle.rules.specs.Accept.{Letters}
 use Rattle.rules.specs.Split.{Item, Short, Long, ArgWord, Word, PosWord, Split, splitFrom, itemsOf}
-use Rattle.rules.specs.Careful.{looksLikeOptions, isMisread, firstMisread}
+use Rattle.rules_careful.specs.Careful.{looksLikeOptions, isMisread, firstMisread}
 use Rattle.take_search.specs.Items.{Table}
 
 -- a Word, and its text looks like options
@@ -44,8 +44,8 @@ pub record WordLooks (s words : List ℕ) (count i : ℕ) (r : Bool) : Type 0 wh
 pub record LooksAt (s words : List ℕ) (count i : ℕ) (r : Bool) : Type 0 where
   pub same : (l : Letters) (x : Split) → LineIs s words count l x → r ≡ isMisread (arguments s) (x .groups) i
 
--- the lowest place that is, or the count
-pub record Finds (s words : List ℕ) (count r : ℕ) : Type 0 where
+-- the lowest place that is, from a place on, or the count
+pub record Finds (s words : List ℕ) (from count r : ℕ) : Type 0 where
   pub within : r ≤ count
   pub same : (l : Letters) (x : Split) → LineIs s words count l x
-      → firstMisread (arguments s) (x .groups) ≡ (if eqb r count then none else some r)
+      → firstMisread from (arguments s) (x .groups) ≡ (if eqb r count then none else some r)

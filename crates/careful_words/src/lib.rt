@@ -36,18 +36,18 @@ fn is_misread(sheet: &[u8], area: usize, items: &[u32], i: usize, count: usize) 
     !why_letter::is_rest(items, i)
 }
 
-// The lowest place of such an item, or the count.
-pub fn first_misread(sheet: &[u8], items: &[u32], count: usize) -> usize
+// The lowest place of such an item from a place on, or the count.
+pub fn first_misread(sheet: &[u8], items: &[u32], from: usize, count: usize) -> usize
     requires { ⌜ HasLine (now sheet) (now items) count ⌝ }
-    ensures { λ r. ⌜ Finds (now (sheet .entry)) (now (items .entry)) count r ⌝ }
+    ensures { λ r. ⌜ Finds (now (sheet .entry)) (now (items .entry)) from count r ⌝ }
 {
     let area = wire::area_start(2, split_sheet::count(sheet));
-    let mut i = 0;
+    let mut i = from;
     while i < count {
         if is_misread(sheet, area, items, i, count) {
             return i;
         }
         i += 1;
     }
-    i
+    count
 }

@@ -191,14 +191,20 @@ rising-letters t o p n q s m z y = record { in-flags = searchable 1 o p n z; in-
 module _
     (t : List ℕ) (o p : List ℕ) (n : ℕ) (q s : List ℕ) (m : ℕ) (z : Gathered t 1 o p n) (y : Gathered t 2 q s m)
     (cs : List Command) (fs : List Accepted) (reads : tableIn t ≡ ok cs) (accepts : formsIn cs ≡ ok fs)
-    (sheet : List ℕ) (k : ℕ) (out : List ℕ) (r : Ended)
   where
-    pub split-forms : SplitEnds (letters (take (n - 0) p) (take (m - 0) s)) sheet k out r → SplitEnds (tableLetters fs) sheet k out r
-    split-forms ends =
+    -- what the slices hold are the letters of the table
+    pub same-as-table : SameLetters (letters (take (n - 0) p) (take (m - 0) s)) (tableLetters fs)
+    same-as-table =
         let one : z .commands ≡ cs = ok-injective (sym (z .reads) ∙ reads) in
         let two : y .commands ≡ cs = ok-injective (sym (y .reads) ∙ reads) in
         let flags : take (n - 0) p ≡ gathered 1 cs [] = rw (sub-zero n, ← one) (holds-front o _ p n (z .holds)) in
         let others : take (m - 0) s ≡ gathered 2 cs [] = rw (sub-zero m, ← two) (holds-front q _ s m (y .holds)) in
-        let l : Letters = letters (gathered 1 cs []) (gathered 2 cs []) in
-        let same = split-same l (tableLetters fs) (gathered-same cs fs accepts) 0 (arguments sheet) in
-        alike-ends l (tableLetters fs) sheet k out r same (rw (flags, others) at ends)
+        rw (flags, others) (gathered-same cs fs accepts)
+
+    pub split-forms :
+        (sheet : List ℕ) (k : ℕ) (out : List ℕ) (r : Ended)
+        → SplitEnds (letters (take (n - 0) p) (take (m - 0) s)) sheet k out r
+        → SplitEnds (tableLetters fs) sheet k out r
+    split-forms sheet k out r ends =
+        let l : Letters = letters (take (n - 0) p) (take (m - 0) s) in
+        alike-ends l (tableLetters fs) sheet k out r (split-same l (tableLetters fs) same-as-table 0 (arguments sheet)) ends

@@ -22,7 +22,7 @@ const FEW_LETTERS: usize = 512;
 
 const FEW_FORMS: usize = 4;
 
-fn no_letters() -> [u32; LETTERS]
+pub fn no_letters() -> [u32; LETTERS]
     ensures { λ r. ⌜ r ≡ replicate 4096 0 ⌝ }
 {
     [0u32; LETTERS]
@@ -96,7 +96,7 @@ fn gather_form(form: &[u8], flags: &mut [u32], n: usize, arguments: &mut [u32], 
 }
 
 // The letters of all forms of a table: at most 32, each with at most 128 names.
-fn gather(table: &[u8], flags: &mut [u32], arguments: &mut [u32]) -> Counts
+pub fn gather(table: &[u8], flags: &mut [u32], arguments: &mut [u32]) -> Counts
     requires { ⌜ HasForms (now table) × (128 * entryCount (now table) ≤ length (now flags)) × (128 * entryCount (now table) ≤ length (now arguments)) ⌝ }
     ensures { λ r. ⌜ Gathered (now (table .entry)) 1 (now (flags .entry)) (now (flags .exit)) (r .flags) ⌝ }
     ensures { λ r. ⌜ Gathered (now (table .entry)) 2 (now (arguments .entry)) (now (arguments .exit)) (r .arguments) ⌝ }

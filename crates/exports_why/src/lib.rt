@@ -3,7 +3,7 @@
 ghost use mathlib.Core.Path.{_≡_};
 ghost use mathlib.Core.Option.{some};
 ghost use lib.ListN.{length};
-ghost use Rattle.rules.specs.Careful.{careful as carefulOf};
+ghost use Rattle.rules_careful.specs.Careful.{careful as carefulOf};
 ghost use Rattle.rules.specs.Why.{why as whyOf};
 ghost use Rattle.careful.specs.Looked.{carefulAnswer};
 ghost use Rattle.why.specs.Explained.{whyAnswer};

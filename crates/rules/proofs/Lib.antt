@@ -73,6 +73,3 @@ pub mod WithdrawLaws
 pub mod Withdraws
 pub mod WhyLaws
 pub mod WhyHolds
--- The careful run
-pub mod LooksLaws
-pub mod LooksHold

@@ -19,8 +19,6 @@ pub mod Bench
 pub mod Codes
 pub mod Calls
 pub mod Encode
--- Ours: a run that refuses what looks otherwise than it is read
-pub mod Careful
 -- What the theorems say
 pub mod Lines
 pub mod Demands
@@ -31,7 +29,6 @@ pub mod CallsAnswered
 pub mod CommandsAnswered
 pub mod BatchAnswered
 pub mod WhyAnswered
-pub mod Looks
 pub mod CommandLines
 pub mod Portable
 pub mod Clusters

@@ -106,7 +106,7 @@ unknown-same l m s none = refl
 unknown-same l m s (some ls) = first-same l m s ls
 
 -- letters that the form's splitting may be done with
-told-same : (l m : Letters) → SameLetters l m → (os : List ℕ) (r : LetterOption) → ClusterTold l os r → ClusterTold m os r
+pub told-same : (l m : Letters) → SameLetters l m → (os : List ℕ) (r : LetterOption) → ClusterTold l os r → ClusterTold m os r
 told-same l m s os r h = record {
   letter = h .letter;
   same = λ word. h .same (argument-same l m s os ∙ word) ∙ unknown-same l m s (clusterLetters os);
@@ -163,18 +163,27 @@ module _ (b s words : List ℕ) (i : ℕ) where
         → UnknownTold b s words i r
     told-by r small h = record { letter = small; same = λ x y p e. h x y p e (p .table .at i y e) }
 
-    pub unknown-other : OneOf (0 ∷ 1 ∷ 2 ∷ 4 ∷ []) (tagOf T.the-type item) → UnknownTold b s words i None
+    -- an item that is no Word is no whole argument
+    pub other-not-whole :
+        OneOf (0 ∷ 1 ∷ 2 ∷ 4 ∷ []) (tagOf T.the-type item)
+        → (y : rules.Item)
+        → itemFrom (sheetArea s) (recordAt words i) ≡ some y
+        → (os : List ℕ)
+        → isWhole y os ≡ false
     unfolding isWhole
-    unknown-other k = told-by None none-small (λ x y p e f. not-whole x y (λ os a. go y f os item refl k))
+    other-not-whole k y f os = go item refl k
       where
-        go : (y : rules.Item) → itemFrom (sheetArea s) (recordAt words i) ≡ some y → (os : List ℕ) → (z : Item) → item ≡ z → OneOf (0 ∷ 1 ∷ 2 ∷ 4 ∷ []) (tagOf T.the-type z) → isWhole y os ≡ false
-        go y f os (Short c a t) e k = rw (is-short _ _ y f item q c a t e .0)
-        go y f os (Long n a t) e k = rw (is-long _ _ y f item q n a t e .0)
-        go y f os (ArgWord t) e k = rw (is-arg-word _ _ y f item q t e .0)
-        go y f os (Word t) e k =
+        go : (z : Item) → item ≡ z → OneOf (0 ∷ 1 ∷ 2 ∷ 4 ∷ []) (tagOf T.the-type z) → isWhole y os ≡ false
+        go (Short c a t) e k = rw (is-short _ _ y f item q c a t e .0)
+        go (Long n a t) e k = rw (is-long _ _ y f item q n a t e .0)
+        go (ArgWord t) e k = rw (is-arg-word _ _ y f item q t e .0)
+        go (Word t) e k =
             absurd (⊎-elim (λ (w : _≡_ {A = ℕ} 3 0). omega arith) (⊎-elim (λ (w : _≡_ {A = ℕ} 3 1). omega arith)
             (⊎-elim (λ (w : _≡_ {A = ℕ} 3 2). omega arith) (λ (w : _≡_ {A = ℕ} 3 4). omega arith))) k)
-        go y f os (PosWord t) e k = rw (is-pos-word _ _ y f item q t e .0)
+        go (PosWord t) e k = rw (is-pos-word _ _ y f item q t e .0)
+
+    pub unknown-other : OneOf (0 ∷ 1 ∷ 2 ∷ 4 ∷ []) (tagOf T.the-type item) → UnknownTold b s words i None
+    unknown-other k = told-by None none-small (λ x y p e f. not-whole x y (λ os a. other-not-whole k y f os))
 
     module _ (t : Part) (d : item ≡ Word t) where
       abbrev text : List ℕ

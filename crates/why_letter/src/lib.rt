@@ -108,7 +108,7 @@ fn has_name(os: &[u8]) -> bool
 }
 
 // Of an argument that became one Word, the first unknown letter, if it looks like a cluster.
-fn cluster_letter(os: &[u8], flags: &[u32], arguments: &[u32]) -> LetterOption
+pub fn cluster_letter(os: &[u8], flags: &[u32], arguments: &[u32]) -> LetterOption
     ensures { λ r. ⌜ ClusterTold (letters (now (flags .entry)) (now (arguments .entry))) (now (os .entry)) r ⌝ }
 {
     if !has_name(os) {

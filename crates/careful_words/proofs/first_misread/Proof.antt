@@ -1,4 +1,4 @@
--- Invariant: no place below this one is misread. Assumes nothing.
+-- Invariant: no place from the first to this one is misread. Assumes nothing.
 use borrow.Author.Needs.{needs}
 use Prim.Native.Nat.{_-_}
 use mathlib.Core.Logic.{inl}
@@ -8,10 +8,10 @@ use Rattle.careful_words.proofs.first_misread.Statement.{statement}
 use Rattle.careful_words.proofs.first_misread.Tie as tie
 
 abbrev Inv-loop : tie.InvT-loop
-Inv-loop sheet items count area i₀ i = Clean sheet items count i
+Inv-loop sheet items from count area i₀ i = Clean sheet items from count i
 
 abbrev μ-loop : tie.MeasureT-loop
-μ-loop sheet items count area i₀ i = count - i
+μ-loop sheet items from count area i₀ i = count - i
 
 count-requires : tie.Need-count-requires Inv-loop μ-loop
 count-requires c κs = search line-made

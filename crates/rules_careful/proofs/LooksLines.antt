@@ -1,49 +1,49 @@
--- The careful run: what it accepts is read as it looks, and why it refuses a word.
+-- Of a line that is split by some letters: which arguments are read as options, and why a word that looks like options is one.
 use mathlib.Core.Bool.{Bool, true, false, not, false≢true, true≢false}
 use mathlib.Core.List.{List, [], _∷_, _++_, flatten}
 use mathlib.Core.Logic.{_⊎_, inl, inr, ⊎-elim}
 use mathlib.Core.Option.{Option, some, none, Option·some-injective}
-use mathlib.Core.Path.{_≡_, refl, sym, ap, subst, _∙_}
+use mathlib.Core.Path.{_≡_, refl, sym, ap, _∙_}
 use Prim.Native.Nat.{ℕ, zero, suc, _+_, _-_, _≤_, _<_}
 use native.Mathlib.Omega.{arith}
-use borrow.Author.Tests.{eq-eqb, eqb-true, eqb-false, le-ltb, ltb-false, not-true, not-false}
-use lib.Dec.{eqb, ltb}
+use borrow.Author.Tests.{le-ltb, ltb-true, ltb-false, not-true, not-false}
+use lib.Dec.{ltb}
 use lib.ListN.{length, take, getElem?}
 use Rattle.utf8.specs.Utf8.{if_then_else_, wellFormed}
 use Rattle.rules.specs.Base.{null, same, _>>?_}
 use Rattle.rules.specs.Outcome.{Outcome, ok, refused, fault, _>>=_}
 use Rattle.rules.specs.Sheet.{arguments}
-use Rattle.rules.specs.Form.{readForm}
-use Rattle.rules.specs.Accept.{Letters, lettersOf}
+use Rattle.rules.specs.Accept.{Letters}
 use Rattle.rules.specs.Split.{Item, Short, Long, ArgWord, Word, PosWord, short, long, Parts, splitOsArgument, Letter}
 use Rattle.rules.specs.Split.{Cluster, single, argumentLetter, withdrawn, ambiguous, pickLetter, lookUp, disambiguateShort, flagItems}
 use Rattle.rules.specs.Split.{argumentItems, clusterItems, ambiguousAt, Group, plain, clusterGroup, shortGroup, longGroup, partsGroup}
 use Rattle.rules.specs.Split.{wordGroup, splitArgument, Split, positionals, splitFrom, itemsOf}
-use Rattle.rules.specs.Run.{Report, run}
+use Rattle.rules.specs.Run.{Report}
 use Rattle.rules.specs.Codes.{placeCode}
 use Rattle.rules.specs.Why.{isName, argumentAt, isWhole, clusterLetters, firstUnknown}
 use Rattle.rules.specs.WhyAnswered.{HasUnknown, Withdrawn, behindAdjacent}
-use Rattle.rules.specs.Careful.{looksLikeOptions, isMisread, firstMisread, misreadLetter, CarefulReport, refusedWord, lookAt, careful}
-use Rattle.rules.specs.Answered.{Ready, RunNumber}
 use Rattle.rules.specs.Demands.{hasMarker}
-use Rattle.rules.specs.Looks.{LooksLike, ReadAsOptions, BadName, Looks}
+use Rattle.rules_careful.specs.Careful.{looksLikeOptions, isMisread, firstMisread, misreadLetter, refusedWord}
+use Rattle.rules_careful.specs.Looks.{LooksLike, ReadAsOptions, BadName, Misread}
 use Rattle.rules.proofs.Places.{if-elim, both}
 use Rattle.rules.proofs.Acceptance.{lookup-inside, no-fault, numbers-all}
 use Rattle.rules.proofs.WellMadeLaws.{first-number}
 use Rattle.rules.proofs.SplitLaws.{letter-ok, cluster-step, cluster-ok, some≢none, parts-cases, same-true, dashes, argument-grouped, ok-injective, same-self}
 use Rattle.rules.proofs.InputFaults.{padded-nil, bind-ok}
 use Rattle.rules.proofs.CommandLaws.{lookup-behind}
-use Rattle.rules.proofs.Demand1Holds.{demand1}
-use Rattle.rules.proofs.MissingReported.{fault-range}
 use Rattle.rules.proofs.WithdrawLaws.{unknown-cluster, no-parts-no-cluster, has-unknown, stopped, word-withdrawn}
 use Rattle.rules.proofs.Withdraws.{cut, group-there, word-there, word-whole, withdrawals}
-use Rattle.rules.proofs.LooksLaws.{accepted-line, misread-at, misread-facts, bad-name}
+use Rattle.rules_careful.proofs.LooksLaws.{misread-at, misread-facts, bad-name}
 
 -- ---- an argument that is not `--`
 -- begins with the name of an option, or is one Word
 data Begins (os : List ℕ) : List Item → Type 0 where
   option : (y : Item) (is : List Item) → isName y ≡ true → Begins os (y ∷ is)
   word : Begins os (Word os ∷ [])
+
+begins-some : (os : List ℕ) (is : List Item) → Begins os is → 1 ≤ length is
+begins-some os is (option y more n) = omega arith
+begins-some os is word = omega arith
 
 module _ (l : Letters) (os : List ℕ) where
   abbrev ClusterBegins : Cluster → Type 0
@@ -116,22 +116,50 @@ module _ (l : Letters) (os : List ℕ) where
       shorts b s body w e = rw (e, splitArgument) (short-begins b s body w)
 
 -- ---- places and arguments
+-- a place of the first argument, or behind its items
+abbrev Behind : (k i : ℕ) → List (List Item) → Type 0
+Behind k i gs = (is : List Item) → getElem? gs 0 ≡ some is → (k ≡ 0) ⊎ (length is ≤ i)
+
 -- the place of an argument that is one Word
 word-place :
     (args : List (List ℕ)) (gs : List (List Item)) (k : ℕ) (os : List ℕ)
     → getElem? args k ≡ some os
     → getElem? gs k ≡ some (Word os ∷ [])
-    → (i : ℕ) × (getElem? (flatten gs) i ≡ some (Word os)) × (argumentAt args gs i ≡ some os)
+    → (i : ℕ) × (getElem? (flatten gs) i ≡ some (Word os)) × (argumentAt args gs i ≡ some os) × Behind k i gs
 unfolding argumentAt flatten if_then_else_
 word-place [] gs k os a g = absurd (some≢none (sym a))
 word-place (o ∷ rest) [] k os a g = absurd (some≢none (sym g))
 word-place (o ∷ rest) (is ∷ gs) zero os a g =
     let items : is ≡ Word os ∷ [] = Option·some-injective is _ g in
-    (0, rw items, rw items a)
+    (0, rw items, rw items a, λ _ _. inl refl)
 word-place (o ∷ rest) (is ∷ gs) (suc k) os a g =
-    let (i, here, at) = word-place rest gs k os a g in
-    let back : length is + i - length is ≡ i = omega arith in
-    (length is + i, lookup-behind is (flatten gs) i ∙ here, rw (le-ltb (length is + i) (length is) (omega arith), back) at)
+    let (i, here, at, _) = word-place rest gs k os a g in
+    let back : length is + i - length is ≡ i = omega arith in (
+      length is + i,
+      lookup-behind is (flatten gs) i ∙ here,
+      rw (le-ltb (length is + i) (length is) (omega arith), back) at,
+      λ js first. inr (omega (arith, ap length (Option·some-injective is js first))),
+    )
+
+-- place 0 is the first argument's
+first-place :
+    (l : Letters) (args : List (List ℕ)) (x : Split) (k i : ℕ) (os : List ℕ)
+    → splitFrom l 0 args ≡ ok x
+    → x .ambiguous ≡ none
+    → LooksLike args k os
+    → Behind k i (x .groups)
+    → i ≡ 0
+    → k ≡ 0
+unfolding hasMarker
+first-place l [] x k i os e clear h front z = absurd (some≢none (sym (h .there)))
+first-place l (o ∷ rest) x zero i os e clear h front z = refl
+first-place l (o ∷ rest) x (suc k) i os e clear h front z =
+    if-elim (λ (_ : Bool). suc k ≡ 0) (same o dashes) true false
+    (λ m. absurd (true≢false (rw m at (h .before))))
+    (λ m.
+    let (g, split, unambiguous, there) = group-there l 0 (o ∷ rest) x 0 o e clear refl refl in
+    let many = begins-some o (g .items) ((rw split at (group-begins l o m)) unambiguous) in
+    ⊎-elim (λ (n : suc k ≡ 0). n) (λ (n : length (g .items) ≤ i). absurd (omega arith)) (front (g .items) there))
 
 -- behind the first `--` there is no Word
 no-word : (rest : List (List ℕ)) (i : ℕ) (t : List ℕ) → getElem? (flatten (positionals rest)) i ≡ some (Word t) → ⊥
@@ -221,6 +249,14 @@ whole-word (ArgWord t) os e = absurd (false≢true e)
 whole-word (Word t) os e = ap Word (same-true t os e)
 whole-word (PosWord t) os e = absurd (false≢true e)
 
+-- all of its argument, which was split to this one Word
+pub record WholeWord (l : Letters) (args : List (List ℕ)) (x : Split) (i : ℕ) : Type 0 where
+  pub text : List ℕ
+  pub looks : looksLikeOptions text ≡ true
+  pub item : getElem? (itemsOf x) i ≡ some (Word text)
+  pub argument : argumentAt args (x .groups) i ≡ some text
+  pub word : splitArgument l text ≡ ok (plain (Word text ∷ []))
+
 record MisreadWord (l : Letters) (args : List (List ℕ)) (x : Split) (i : ℕ) : Type 0 where
   argument : ℕ
   text : List ℕ
@@ -229,16 +265,32 @@ record MisreadWord (l : Letters) (args : List (List ℕ)) (x : Split) (i : ℕ) 
   item : getElem? (itemsOf x) i ≡ some (Word text)
   why : WordWhy l text (misreadLetter l args (x .groups) i)
 
+-- a word before the place from which is looked; if it is at place 0, it is the first argument
+pub record WordBefore (x : Split) (from k : ℕ) (os : List ℕ) : Type 0 where
+  pub place : ℕ
+  pub before : place < from
+  pub item : getElem? (itemsOf x) place ≡ some (Word os)
+  pub first : place ≡ 0 → k ≡ 0
+
 module _ (l : Letters) (args : List (List ℕ)) (x : Split) (e : splitFrom l 0 args ≡ ok x) (clear : x .ambiguous ≡ none) where
-  misread-word : (i : ℕ) → isMisread args (x .groups) i ≡ true → MisreadWord l args x i
-  unfolding itemsOf misreadLetter plain _>>?_
-  misread-word i m =
+  pub misread-whole : (i : ℕ) → isMisread args (x .groups) i ≡ true → WholeWord l args x i
+  unfolding itemsOf
+  misread-whole i m =
       let f = misread-facts args (x .groups) i m in
       let os = f .text in
       let item = f .here ∙ ap some (whole-word (f .item) os (f .whole)) in
       let part = withdrawals .part l args x i os os e clear item (f .argument) in
       let alone = not-true (behindAdjacent (itemsOf x) i) (sym part ∙ same-self os) in
       let word = word-whole l args x i os os e clear item (f .argument) alone .1 in
+      record { text = os; looks = f .looks; item = item; argument = f .argument; word = word }
+
+  misread-word : (i : ℕ) → isMisread args (x .groups) i ≡ true → MisreadWord l args x i
+  unfolding itemsOf misreadLetter plain _>>?_
+  misread-word i m =
+      let f = misread-whole i m in
+      let os = f .text in
+      let item = f .item in
+      let word = f .word in
       let (k, there, before) = word-before l 0 args x i os os e clear item (f .argument) in
       let g = argument-grouped l os in
       let other = sym (g .marker) ∙ ap (λ (h : Group). h .marker) (ok-injective (sym (g .same) ∙ word)) in
@@ -251,130 +303,70 @@ module _ (l : Letters) (args : List (List ℕ)) (x : Split) (e : splitFrom l 0 a
         why = rw (f .argument) (word-why l os word (f .looks) other);
       }
 
-  -- none is misread
-  read-as : firstMisread args (x .groups) ≡ none → (k : ℕ) (os : List ℕ) → LooksLike args k os → ReadAsOptions x k
-  unfolding firstMisread isWhole
-  read-as free k os h =
+  -- none is misread from a place on: a word that looks like options stands before that
+  pub read-as :
+      (from : ℕ)
+      → firstMisread from args (x .groups) ≡ none
+      → (k : ℕ) (os : List ℕ)
+      → LooksLike args k os
+      → ReadAsOptions x k ⊎ WordBefore x from k os
+  unfolding firstMisread isWhole itemsOf
+  read-as from free k os h =
       let (g, split, unambiguous, there) = group-there l 0 args x k os e clear (h .there) (h .before) in
       go (g .items) there ((rw split at (group-begins l os (h .other))) unambiguous)
     where
-      all-read : (i : ℕ) → i < length (flatten (x .groups)) → not (isMisread args (x .groups) i) ≡ true
-      all-read i below =
-          numbers-all (λ (i : ℕ). not (isMisread args (x .groups) i) ≡ true) (length (flatten (x .groups))) 0
-          (no-fault (λ i. not (isMisread args (x .groups) i)) 0 _ free) i (omega arith) (omega arith)
+      all-read : (i : ℕ) → from ≤ i → i < length (flatten (x .groups)) → not (isMisread args (x .groups) i) ≡ true
+      all-read i above below =
+          numbers-all (λ (i : ℕ). not (isMisread args (x .groups) i) ≡ true) (length (flatten (x .groups)) - from) from
+          (no-fault (λ i. not (isMisread args (x .groups) i)) from _ free) i above (omega arith)
 
-      go : (is : List Item) → getElem? (x .groups) k ≡ some is → Begins os is → ReadAsOptions x k
-      go is there (option y more n) = record { first = y; more = more; group = there; option = n }
-      go is there word =
-          let (i, here, at) = word-place args (x .groups) k os (h .there) there in
-          let read = not-true _ (all-read i (lookup-inside (flatten (x .groups)) i (Word os) here)) in
+      before : (i : ℕ) → getElem? (flatten (x .groups)) i ≡ some (Word os) → argumentAt args (x .groups) i ≡ some os → Behind k i (x .groups)
+          → (t : Bool) → ltb i from ≡ t → ReadAsOptions x k ⊎ WordBefore x from k os
+      before i here at front true t =
+          inr (record { place = i; before = ltb-true i from t; item = here; first = first-place l args x k i os e clear h front })
+      before i here at front false t =
+          let read = not-true _ (all-read i (ltb-false i from t) (lookup-inside (flatten (x .groups)) i (Word os) here)) in
           absurd (true≢false (sym (both (same os os) _ (same-self os) (h .looks)) ∙ sym (misread-at args (x .groups) i (Word os) os here at) ∙ read))
 
--- ---- the careful run
-module _ (b s : List ℕ) (ni na nl : ℕ) where
-  abbrev ran : Report
-  ran = demand1 b s ni na nl .report
+      go : (is : List Item) → getElem? (x .groups) k ≡ some is → Begins os is → ReadAsOptions x k ⊎ WordBefore x from k os
+      go is there (option y more n) = inl (record { first = y; more = more; group = there; option = n })
+      go is there word =
+          let (i, here, at, front) = word-place args (x .groups) k os (h .there) there in
+          before i here at front (ltb i from) refl
 
-  abbrev runs : run b s ni na nl ≡ ok ran
-  runs = demand1 b s ni na nl .answered
-
-  -- a run has no number above 27
-  run-small : ran .number ≤ 27
-  run-small =
-      ⊎-elim
-      (λ (y : Ready b s ni na nl × RunNumber (ran .number)). ⊎-elim (λ (z : ran .number ≡ 0). omega (arith, z)) (λ z. z .1) (y .1))
-      (λ y. omega (arith, fault-range b s ni na nl (ran .number) (ran .place) (y .1) .1))
-      (demand1 b s ni na nl .number)
-
-  -- refused
-  refused-looks : eqb (ran .number) 0 ≡ false → Looks b s ni na nl
-  unfolding careful _>>=_ if_then_else_
-  refused-looks h = record {
-    report = ran;
-    ran = runs;
-    answer = record { report = ran; letter = 0 };
-    answered = rw (runs, h);
-    number = inr (refl, refl);
-    accepted = λ z. absurd (eqb-false (ran .number) 0 h z);
-    misread = λ z. absurd (omega (arith, run-small, z));
-  }
-
-  module _ (fine : ran .number ≡ 0) where
-    abbrev given : Split
-    given = accepted-line b s ni na nl ran runs fine .given
-
-    abbrev l : Letters
-    l = lettersOf (readForm b)
-
-    splits : splitFrom l 0 (arguments s) ≡ ok given
-    splits = accepted-line b s ni na nl ran runs fine .grouped
-
-    clear : given .ambiguous ≡ none
-    clear = accepted-line b s ni na nl ran runs fine .clear
-
-    looked : careful b s ni na nl ≡ ok (lookAt l (arguments s) (given .groups) na nl ran)
-    unfolding careful _>>=_ if_then_else_
-    looked = rw (runs, eq-eqb (ran .number) 0 fine, splits)
-
-    accepted-looks : firstMisread (arguments s) (given .groups) ≡ none → Looks b s ni na nl
-    unfolding lookAt
-    accepted-looks h = record {
-      report = ran;
-      ran = runs;
-      answer = record { report = ran; letter = 0 };
-      answered = looked ∙ rw (h, lookAt);
-      number = inr (refl, refl);
-      accepted = λ _ x e k os look.
-          subst (λ (x : Split). ReadAsOptions x k) (ok-injective (sym splits ∙ e)) (read-as l (arguments s) given splits clear h k os look);
-      misread = λ z. absurd (omega (arith, fine, z));
+-- what is refused with 50, and what is left
+pub misread-report :
+    (l : Letters) (s : List ℕ) (x : Split)
+    → splitFrom l 0 (arguments s) ≡ ok x
+    → x .ambiguous ≡ none
+    → (from na nl : ℕ) (r : Report)
+    → r .number ≡ 0
+    → (i : ℕ)
+    → firstMisread from (arguments s) (x .groups) ≡ some i
+    → Misread l from s na nl r (refusedWord na nl r i) (misreadLetter l (arguments s) (x .groups) i)
+unfolding refusedWord firstMisread
+misread-report l s x e clear from na nl r fine i h =
+    let (above, _, here, lower) = first-number _ (length (flatten (x .groups)) - from) from i h in
+    let w = misread-word l (arguments s) x e clear i (not-false _ here) in
+    record {
+      accepted = fine;
+      given = x;
+      splits = e;
+      argument = w .argument;
+      text = w .text;
+      looks = w .looks;
+      group = w .group;
+      place = i;
+      told = refl;
+      item = w .item;
+      behind = above;
+      lowest = λ j from less. not-true _ (lower j from less);
+      unknown = w .why .unknown;
+      notUtf8 = w .why .notUtf8;
+      tries = refl;
+      words = refl;
+      state = refl;
+      items = refl;
+      answers = padded-nil na;
+      list = padded-nil nl;
     }
-
-    misread-looks : (i : ℕ) → firstMisread (arguments s) (given .groups) ≡ some i → Looks b s ni na nl
-    unfolding lookAt refusedWord firstMisread
-    misread-looks i h =
-        let (_, _, here, lower) = first-number _ (length (flatten (given .groups))) 0 i h in
-        let w = misread-word l (arguments s) given splits clear i (not-false _ here) in
-        let answer : CarefulReport = record { report = refusedWord na nl ran i; letter = misreadLetter l (arguments s) (given .groups) i } in
-        record {
-          report = ran;
-          ran = runs;
-          answer = answer;
-          answered = looked ∙ rw (h, lookAt);
-          number = inl refl;
-          accepted = λ z. absurd (omega (arith, z));
-          misread = λ _. record {
-            accepted = fine;
-            given = given;
-            splits = splits;
-            argument = w .argument;
-            text = w .text;
-            looks = w .looks;
-            group = w .group;
-            place = i;
-            told = refl;
-            item = w .item;
-            lowest = λ j less. not-true _ (lower j (omega arith) less);
-            unknown = w .why .unknown;
-            notUtf8 = w .why .notUtf8;
-            tries = refl;
-            words = refl;
-            state = refl;
-            items = refl;
-            answers = padded-nil na;
-            list = padded-nil nl;
-          };
-        }
-
-    looked-looks : Looks b s ni na nl
-    looked-looks = go (firstMisread (arguments s) (given .groups)) refl
-      where
-        go : (o : Option ℕ) → firstMisread (arguments s) (given .groups) ≡ o → Looks b s ni na nl
-        go none h = accepted-looks h
-        go (some i) h = misread-looks i h
-
-pub looks : (b s : List ℕ) (ni na nl : ℕ) → Looks b s ni na nl
-looks b s ni na nl = go (eqb (ran b s ni na nl .number) 0) refl
-  where
-    go : (t : Bool) → eqb (ran b s ni na nl .number) 0 ≡ t → Looks b s ni na nl
-    go true h = looked-looks b s ni na nl (eqb-true _ 0 h)
-    go false h = refused-looks b s ni na nl h

@@ -4,38 +4,77 @@ use mathlib.Core.List.{List, [], _∷_, flatten}
 use mathlib.Core.Logic.{inr}
 use mathlib.Core.Option.{Option, some, none, Option·some-injective}
 use mathlib.Core.Path.{_≡_, refl, sym, ap, _∙_}
-use Prim.Native.Nat.{ℕ}
+use Prim.Native.Nat.{ℕ, _≤_}
 use native.Mathlib.Omega.{arith}
 use borrow.Author.Tests.{eqb-true, eqb-false}
 use lib.Dec.{eqb}
-use lib.ListN.{getElem?}
+use lib.ListN.{length, getElem?}
 use Rattle.utf8.specs.Utf8.{if_then_else_, wellFormed}
 use Rattle.rules.specs.Base.{null, same, _>>?_}
 use Rattle.rules.specs.Outcome.{ok, _>>=_}
+use Rattle.rules.specs.Sheet.{sheetFault, arguments}
 use Rattle.rules.specs.Form.{readForm}
-use Rattle.rules.specs.Accept.{Letters, lettersOf}
+use Rattle.rules.specs.Accept.{Accepted, accepted, checkForm, Letters, lettersOf}
 use Rattle.rules.specs.Split.{Item, Short, Long, ArgWord, Word, PosWord, dash, equals, ArgType, short, long, Parts, Split, splitFrom, itemsOf}
 use Rattle.rules.specs.Split.{beforeEquals, behindEquals, parts, splitLong, splitShort, behindDash, splitOsArgument}
-use Rattle.rules.specs.Run.{Report, padded, run}
+use Rattle.rules.specs.Run.{Line, Report, padded, split, run}
+use Rattle.rules.specs.Commands.{splitWith}
 use Rattle.rules.specs.Codes.{placeCode}
 use Rattle.rules.specs.Why.{argumentAt, isWhole, unknownIn}
 use Rattle.rules.specs.WhyAnswered.{behindAdjacent}
-use Rattle.rules.specs.Careful.{looksLikeOptions, isMisread, misreadLetter}
-use Rattle.rules.specs.Looks.{BadName, longName, shortName, shortValue}
+use Rattle.rules_careful.specs.Careful.{looksLikeOptions, isMisread, misreadLetter}
+use Rattle.rules_careful.specs.Looks.{BadName, longName, shortName, shortValue}
 use Rattle.rules.proofs.Places.{if-elim, left, right}
 use Rattle.rules.proofs.Acceptance.{lookup-inside}
-use Rattle.rules.proofs.SplitLaws.{ok-injective, same-self, some≢none, short-body, dashes}
+use Rattle.rules.proofs.SplitLaws.{LineGood, ok-injective, same-self, some≢none, short-body, dashes}
 use Rattle.rules.proofs.InputFaults.{padded-nil}
 use Rattle.rules.proofs.Demand1Holds.{demand1}
 use Rattle.rules.proofs.Withdraws.{argument-there, rest-not-whole, word-whole}
-use Rattle.rules.proofs.WhyLaws.{LineRan, line-ran}
+use Rattle.rules.proofs.WhyLaws.{line-ran}
 
 -- ---- an accepted run
-abbrev pub AcceptedLine : List ℕ → List ℕ → ℕ → Report → Type 0
-AcceptedLine b s ni r = LineRan b s ni r
+-- a line that is split by these letters, and what the report of its run has of it
+pub record RanLine (l : Letters) (s : List ℕ) (ni : ℕ) (r : Report) : Type 0 where
+  pub made : sheetFault s ≡ 0
+  pub room : 1792 ≤ ni
+  pub line : Line
+  pub splits : splitWith l s ≡ ok line
+  pub free : line .refusal ≡ none
+  pub good : LineGood (arguments s) line
+  pub given : Split
+  pub grouped : splitFrom l 0 (arguments s) ≡ ok given
+  pub clear : given .ambiguous ≡ none
+  pub items : line .items ≡ itemsOf given
+  pub records : r .items ≡ padded ni (line .records)
+  pub marks : length (r .state .marks) ≡ length (line .items)
+
+pub record AcceptedLine (b s : List ℕ) (ni : ℕ) (r : Report) : Type 0 where
+  pub result : Accepted
+  pub accepts : checkForm b ≡ accepted result
+  pub line : RanLine (lettersOf (readForm b)) s ni r
 
 pub accepted-line : (b s : List ℕ) (ni na nl : ℕ) (r : Report) → run b s ni na nl ≡ ok r → r .number ≡ 0 → AcceptedLine b s ni r
-accepted-line b s ni na nl r e h = line-ran b s ni na nl r e (inr h)
+unfolding split splitWith
+accepted-line b s ni na nl r e h =
+    let o = line-ran b s ni na nl r e (inr h) in
+    record {
+      result = o .result;
+      accepts = o .accepts;
+      line = record {
+        made = o .made;
+        room = o .room;
+        line = o .line;
+        splits = o .splits;
+        free = o .free;
+        good = o .good;
+        given = o .given;
+        grouped = o .grouped;
+        clear = o .clear;
+        items = o .items;
+        records = o .records;
+        marks = o .marks;
+      };
+    }
 
 -- its list is all 0
 pub accepted-list : (b s : List ℕ) (ni na nl : ℕ) (r : Report) → run b s ni na nl ≡ ok r → r .number ≡ 0 → r .list ≡ padded nl []

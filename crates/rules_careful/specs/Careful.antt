@@ -2,19 +2,19 @@
 use mathlib.Core.Bool.{Bool, false, not, _&&_}
 use mathlib.Core.List.{List, [], _∷_, flatten}
 use mathlib.Core.Option.{Option, some, none}
-use Prim.Native.Nat.{ℕ}
+use Prim.Native.Nat.{ℕ, _-_}
 use lib.Dec.{eqb}
 use lib.ListN.{length, getElem?}
 use Rattle.utf8.specs.Utf8.{if_then_else_}
 use Rattle.rules.specs.Base.{_>>?_, numbers, firstFault}
 use Rattle.rules.specs.Outcome.{Outcome, ok, _>>=_}
 use Rattle.rules.specs.Sheet.{arguments}
 use Rattle.rules.specs.Form.{readForm}
 use Rattle.rules.specs.Accept.{Letters, lettersOf}
 use Rattle.rules.specs.Split.{Item, dash, splitFrom}
 use Rattle.rules.specs.Run.{Report, padded, run}
 use Rattle.rules.specs.Codes.{placeCode}
 use Rattle.rules.specs.Why.{argumentAt, isWhole, clusterLetters, firstUnknown}
 
 -- begins with a dash, and is longer than `-`
 unfoldable pub looksLikeOptions : List ℕ → Bool
@@ -30,9 +30,9 @@ isMisread args groups i =
       | some y ↦ elim (argumentAt args groups i) [ none ↦ false | some os ↦ isWhole y os && looksLikeOptions os ]
     ]
 
--- the lowest such place
-unfoldable pub firstMisread : List (List ℕ) → List (List Item) → Option ℕ
-firstMisread args groups = firstFault (λ i. not (isMisread args groups i)) 0 (numbers (length (flatten groups)) 0)
+-- the lowest such place from a place on
+unfoldable pub firstMisread : ℕ → List (List ℕ) → List (List Item) → Option ℕ
+firstMisread from args groups = firstFault (λ i. not (isMisread args groups i)) from (numbers (length (flatten groups) - from) from)
 
 -- why it is a word: the first letter that no option has, plus 1; or 0, where its name is not UTF-8
 unfoldable pub misreadLetter : Letters → List (List ℕ) → List (List Item) → ℕ → ℕ
@@ -57,9 +57,9 @@ refusedWord na nl r i = record {
   list = padded nl [];
 }
 
-unfoldable pub lookAt : Letters → List (List ℕ) → List (List Item) → (na nl : ℕ) → Report → CarefulReport
-lookAt l args groups na nl r =
-    elim (firstMisread args groups) [
+unfoldable pub lookAt : Letters → ℕ → List (List ℕ) → List (List Item) → (na nl : ℕ) → Report → CarefulReport
+lookAt l from args groups na nl r =
+    elim (firstMisread from args groups) [
       | none ↦ record { report = r; letter = 0 }
       | some i ↦ record { report = refusedWord na nl r i; letter = misreadLetter l args groups i }
     ]
@@ -69,5 +69,5 @@ unfoldable pub careful : List ℕ → List ℕ → ℕ → ℕ → ℕ → Outco
 careful b s ni na nl =
     run b s ni na nl >>= λ r.
     if eqb (r .number) 0
-    then (splitFrom (lettersOf (readForm b)) 0 (arguments s) >>= λ x. ok (lookAt (lettersOf (readForm b)) (arguments s) (x .groups) na nl r))
+    then (splitFrom (lettersOf (readForm b)) 0 (arguments s) >>= λ x. ok (lookAt (lettersOf (readForm b)) 0 (arguments s) (x .groups) na nl r))
     else ok (record { report = r; letter = 0 })

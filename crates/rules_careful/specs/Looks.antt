@@ -4,20 +4,20 @@ use mathlib.Core.List.{List, [], _∷_}
 use mathlib.Core.Logic.{_⊎_}
 use mathlib.Core.Option.{some, none}
 use mathlib.Core.Path.{_≡_}
-use Prim.Native.Nat.{ℕ, suc, _<_}
+use Prim.Native.Nat.{ℕ, suc, _≤_, _<_}
 use lib.ListN.{take, getElem?, replicate}
 use Rattle.utf8.specs.Utf8.{wellFormed}
 use Rattle.rules.specs.Base.{same}
 use Rattle.rules.specs.Outcome.{ok}
 use Rattle.rules.specs.Sheet.{arguments}
 use Rattle.rules.specs.Form.{readForm}
-use Rattle.rules.specs.Accept.{lettersOf}
+use Rattle.rules.specs.Accept.{Letters, lettersOf}
 use Rattle.rules.specs.Split.{Item, Word, dash, beforeEquals, behindEquals, Split, splitFrom, itemsOf}
 use Rattle.rules.specs.Run.{Report, run}
 use Rattle.rules.specs.Demands.{hasMarker}
 use Rattle.rules.specs.Why.{isName}
 use Rattle.rules.specs.WhyAnswered.{HasUnknown, Withdrawn}
-use Rattle.rules.specs.Careful.{looksLikeOptions, isMisread, CarefulReport, careful}
+use Rattle.rules_careful.specs.Careful.{looksLikeOptions, isMisread, CarefulReport, careful}
 
 -- ---- an argument that looks like options
 -- before the first `--`, and it is none itself
@@ -41,29 +41,31 @@ pub data BadName : List ℕ → Type 0 where
   shortValue : (b : ℕ) (s v : List ℕ) → (b ≡ dash → ⊥) → behindEquals s ≡ some v → wellFormed (b ∷ []) ≡ false → BadName (dash ∷ b ∷ s)
 
 -- ---- what is refused with 50
-pub record Misread (b s : List ℕ) (na nl : ℕ) (r : Report) (x : CarefulReport) : Type 0 where
+-- a sheet that is split by these letters and looked at from a place on, the report of its run, and what is reported instead
+pub record Misread (l : Letters) (from : ℕ) (s : List ℕ) (na nl : ℕ) (r x : Report) (letter : ℕ) : Type 0 where
   pub accepted : r .number ≡ 0
   pub given : Split
-  pub splits : splitFrom (lettersOf (readForm b)) 0 (arguments s) ≡ ok given
+  pub splits : splitFrom l 0 (arguments s) ≡ ok given
   -- the lowest place, of an argument that looks like options, is one Word
   pub argument : ℕ
   pub text : List ℕ
   pub looks : LooksLike (arguments s) argument text
   pub group : getElem? (given .groups) argument ≡ some (Word text ∷ [])
   pub place : ℕ
-  pub told : x .report .place ≡ some place
+  pub told : x .place ≡ some place
   pub item : getElem? (itemsOf given) place ≡ some (Word text)
-  pub lowest : (i : ℕ) → i < place → isMisread (arguments s) (given .groups) i ≡ false
+  pub behind : from ≤ place
+  pub lowest : (i : ℕ) → from ≤ i → i < place → isMisread (arguments s) (given .groups) i ≡ false
   -- why: a letter that no option has, or a name that is not UTF-8
-  pub unknown : (c : ℕ) → x .letter ≡ suc c → HasUnknown (lettersOf (readForm b)) text c × Withdrawn (lettersOf (readForm b)) text
-  pub notUtf8 : x .letter ≡ 0 → BadName text
+  pub unknown : (c : ℕ) → letter ≡ suc c → HasUnknown l text c × Withdrawn l text
+  pub notUtf8 : letter ≡ 0 → BadName text
   -- what is left
-  pub tries : x .report .tries ≡ r .tries
-  pub words : x .report .words ≡ []
-  pub state : x .report .state ≡ r .state
-  pub items : x .report .items ≡ r .items
-  pub answers : x .report .answers ≡ replicate na 0
-  pub list : x .report .list ≡ replicate nl 0
+  pub tries : x .tries ≡ r .tries
+  pub words : x .words ≡ []
+  pub state : x .state ≡ r .state
+  pub items : x .items ≡ r .items
+  pub answers : x .answers ≡ replicate na 0
+  pub list : x .list ≡ replicate nl 0
 
 -- every input is answered: with 50, or as the run answers; and accepted, every argument that looks like options was read as options
 pub record Looks (b s : List ℕ) (ni na nl : ℕ) : Type 0 where
@@ -79,4 +81,4 @@ pub record Looks (b s : List ℕ) (ni na nl : ℕ) : Type 0 where
       → (k : ℕ) (os : List ℕ)
       → LooksLike (arguments s) k os
       → ReadAsOptions x k
-  pub misread : answer .report .number ≡ 50 → Misread b s na nl report answer
+  pub misread : answer .report .number ≡ 50 → Misread (lettersOf (readForm b)) 0 s na nl report (answer .report) (answer .letter)
