@@ -52,12 +52,13 @@ static const uint8_t WITH_WORD[] = {
   NODE(SILVERPOISE_NODE_POSITIONAL, SILVERPOISE_POSITIONAL_UNRESTRICTED, 0, SILVERPOISE_VALUE_TEXT, 0, 0),
   NAME(SILVERPOISE_NAME_SHORT, 0, 1), 'v'};
 // optional text argument with the names l and limit, switch v, and any number of words: the fields 0, 1 and 2
-static const uint8_t LIMIT[] = {
-  U16(5), U16(3), U16(3), U16(6), U16(1), U16(2), U16(4), NODE(SILVERPOISE_NODE_ARGUMENT, 0, 2, SILVERPOISE_VALUE_TEXT, 0, 0),
-  NODE(SILVERPOISE_NODE_OPTIONAL, 0, 0, 0, 0, 0), NODE(SILVERPOISE_NODE_FLAG, 2, 1, SILVERPOISE_FLAG_SWITCH, 0, 0),
-  NODE(SILVERPOISE_NODE_POSITIONAL, SILVERPOISE_POSITIONAL_UNRESTRICTED, 0, SILVERPOISE_VALUE_TEXT, 0, 0),
-  NODE(SILVERPOISE_NODE_MANY, 3, 0, 0, 0, 0), NAME(SILVERPOISE_NAME_SHORT, 0, 1), NAME(SILVERPOISE_NAME_LONG, 0, 5),
-  NAME(SILVERPOISE_NAME_SHORT, 5, 1), 'l', 'i', 'm', 'i', 't', 'v'};
+#define LIMIT_FORM \
+  U16(5), U16(3), U16(3), U16(6), U16(1), U16(2), U16(4), NODE(SILVERPOISE_NODE_ARGUMENT, 0, 2, SILVERPOISE_VALUE_TEXT, 0, 0), \
+  NODE(SILVERPOISE_NODE_OPTIONAL, 0, 0, 0, 0, 0), NODE(SILVERPOISE_NODE_FLAG, 2, 1, SILVERPOISE_FLAG_SWITCH, 0, 0), \
+  NODE(SILVERPOISE_NODE_POSITIONAL, SILVERPOISE_POSITIONAL_UNRESTRICTED, 0, SILVERPOISE_VALUE_TEXT, 0, 0), \
+  NODE(SILVERPOISE_NODE_MANY, 3, 0, 0, 0, 0), NAME(SILVERPOISE_NAME_SHORT, 0, 1), NAME(SILVERPOISE_NAME_LONG, 0, 5), \
+  NAME(SILVERPOISE_NAME_SHORT, 5, 1), 'l', 'i', 'm', 'i', 't', 'v'
+static const uint8_t LIMIT[] = {LIMIT_FORM};
 // choice of text argument x and text argument y: nodes 0 and 1, and the choice 2
 static const uint8_t CHOICE[] = {
   U16(3), U16(1), U16(2), U16(2), U16(2), NODE(SILVERPOISE_NODE_ARGUMENT, 0, 1, SILVERPOISE_VALUE_TEXT, 0, 0),
@@ -74,6 +75,11 @@ static const uint8_t TABLE_BYTES[] = {ENTRIES(SILVERPOISE_NAME_LONG), ARGUMENT_F
 // with a node of no kind in the form of `log`, and with `log` as a text besides
 static const uint8_t FORM_AT_FAULT[] = {ENTRIES(SILVERPOISE_NAME_LONG), ARGUMENT_FORM(0)};
 static const uint8_t NAME_AT_FAULT[] = {ENTRIES(SILVERPOISE_NAME_TEXT), ARGUMENT_FORM(0)};
+// two commands: `set` with the form above, and `-17` with the switch -6
+enum { SET = 4 + 6 + 3 + sizeof LIMIT, BELOW = 4 + 6 + 3 + sizeof DIGIT };
+static const uint8_t LOOKS[] = {
+  U16(2), U32(0), U32(SET), U32(SET + BELOW), U16(1), U16(3), NAME(SILVERPOISE_NAME_LONG, 0, 3), 's', 'e', 't', LIMIT_FORM,
+  U16(1), U16(3), NAME(SILVERPOISE_NAME_LONG, 0, 3), '-', '1', '7', SWITCH('6')};
 // three sheets: the one above, `-vw`, and one that is cut off
 enum { SHEETS = 3, SECOND = sizeof SHEET_BYTES, THIRD = SECOND + 9, END = THIRD + 2, HEADER = 2 + 4 * (SHEETS + 1) };
 #define BATCH_HEADER(count, o0, o1, o2, o3) U16(count), U32(o0), U32(o1), U32(o2), U32(o3)
@@ -126,6 +132,10 @@ static bool refused(SilverpoiseRefused r, uint32_t number, uint32_t place) { ret
 
 static bool told(SilverpoiseTold t, uint32_t number, uint32_t answer) {
   return t.number == number && t.place == 0 && t.answer == answer;
+}
+
+static bool idle(SilverpoiseIdleAnswer a, uint32_t number, uint32_t place, uint64_t nodes) {
+  return a.number == number && a.place == place && a.nodes == nodes;
 }
 
 static bool ran(SilverpoiseRunAnswer r, uint32_t number, uint32_t place, uint32_t tries, uint32_t words, SilverpoiseState s) {
@@ -203,6 +213,39 @@ static void checks(void) {
   CHECK(told(silverpoise_portable(FALLBACK, sizeof FALLBACK), 0, 0)); // + is not alphanumeric
   CHECK(told(silverpoise_portable(DIGIT, sizeof DIGIT), 0, 1));
   CHECK(told(silverpoise_portable(VENDORS, sizeof VENDORS), 0, 0)); // W is reserved
+  CHECK(idle(silverpoise_idle_repeats(FORM), 0, 0, 0)); // no repeat
+  CHECK(idle(silverpoise_idle_repeats(LIMIT, sizeof LIMIT), 0, 0, 0)); // many of a positional
+  CHECK(idle(silverpoise_idle_repeats(shared, sizeof shared), 4, 1, 0));
+  CHECK(idle(silverpoise_idle_repeats(NULL, 0), 1, 0, 0));
+}
+
+// Count of a switch, many of a choice of a required flag and a switch, some of a guard of a fallback: nodes 1, 5 and 9. Not last of a
+// required flag, nor an optional by itself.
+static void idle_repeats(void) {
+  static const uint8_t bytes[] = {
+    U16(14), U16(5), U16(1), U16(1), U16(1), U16(5), U16(9), U16(11), U16(13),
+    NODE(SILVERPOISE_NODE_FLAG, 0, 1, SILVERPOISE_FLAG_SWITCH, 0, 0), NODE(SILVERPOISE_NODE_COUNT, 0, 0, 0, 0, 0),
+    NODE(SILVERPOISE_NODE_FLAG, 0, 1, SILVERPOISE_FLAG_REQUIRED, 0, 0), NODE(SILVERPOISE_NODE_FLAG, 0, 1, SILVERPOISE_FLAG_SWITCH, 0, 0),
+    NODE(SILVERPOISE_NODE_CHOICE, 2, 3, 0, 0, 0), NODE(SILVERPOISE_NODE_MANY, 4, 0, 0, 0, 0),
+    NODE(SILVERPOISE_NODE_ARGUMENT, 0, 1, SILVERPOISE_VALUE_NUMBER, 0, 0), NODE(SILVERPOISE_NODE_FALLBACK, 6, 0, 0, 7, 0),
+    NODE(SILVERPOISE_NODE_GUARD, 7, 0, 0, 1, 9), NODE(SILVERPOISE_NODE_SOME, 8, 0, 0, 0, 0),
+    NODE(SILVERPOISE_NODE_FLAG, 0, 1, SILVERPOISE_FLAG_REQUIRED, 0, 0), NODE(SILVERPOISE_NODE_LAST, 10, 0, 0, 0, 0),
+    NODE(SILVERPOISE_NODE_ARGUMENT, 0, 1, SILVERPOISE_VALUE_TEXT, 0, 0), NODE(SILVERPOISE_NODE_OPTIONAL, 12, 0, 0, 0, 0),
+    NAME(SILVERPOISE_NAME_SHORT, 0, 1), 'v'};
+  CHECK(idle(silverpoise_idle_repeats(bytes, sizeof bytes), 0, 0, 1u << 1 | 1u << 5 | 1u << 9));
+
+  // as many nodes as a form may have: many of a choice of 32 switches, which is node 63
+  static const uint8_t head[] = {U16(64), U16(1), U16(1), U16(1), U16(63)}, tail[] = {NAME(SILVERPOISE_NAME_SHORT, 0, 1), 'v'};
+  static const uint8_t flag[] = {NODE(SILVERPOISE_NODE_FLAG, 0, 1, SILVERPOISE_FLAG_SWITCH, 0, 0)};
+  static const uint8_t choice[] = {NODE(SILVERPOISE_NODE_CHOICE, 0, 1, 0, 0, 0)}, many[] = {NODE(SILVERPOISE_NODE_MANY, 62, 0, 0, 0, 0)};
+  uint8_t wide[sizeof head + 64 * sizeof flag + sizeof tail], *node = wide + sizeof head;
+  memcpy(wide, head, sizeof head);
+  for (int n = 0; n < 64; n++, node += sizeof flag) {
+    memcpy(node, n < 32 ? flag : n < 63 ? choice : many, sizeof flag);
+    if (n > 32 && n < 63) node[2] = (uint8_t)(n - 1), node[4] = (uint8_t)(n - 31);
+  }
+  memcpy(node, tail, sizeof tail);
+  CHECK(idle(silverpoise_idle_repeats(wide, sizeof wide), 0, 0, (uint64_t)1 << 63));
 }
 
 static void splitting(void) {
@@ -425,17 +468,21 @@ static bool cleared(BatchSlices s, size_t sheets) {
   return true;
 }
 
+// Whether record k is this, and the parts k are the slices of a single run.
+static bool has_parts(BatchSlices s, size_t k, uint32_t number, uint32_t place, uint32_t tries, uint32_t words) {
+  const uint32_t record[] = {number, place, tries, words};
+  const uint32_t *single[SLICES] = {record, items, answers, list};
+  for (int i = 0; i < SLICES; i++) {
+    if (!holds(s.words[i] + PARTS[i] * k, PARTS[i], single[i], PARTS[i], 0)) return false;
+  }
+  return true;
+}
+
 // Whether a sheet has in record and parts k what a single run of it answers and leaves.
 static bool as_single(const uint8_t *form, size_t form_count, const uint8_t *sheet, size_t sheet_count, BatchSlices s,
                       size_t k) {
   SilverpoiseRunAnswer a = silverpoise_run(form, form_count, sheet, sheet_count, ITEMS, ANSWERS, LIST);
-  const uint32_t *single[SLICES] = {NULL, items, answers, list};
-  for (int i = 1; i < SLICES; i++) {
-    if (!holds(s.words[i] + PARTS[i] * k, PARTS[i], single[i], PARTS[i], 0)) return false;
-  }
-  SilverpoiseBatchRecord r;
-  memcpy(&r, s.words[0] + SILVERPOISE_BATCH_RECORD_WORDS * k, sizeof r);
-  return r.number == a.number && r.place == a.place && r.tries == a.tries && r.words == a.words;
+  return has_parts(s, k, a.number, a.place, a.tries, a.words);
 }
 
 // The batch under a form, whose records are known, in slices that are longer than they need be, and in others that are not.
@@ -680,6 +727,125 @@ static void careful_slices(void) {
   CHECK(silverpoise_careful(LIMIT, sizeof LIMIT, word, sizeof word, NULL, 0, NULL, 0, NULL, 0).number == 7);
 }
 
+static bool careful_command_is(SilverpoiseCarefulCommandAnswer c, uint32_t number, uint32_t place, uint32_t letter) {
+  return c.number == number && c.place == place && c.letter == letter;
+}
+
+// As careful, of a line under a table.
+static SilverpoiseCarefulCommandAnswer careful_commands(const uint8_t *table, size_t table_count, const char *line) {
+  uint8_t bytes[64];
+  size_t count = write_sheet(bytes, line);
+  uint8_t *exact = (uint8_t *)lend(bytes, count);
+  BatchSlices s = lend_slices(1, 1);
+  SilverpoiseCarefulCommandAnswer c = silverpoise_careful_commands(table, table_count, exact, count, s.words[1], s.counts[1],
+                                                                   s.words[2], s.counts[2], s.words[3], s.counts[3]);
+  SilverpoiseCommandAnswer r = silverpoise_run_commands(table, table_count, exact, count, ITEMS, ANSWERS, LIST);
+  bool misread = c.number == 50;
+  CHECK(misread ? r.number == 0 : careful_command_is(c, r.number, r.place, 0));
+  CHECK(c.tries == r.tries && c.words == (misread ? 0 : r.words) && same(c.state, r.state));
+  CHECK(c.comparisons == r.comparisons && c.entry == r.entry);
+  CHECK(holds(s.words[1], s.counts[1], ITEMS, 0) && holds(s.words[3], s.counts[3], LIST, 0));
+  CHECK(holds(s.words[2], s.counts[2], answers, misread ? 0 : SILVERPOISE_ANSWER_SLICE, 0));
+  free_slices(s);
+  free(exact);
+  return c;
+}
+
+// A line under the commands `set` and `-17`: its number, its place and its letter.
+static bool careful_set(const char *line, uint32_t number, uint32_t place, uint32_t letter) {
+  return careful_command_is(careful_commands(LOOKS, sizeof LOOKS, line), number, place, letter);
+}
+
+// A table's careful run: behind the command word all is as for one form, by the letters of all forms.
+static void careful_commands_lines(void) {
+  CHECK(careful_set("set -17", 50, 2, '1' + 1) && careful_set("set -l -17", 50, 3, '1' + 1));
+  CHECK(careful_set("set a -x -- -17", 27, 3, 0) && careful_set("set a -xy - -17 -- -18", 50, 3, 'x' + 1));
+  CHECK(careful_set("set -6x", 50, 2, 'x' + 1));                                      // -6 is the other command's
+  CHECK(careful_set("set -\xff", 50, 2, 0) && careful_set("set --\xff=7", 50, 2, 0)); // a name that is not UTF-8
+  CHECK(careful_set("set", 0, 0, 0) && careful_set("set - -l-17 -v", 0, 0, 0));
+  CHECK(careful_set("set - -vl-17 -- -17", 0, 0, 0));
+  // the command word may look like options; the same word behind it may not
+  CHECK(careful_set("-17", 0, 0, 0) && careful_set("-17 -6", 0, 0, 0) && careful_set("-17 -17", 27, 2, 0));
+  CHECK(careful_set("-18", 31, 0, 0) && careful_set("", 31, 0, 0) && careful_set("-v set", 31, 0, 0));
+  SilverpoiseCarefulCommandAnswer c = careful_commands(LOOKS, sizeof LOOKS, "set -17 a");
+  CHECK(careful_command_is(c, 50, 2, '1' + 1) && c.comparisons == 1 && c.entry == 1 && c.words == 0 && c.state.count == 3);
+  c = careful_commands(LOOKS, sizeof LOOKS, "-17 -6");
+  CHECK(c.comparisons == 2 && c.entry == 2 && c.words == 1);
+  CHECK(careful_command_is(careful_commands(TABLE, "log -bb"), 9, 2, 0));
+  c = careful_commands(FORM_AT_FAULT, sizeof FORM_AT_FAULT, "log");
+  CHECK(careful_command_is(c, 3, 1, 0) && c.entry == 2);
+}
+
+// As careful_slices, and no table at all.
+static void careful_commands_slices(void) {
+  static const uint8_t word[] = {U16(2), U16(0), U16(3), U16(6), 's', 'e', 't', '-', '1', '7'};
+  static const uint32_t numbers[SLICES] = {0, 7, 7, 14};
+  for (int i = 1; i < SLICES; i++) {
+    BatchSlices s = lend_slices(1, 0);
+    s.counts[i]--;
+    SilverpoiseCarefulCommandAnswer c =
+        silverpoise_careful_commands(LOOKS, sizeof LOOKS, word, sizeof word, s.words[1], s.counts[1], s.words[2], s.counts[2],
+                                     s.words[3], s.counts[3]);
+    CHECK(careful_command_is(c, numbers[i], 0, 0) && c.tries == 0 && c.words == 0 && c.state.count == 0);
+    for (int k = 1; k < SLICES; k++) CHECK(holds(s.words[k], s.counts[k], NULL, 0, 0));
+    CHECK(s.words[i][s.counts[i]] == 7);
+    free_slices(s);
+  }
+  CHECK(silverpoise_careful_commands(NULL, 0, NULL, 0, NULL, 0, NULL, 0, NULL, 0).number == 11);
+}
+
+static SilverpoiseRefused careful_batch(const uint8_t *form, size_t form_count, const uint8_t *batch, size_t batch_count,
+                                        BatchSlices s) {
+  return silverpoise_careful_batch(form, form_count, batch, batch_count, s.words[0], s.counts[0], s.words[1], s.counts[1],
+                                   s.words[2], s.counts[2], s.words[3], s.counts[3]);
+}
+
+// A batch under a form, read carefully: each sheet has what the careful run of it answers and leaves, but for the letter. Its
+// items and lists are those of the run of the batch.
+static void reads_batch(const uint8_t *form, size_t form_count, const uint8_t *bytes, const size_t *ends, size_t sheets,
+                        const uint32_t *numbers, const uint32_t *places) {
+  size_t from = 2 + 4 * (sheets + 1);
+  BatchSlices s = lend_slices(sheets, 1), plain = lend_slices(sheets, 1);
+  uint8_t *exact = (uint8_t *)lend(bytes, ends[sheets - 1]);
+  CHECK(refused(careful_batch(form, form_count, exact, ends[sheets - 1], s), 0, 0) && cleared(s, sheets));
+  CHECK(refused(run_batch(form, form_count, exact, ends[sheets - 1], plain), 0, 0));
+  for (int i = 1; i < SLICES; i += 2) CHECK(holds(s.words[i], s.counts[i], plain.words[i], s.counts[i], 0));
+  for (size_t k = 0; k < sheets; k++) {
+    SilverpoiseCarefulAnswer c = silverpoise_careful(form, form_count, exact + from, ends[k] - from, ITEMS, ANSWERS, LIST);
+    CHECK(c.number == numbers[k] && c.place == places[k] && has_parts(s, k, numbers[k], places[k], c.tries, c.words));
+    from = ends[k];
+  }
+  free(exact);
+  free_slices(s);
+  free_slices(plain);
+}
+
+static void careful_batches(void) {
+  enum { LINES = 6 };
+  static const char *const lines[LINES] = {"-17", "a -v", "-v -l -x7 a", "-l", "-- -17", "a -l-17 - -18 -19"};
+  static const uint32_t numbers[LINES] = {50, 0, 50, 22, 0, 50}, places[LINES] = {1, 0, 3, 1, 0, 5};
+  uint8_t bytes[256], *to = put_u16(put_u16(put_u16(bytes, LINES), 0), 0);
+  size_t first = 2 + 4 * (LINES + 1), end = first, ends[LINES];
+  for (size_t k = 0; k < LINES; k++) {
+    ends[k] = end += write_sheet(bytes + end, lines[k]);
+    to = put_u16(put_u16(to, end - first), 0);
+  }
+  reads_batch(LIMIT, sizeof LIMIT, bytes, ends, LINES, numbers, places);
+
+  // refused in every record, as the form is; and 15, which leaves every slice 0
+  static const uint8_t no_kind[] = {ARGUMENT_FORM(0)};
+  static const uint32_t threes[LINES] = {3, 3, 3, 3, 3, 3}, ones[LINES] = {1, 1, 1, 1, 1, 1};
+  reads_batch(no_kind, sizeof no_kind, bytes, ends, LINES, threes, ones);
+  for (int i = 0; i < SLICES; i++) {
+    BatchSlices s = lend_slices(LINES, 0);
+    s.counts[i]--;
+    CHECK(refused(careful_batch(LIMIT, sizeof LIMIT, bytes, end, s), 15, 0) && cleared(s, 0) && s.words[i][s.counts[i]] == 7);
+    free_slices(s);
+  }
+  const BatchSlices none = {{NULL}, {0}};
+  CHECK(refused(careful_batch(NULL, 0, NULL, 0, none), 15, 0));
+}
+
 static void states(void) {
   SilverpoiseState scoped = S;
   scoped.start = 1;
@@ -809,6 +975,7 @@ int main(void) {
   utf8();
   refusals();
   checks();
+  idle_repeats();
   splitting();
   missing();
   tables();
@@ -822,6 +989,9 @@ int main(void) {
   careful_lines();
   careful_refused();
   careful_slices();
+  careful_commands_lines();
+  careful_commands_slices();
+  careful_batches();
   running();
   evaluation();
   states();

@@ -96,7 +96,7 @@ enum SilverpoiseRefusal {
   // because of the command word, found after 9 and before 20
   SILVERPOISE_REFUSED_COMMAND = 31, // the line begins with no command of the table
 
-  // because of how a word looks, found after all others, and only by silverpoise_careful
+  // because of how a word looks, found after all others, and only by the careful runs
   SILVERPOISE_REFUSED_MISREAD = 50 // an argument that looks like options was read as a word; place: the lowest such
 };
 
@@ -207,6 +207,12 @@ typedef struct {
   uint32_t answer;
 } SilverpoiseTold;
 
+// A set of nodes: node n is bit n. Refused, it is 0.
+typedef struct {
+  uint32_t number, place;
+  uint64_t nodes;
+} SilverpoiseIdleAnswer;
+
 // An answer in three numbers, whose meaning is said at each call. Where found is 0 the other two are 0, except that
 // silverpoise_pick_winner may give a place. Refused, all three are 0.
 typedef struct {
@@ -251,7 +257,16 @@ typedef struct {
   SilverpoiseState state;
 } SilverpoiseCarefulAnswer;
 
-// What silverpoise_run_batch writes of a sheet, as the four words of its record: what SilverpoiseRunAnswer has, but the state.
+// The same of a table's careful run: `letter` is one that no option of ANY form of the table has.
+typedef struct {
+  uint32_t number, place;
+  uint32_t tries, words;       // as in SilverpoiseRunAnswer
+  uint32_t comparisons, entry; // as in SilverpoiseCommandAnswer
+  uint32_t letter;
+  SilverpoiseState state;
+} SilverpoiseCarefulCommandAnswer;
+
+// What a run of a batch writes of a sheet, as the four words of its record: what SilverpoiseRunAnswer has, but the state.
 typedef struct {
   uint32_t number, place;
   uint32_t tries, words;
@@ -343,6 +358,11 @@ SilverpoiseTold silverpoise_kind(const uint8_t *form, size_t form_count, size_t 
 // 1 if every short name of the form is one of 0..9, A..Z, a..z, and none is W (3.6), else 0. Refused: 1 to 4.
 SilverpoiseTold silverpoise_portable(const uint8_t *form, size_t form_count);
 
+// Values from nothing: the repeats (kinds 5 to 8) whose child may be idle, that is, may have a value although it uses nothing of
+// the line. A switch, an optional and a fallback may be; a required flag, an argument and a positional not; a guard as its child; a
+// choice if either side may. Each of these has one element on the empty line, unless a guard refuses it. Refused: 1 to 4.
+SilverpoiseIdleAnswer silverpoise_idle_repeats(const uint8_t *form, size_t form_count);
+
 // ---- A form and a sheet ----
 
 // Splits a line into items, written to `items`, and gives the state they start in: only the opening `--` is used, with the
@@ -417,6 +437,15 @@ SilverpoiseCommandAnswer silverpoise_run_commands(const uint8_t *table, size_t t
                                                   size_t sheet_count, uint32_t *items, size_t item_count, uint32_t *answers,
                                                   size_t answer_count, uint32_t *list, size_t list_count);
 
+// The careful run (15) of a table: as silverpoise_run_commands, and refused with 50 where that is accepted and an argument that
+// looks like options was read as a word, as silverpoise_careful does. The command word itself may look so. After 50 the item
+// slice, `state`, `tries`, `comparisons` and `entry` are as after an accepted line; the answer slice and the list are all 0, and
+// so is `words`. Refused: as silverpoise_run_commands; then 50.
+SilverpoiseCarefulCommandAnswer silverpoise_careful_commands(const uint8_t *table, size_t table_count, const uint8_t *sheet,
+                                                             size_t sheet_count, uint32_t *items, size_t item_count,
+                                                             uint32_t *answers, size_t answer_count, uint32_t *list,
+                                                             size_t list_count);
+
 // ---- A batch (13): several sheets, read with one form ----
 //
 // For the initializer of an array of uint8_t: the count of sheets, a U16; their offsets, counted from the first sheet, a U32
@@ -436,6 +465,13 @@ SilverpoiseCommandAnswer silverpoise_run_commands(const uint8_t *table, size_t t
 SilverpoiseRefused silverpoise_run_batch(const uint8_t *form, size_t form_count, const uint8_t *batch, size_t batch_count,
                                          uint32_t *records, size_t record_count, uint32_t *items, size_t item_count,
                                          uint32_t *answers, size_t answer_count, uint32_t *list, size_t list_count);
+
+// The same, but reads every sheet as silverpoise_careful does (15). So a record may have 50 and its place, with the tries of
+// the run and no words: then the part of `answers` is all 0, and those of `items` and `list` are as the run left them. A record
+// has no room for the letter of 50: silverpoise_careful tells it, lent that sheet. 15 comes where silverpoise_run_batch has it.
+SilverpoiseRefused silverpoise_careful_batch(const uint8_t *form, size_t form_count, const uint8_t *batch, size_t batch_count,
+                                             uint32_t *records, size_t record_count, uint32_t *items, size_t item_count,
+                                             uint32_t *answers, size_t answer_count, uint32_t *list, size_t list_count);
 
 // ---- Why a place was left over (14) ----
 
@@ -579,6 +615,8 @@ SILVERPOISE_ASSERT(offsetof(SilverpoiseState, count) == 512, "count");
 SILVERPOISE_ASSERT(offsetof(SilverpoiseState, end) == 528, "end");
 SILVERPOISE_ASSERT(sizeof(SilverpoiseRefused) == 8, "SilverpoiseRefused");
 SILVERPOISE_ASSERT(sizeof(SilverpoiseTold) == 12, "SilverpoiseTold");
+SILVERPOISE_ASSERT(sizeof(SilverpoiseIdleAnswer) == 16, "SilverpoiseIdleAnswer");
+SILVERPOISE_ASSERT(offsetof(SilverpoiseIdleAnswer, nodes) == 8, "nodes of SilverpoiseIdleAnswer");
 SILVERPOISE_ASSERT(sizeof(SilverpoiseAnswer) == 20, "SilverpoiseAnswer");
 SILVERPOISE_ASSERT(sizeof(SilverpoiseStateAnswer) == 552, "SilverpoiseStateAnswer");
 SILVERPOISE_ASSERT(offsetof(SilverpoiseStateAnswer, state) == 20, "state of SilverpoiseStateAnswer");
@@ -591,6 +629,9 @@ SILVERPOISE_ASSERT(offsetof(SilverpoiseCommandAnswer, state) == 24, "state of Si
 SILVERPOISE_ASSERT(sizeof(SilverpoiseCarefulAnswer) == 552, "SilverpoiseCarefulAnswer");
 SILVERPOISE_ASSERT(offsetof(SilverpoiseCarefulAnswer, letter) == 16, "letter of SilverpoiseCarefulAnswer");
 SILVERPOISE_ASSERT(offsetof(SilverpoiseCarefulAnswer, state) == 20, "state of SilverpoiseCarefulAnswer");
+SILVERPOISE_ASSERT(sizeof(SilverpoiseCarefulCommandAnswer) == 560, "SilverpoiseCarefulCommandAnswer");
+SILVERPOISE_ASSERT(offsetof(SilverpoiseCarefulCommandAnswer, letter) == 24, "letter of SilverpoiseCarefulCommandAnswer");
+SILVERPOISE_ASSERT(offsetof(SilverpoiseCarefulCommandAnswer, state) == 28, "state of SilverpoiseCarefulCommandAnswer");
 SILVERPOISE_ASSERT(sizeof(SilverpoiseBatchRecord) == 16, "a record of a batch has four words");
 SILVERPOISE_ASSERT(sizeof(SilverpoiseWhyAnswer) == 16, "SilverpoiseWhyAnswer");
 SILVERPOISE_ASSERT(offsetof(SilverpoiseWhyAnswer, reason) == 8, "reason of SilverpoiseWhyAnswer");

@@ -22,7 +22,7 @@ use Rattle.batch_parts.specs.Parts.{PartFits, Replaced, reachedWords}
 use Rattle.batch_line.specs.Reported.{SheetReported}
 use Rattle.batch_run.specs.Sheets.{PartReported, BatchFits, HoldsParts, SheetsRan}
 
-next-part : (w k : ℕ) → w * (k + 1) ≡ w * k + w
+pub next-part : (w k : ℕ) → w * (k + 1) ≡ w * k + w
 next-part w k = omega (arith, mul-add w k 1, mul-one w)
 
 -- ---- one part
@@ -63,7 +63,7 @@ part-reported form sheet k i a l x y z r hi ha hl u v w t = record {
 
 -- ---- the first k
 module _ (w k : ℕ) (words : Report → List ℕ) (rs : List Report) (o o′ : List ℕ) (h : HoldsParts w k words rs o o′) where
-  holds-next : (r : Report) (o″ : List ℕ) → Replaced w k (words r) o′ o″ → HoldsParts w (k + 1) words (rs ++ (r ∷ [])) o o″
+  pub holds-next : (r : Report) (o″ : List ℕ) → Replaced w k (words r) o′ o″ → HoldsParts w (k + 1) words (rs ++ (r ∷ [])) o o″
   holds-next r o″ p = record {
     long =
         let a = length-append (concatMap words rs) (words r) in
@@ -75,7 +75,7 @@ module _ (w k : ℕ) (words : Report → List ℕ) (rs : List Report) (o o′ : 
         ∙ ap (λ (z : List ℕ). z ++ drop (w * (k + 1)) o) (sym (concat-more words rs r));
   }
 
-holds-none : (w : ℕ) (words : Report → List ℕ) (o : List ℕ) → HoldsParts w 0 words [] o o
+pub holds-none : (w : ℕ) (words : Report → List ℕ) (o : List ℕ) → HoldsParts w 0 words [] o o
 unfolding concatMap
 holds-none w words o = let z : w * 0 ≡ 0 = omega arith in record { long = sym z; same = rw z }
 

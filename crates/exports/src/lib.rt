@@ -9,6 +9,8 @@ ghost use Rattle.rules.specs.Accept.{checkForm};
 ghost use Rattle.rules.specs.Codes.{checkCode, kindCode};
 ghost use Rattle.rules.specs.Calls.{callKind, callPortable, callSplit};
 ghost use Rattle.rules.specs.Run as Run;
+ghost use Rattle.rules_careful.specs.Idle.{callIdle};
+ghost use Rattle.form_idle.specs.Idles.{idleAnswer};
 ghost use Rattle.run.specs.Runner.{runAnswer};
 ghost use Rattle.call_check.specs.Reader.{sheetCode, told, yesCode, splittingOf};
 ghost use Rattle.call_text.specs.Text.{PartOf};
@@ -17,6 +19,7 @@ use call_answers::Decoding;
 use call_check::SplitAnswer;
 use call_check::Told;
 use call_text::TextPart;
+use form_idle::IdleAnswer;
 use rules::Refused;
 use run_fields::RunAnswer;
 
@@ -60,6 +63,13 @@ pub extern "C" fn silverpoise_portable(form: &[u8]) -> Told
     ensures { λ r. ⌜ told yesCode (callPortable (now (form .entry))) ≡ some r ⌝ }
 {
     call_check::portable(form)
+}
+
+#[no_mangle]
+pub extern "C" fn silverpoise_idle_repeats(form: &[u8]) -> IdleAnswer
+    ensures { λ r. ⌜ idleAnswer (callIdle (now (form .entry))) ≡ some r ⌝ }
+{
+    form_idle::idle_repeats(form)
 }
 
 #[no_mangle]
