@@ -7,6 +7,7 @@
 use std::ops::Range;
 
 use crate::forged::{ANSWER_WORDS, ITEM_WORDS, LIST_WORDS};
+use crate::looks::Misread;
 use crate::parts;
 
 pub use crate::parts::write;
@@ -51,6 +52,18 @@ pub fn run(batch: &[u8], lengths: [usize; 4], single: impl Fn(&[u8]) -> Slices) 
         (0..4).for_each(|j| all[j][part(j, k)].copy_from_slice(&parts[j]));
     }
     (0, all)
+}
+
+/// What a careful run leaves of a sheet of which a plain one leaves this, and in which this is the first word that looks like options.
+/// The letter stands nowhere.
+pub fn careful([record, items, answers, list]: Slices, misread: Option<&Misread>) -> Slices {
+    match (record[0], misread) {
+        (0, Some(word)) => {
+            let refused = vec![50, word.place as u32 + 1, record[2], 0];
+            [refused, items, vec![0; answers.len()], vec![0; list.len()]]
+        }
+        _ => [record, items, answers, list],
+    }
 }
 
 /// Where the record of sheet k, or its part of another slice, stands in that slice.
@@ -125,5 +138,16 @@ mod tests {
             assert_eq!(left[j][part(j, 1)], vec![9; SINGLE[j]]);
         }
         assert_eq!(run(&batch, [8, 9, 0, 5], single), (15, [8, 9, 0, 5].map(|length| vec![0; length])));
+    }
+
+    #[test]
+    fn a_careful_run_keeps_items_and_tries() {
+        let left = |record: [u32; 4]| [record.to_vec(), vec![7; 3], vec![8; 2], vec![9; 2]];
+        let word = Misread { argument: 1, place: 4, letter: Some('7') };
+        let refused = [vec![50, 5, 12, 0], vec![7; 3], vec![0; 2], vec![0; 2]];
+        assert_eq!(careful(left([0, 0, 12, 2]), Some(&word)), refused);
+        assert_eq!(careful(left([0, 0, 12, 2]), None), left([0, 0, 12, 2]));
+        // what the plain run refuses stays
+        assert_eq!(careful(left([27, 3, 12, 0]), Some(&word)), left([27, 3, 12, 0]));
     }
 }

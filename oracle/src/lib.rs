@@ -9,3 +9,4 @@ pub mod forged;
 pub mod marks;
 pub mod reasons;
 pub mod looks;
+pub mod idle;

@@ -4,7 +4,11 @@
 //! An argument before the first `--` looks like options if it begins with a dash and is longer than that. A run takes such a one for
 //! a word where no option has one of its letters, and where its name is not UTF-8. A careful run that would be accepted is refused
 //! with 50 for the first of them.
+//!
+//! On a line of commands an option is one of any form of the table, and the first argument, which is the command word, may look as
+//! it likes.
 
+use crate::commands::Table;
 use crate::format::*;
 
 /// Begins with a dash, and is longer than `-`.
@@ -39,7 +43,7 @@ pub struct Misread {
 }
 
 /// How a line is read that has no ambiguous letter.
-#[derive(Debug, PartialEq, Eq)]
+#[derive(Debug, Default, PartialEq, Eq)]
 pub struct Reading {
     pub items: usize,
     /// in their order: a careful run is refused for the first
@@ -48,7 +52,18 @@ pub struct Reading {
 
 impl Reading {
     pub fn of(form: &Form, arguments: &[Vec<u8>]) -> Reading {
-        let letters = Letters { flags: form.letters(FLAG), arguments: form.letters(ARGUMENT) };
+        Reading::with(&Letters { flags: form.letters(FLAG), arguments: form.letters(ARGUMENT) }, arguments)
+    }
+
+    /// Of a line of commands whose first argument is the command word.
+    pub fn of_commands(table: &Table, arguments: &[Vec<u8>]) -> Reading {
+        let letters = Letters { flags: table.letters(FLAG), arguments: table.letters(ARGUMENT) };
+        let mut reading = Reading::with(&letters, arguments);
+        reading.misread.retain(|word| word.argument > 0);
+        reading
+    }
+
+    fn with(letters: &Letters, arguments: &[Vec<u8>]) -> Reading {
         let (before, behind) = at_marker(arguments);
         let (mut place, mut misread) = (0, Vec::new());
         for (argument, text) in before.iter().enumerate() {
@@ -128,6 +143,7 @@ fn read_value(name: u8) -> As {
 #[cfg(test)]
 mod tests {
     use super::*;
+    use crate::commands::{self, Command};
     use crate::notation;
 
     const FORM: &str = "switch(-v); switch(-\\xc3\\xa9); switch(-=); optional(text(-w --width)); many(operand)";
@@ -214,6 +230,39 @@ mod tests {
         for line in [&[b"--" as &[u8], b"-zz"] as &[&[u8]], &[b"-w", b"--", b"-zz", b"--\xff"], &[b"-v", b"--", b"--", b"-17"]] {
             assert_eq!(reading(line), Reading { items: line.len(), misread: Vec::new() });
         }
+    }
+
+    /// The table of these forms, each under a long name.
+    fn table(entries: &[(&str, &str)]) -> Table {
+        let form = |text: &str| notation::parse(text).expect("a form").write();
+        let commands: Vec<Command> = entries.iter().map(|(name, text)| Command::new(&[(LONG, name)], form(text))).collect();
+        Table::check(&commands::write(&commands)).expect("a table")
+    }
+
+    fn commanded(table: &Table, arguments: &[&[u8]]) -> Reading {
+        Reading::of_commands(table, &arguments.iter().map(|a| a.to_vec()).collect::<Vec<_>>())
+    }
+
+    #[test]
+    fn the_letters_of_all_forms_are_known() {
+        let two = table(&[("wear", "switch(-1); many(operand)"), ("log", "switch(-2); optional(text(-s)); many(operand)")]);
+        assert_eq!(commanded(&two, &[b"wear", b"-12"]), Reading { items: 3, misread: Vec::new() });
+        assert_eq!(commanded(&two, &[b"wear", b"-1s7"]), Reading { items: 4, misread: Vec::new() });
+        assert_eq!(commanded(&two, &[b"log", b"-17", b"-21x"]).misread, [misread(1, 1, '7'), misread(2, 2, 'x')]);
+        let alone = |line: &[Vec<u8>]| Reading::of(&two.forms[0], line).misread;
+        assert_eq!(alone(&[b"wear".to_vec(), b"-12".to_vec()]), [misread(1, 1, '2')]);
+        let name = Misread { argument: 1, place: 1, letter: None };
+        assert_eq!(commanded(&two, &[b"wear", b"-1\xff"]).misread, [name]);
+    }
+
+    #[test]
+    fn the_command_word_may_look_as_it_likes() {
+        let two = table(&[("-17", "many(operand)"), ("-12", "count(flag(-1)); switch(-2); many(operand)")]);
+        assert_eq!(commanded(&two, &[b"-17"]), Reading { items: 1, misread: Vec::new() });
+        assert_eq!(commanded(&two, &[b"-17", b"-17"]), Reading { items: 2, misread: vec![misread(1, 1, '7')] });
+        // a command word that is options counts as its letters do
+        assert_eq!(commanded(&two, &[b"-12", b"-1", b"-17"]), Reading { items: 4, misread: vec![misread(2, 3, '7')] });
+        assert_eq!(commanded(&two, &["-é=7".as_bytes(), b"a"]), Reading { items: 2, misread: Vec::new() });
     }
 
     #[test]

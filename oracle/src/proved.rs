@@ -121,6 +121,29 @@ pub struct TableRefused {
     pub entry: u32,
 }
 
+/// `letter` is a character plus 1, or 0.
+#[repr(C)]
+#[derive(Clone, Copy, Debug, PartialEq, Eq)]
+pub struct CarefulCommandAnswer {
+    pub number: u32,
+    pub place: u32,
+    pub tries: u32,
+    pub words: u32,
+    pub comparisons: u32,
+    pub entry: u32,
+    pub letter: u32,
+    pub state: State,
+}
+
+/// Bit n of `nodes` stands for node n.
+#[repr(C)]
+#[derive(Clone, Copy, Debug, PartialEq, Eq)]
+pub struct IdleAnswer {
+    pub number: u32,
+    pub place: u32,
+    pub nodes: u64,
+}
+
 /// `offset` counts from the table's first byte.
 #[repr(C)]
 #[derive(Clone, Copy, Debug, PartialEq, Eq)]
@@ -169,6 +192,7 @@ extern "C" {
     fn silverpoise_sheet_check(sheet: *const u8, n: usize) -> Refused;
     fn silverpoise_kind(form: *const u8, k: usize, node: usize) -> Told;
     fn silverpoise_portable(form: *const u8, k: usize) -> Told;
+    fn silverpoise_idle_repeats(form: *const u8, k: usize) -> IdleAnswer;
     fn silverpoise_split(
         form: *const u8,
         k: usize,
@@ -205,6 +229,18 @@ extern "C" {
         list: *mut u32,
         p: usize,
     ) -> CommandAnswer;
+    fn silverpoise_careful_commands(
+        table: *const u8,
+        k: usize,
+        sheet: *const u8,
+        n: usize,
+        items: *mut u32,
+        m: usize,
+        answers: *mut u32,
+        l: usize,
+        list: *mut u32,
+        p: usize,
+    ) -> CarefulCommandAnswer;
     fn silverpoise_commands_check(table: *const u8, k: usize) -> TableRefused;
     fn silverpoise_command_form(table: *const u8, k: usize, entry: usize) -> FormPart;
 }
@@ -212,6 +248,20 @@ extern "C" {
 #[link(name = "exports_batch", kind = "static", modifiers = "-bundle")]
 extern "C" {
     fn silverpoise_run_batch(
+        form: *const u8,
+        k: usize,
+        batch: *const u8,
+        n: usize,
+        records: *mut u32,
+        r: usize,
+        items: *mut u32,
+        m: usize,
+        answers: *mut u32,
+        l: usize,
+        list: *mut u32,
+        p: usize,
+    ) -> Refused;
+    fn silverpoise_careful_batch(
         form: *const u8,
         k: usize,
         batch: *const u8,
@@ -395,6 +445,10 @@ pub fn portable(form: &[u8]) -> Told {
     unsafe { silverpoise_portable(form.as_ptr(), form.len()) }
 }
 
+pub fn idle_repeats(form: &[u8]) -> IdleAnswer {
+    unsafe { silverpoise_idle_repeats(form.as_ptr(), form.len()) }
+}
+
 #[inline(always)]
 pub fn split(form: &[u8], sheet: &[u8], items: &mut [u32]) -> SplitAnswer {
     let (i, m) = (items.as_mut_ptr(), items.len());
@@ -420,6 +474,18 @@ pub fn run_commands(
     unsafe { silverpoise_run_commands(t.0, t.1, s.0, s.1, i.0, i.1, a.0, a.1, list.as_mut_ptr(), list.len()) }
 }
 
+pub fn careful_commands(
+    table: &[u8],
+    sheet: &[u8],
+    items: &mut [u32],
+    answers: &mut [u32],
+    list: &mut [u32],
+) -> CarefulCommandAnswer {
+    let (t, s) = ((table.as_ptr(), table.len()), (sheet.as_ptr(), sheet.len()));
+    let [i, a, l] = [items, answers, list].map(|slice| (slice.as_mut_ptr(), slice.len()));
+    unsafe { silverpoise_careful_commands(t.0, t.1, s.0, s.1, i.0, i.1, a.0, a.1, l.0, l.1) }
+}
+
 pub fn commands_check(table: &[u8]) -> TableRefused {
     unsafe { silverpoise_commands_check(table.as_ptr(), table.len()) }
 }
@@ -440,6 +506,20 @@ pub fn run_batch(
     let (f, b) = ((form.as_ptr(), form.len()), (batch.as_ptr(), batch.len()));
     let [r, i, a, l] = [records, items, answers, list].map(|slice| (slice.as_mut_ptr(), slice.len()));
     unsafe { silverpoise_run_batch(f.0, f.1, b.0, b.1, r.0, r.1, i.0, i.1, a.0, a.1, l.0, l.1) }
+}
+
+#[inline(always)]
+pub fn careful_batch(
+    form: &[u8],
+    batch: &[u8],
+    records: &mut [u32],
+    items: &mut [u32],
+    answers: &mut [u32],
+    list: &mut [u32],
+) -> Refused {
+    let (f, b) = ((form.as_ptr(), form.len()), (batch.as_ptr(), batch.len()));
+    let [r, i, a, l] = [records, items, answers, list].map(|slice| (slice.as_mut_ptr(), slice.len()));
+    unsafe { silverpoise_careful_batch(f.0, f.1, b.0, b.1, r.0, r.1, i.0, i.1, a.0, a.1, l.0, l.1) }
 }
 
 pub fn why(

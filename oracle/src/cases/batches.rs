@@ -2,6 +2,7 @@
 
 use super::commands::{damage_bytes, form};
 use super::damaged::damage_sheet_bytes;
+use super::dashed::{dashed_form, dashed_line};
 use super::limits::longest;
 use super::sheets::Line;
 use super::tables::limit_offsets;
@@ -25,26 +26,49 @@ impl BatchCase {
     }
 }
 
+/// Writes the lines of a form that most sheets are.
+type Short = fn(&mut Rng, &Form) -> Sheet;
+
+fn short(rng: &mut Rng, form: &Form) -> Sheet {
+    Line::new(rng, form).short()
+}
+
 /// A form, one in eight at fault, and sheets of all sorts.
 pub fn batched(rng: &mut Rng) -> BatchCase {
     let (form, lines) = form_and_lines(rng);
-    BatchCase { form, sheets: sheets(rng, &lines) }
+    BatchCase { form, sheets: sheets(rng, &lines, short) }
+}
+
+/// An accepted form that takes most of its sheets, in which much has a dash before it.
+pub fn dashed_batch(rng: &mut Rng) -> BatchCase {
+    let form = dashed_form(rng);
+    BatchCase { form: form.write(), sheets: sheets(rng, &form, dashed_line) }
 }
 
 /// Two batches with one form that agree on the sheet of this number, and on no other.
 pub fn agreeing(rng: &mut Rng) -> ([BatchCase; 2], usize) {
     let (form, lines) = form_and_lines(rng);
+    pair(rng, &form, &lines, short)
+}
+
+/// The same of sheets in which much has a dash before it.
+pub fn agreeing_dashed(rng: &mut Rng) -> ([BatchCase; 2], usize) {
+    let form = dashed_form(rng);
+    pair(rng, &form.write(), &form, dashed_line)
+}
+
+fn pair(rng: &mut Rng, form: &[u8], lines: &Form, short: Short) -> ([BatchCase; 2], usize) {
     let [first, mut second] = [(); 2].map(|()| {
-        let mut sheets = sheets(rng, &lines);
+        let mut sheets = sheets(rng, lines, short);
         sheets.truncate(SHEETS - 1);
-        sheets.push(Line::new(rng, &lines).short().write());
+        sheets.push(short(rng, lines).write());
         sheets
     });
     let k = rng.below(first.len().min(second.len()));
     let both = first.iter().zip(&mut second);
     both.filter(|(a, b)| a == b).for_each(|(_, b)| b.push(0));
     second[k].clone_from(&first[k]);
-    ([first, second].map(|sheets| BatchCase { form: form.clone(), sheets }), k)
+    ([first, second].map(|sheets| BatchCase { form: form.to_vec(), sheets }), k)
 }
 
 /// The bytes of a form, and the form that the lines are made for.
@@ -55,7 +79,7 @@ fn form_and_lines(rng: &mut Rng) -> (Vec<u8>, Form) {
 }
 
 /// Mostly a few; now and then none, as many as there may be, or more.
-fn sheets(rng: &mut Rng, lines: &Form) -> Vec<Vec<u8>> {
+fn sheets(rng: &mut Rng, lines: &Form, short: Short) -> Vec<Vec<u8>> {
     let count = match rng.below(32) {
         0 | 1 => 0,
         2 | 3 => SHEETS,
@@ -66,26 +90,26 @@ fn sheets(rng: &mut Rng, lines: &Form) -> Vec<Vec<u8>> {
     };
     let mut sheets = Vec::new();
     for _ in 0..count {
-        let next = sheet(rng, lines, &sheets);
+        let next = sheet(rng, lines, &sheets, short);
         sheets.push(next);
     }
     sheets
 }
 
 /// No bytes, one of the sheets before it, a damaged one, or a line for the form or for another.
-fn sheet(rng: &mut Rng, lines: &Form, before: &[Vec<u8>]) -> Vec<u8> {
+fn sheet(rng: &mut Rng, lines: &Form, before: &[Vec<u8>], short: Short) -> Vec<u8> {
     match rng.below(64) {
         0..=2 => Vec::new(),
         3..=9 if !before.is_empty() => rng.pick(before).clone(),
         10..=15 => {
-            let mut sheet = Line::new(rng, lines).short().write();
+            let mut sheet = short(rng, lines).write();
             damage_sheet_bytes(rng, &mut sheet);
             sheet
         }
         16 => damaged(rng).sheet,
         17 => Line::new(rng, lines).long().write(),
         18..=25 => Line::new(rng, lines).sparse().write(),
-        _ => Line::new(rng, lines).short().write(),
+        _ => short(rng, lines).write(),
     }
 }
 

@@ -1,10 +1,12 @@
 //! Forms that take most of what they are given, and lines in which much has a dash before it: options and their values, clusters with
-//! a letter that no option has, names that are not UTF-8, a dash alone, and words behind `--`.
+//! a letter that no option has, names that are not UTF-8, a dash alone, and words behind `--`. Tables of such forms, under names that
+//! look like options too.
 
 use super::forms::renumber;
 use super::left_over::spare_name;
 use super::sheets::BROKEN;
-use super::{Case, Rng};
+use super::{Case, Rng, TableCase};
+use crate::commands::{write, Command, ENTRIES};
 use crate::format::*;
 use crate::notation;
 
@@ -35,8 +37,50 @@ const VALUES: [&[u8]; 16] = [
     b"7", b"x", b"", b"-", b"-", b"-", b"-17", b"-17", b"-foo", b"-xh", "-é=7".as_bytes(), b"-\xff", b"-l", b"--", b"--x=y", b"\xff",
 ];
 
+/// Names of commands: words, options, and such as look like them.
+#[rustfmt::skip]
+const COMMANDS: [&str; 20] = [
+    "wear", "wear", "log", "log", "w", "l", "-17", "-17", "-12x", "-xh", "-zv", "-é=7", "-z", "-v", "-12", "-l7", "--wear", "--wear=7",
+    "-", "--",
+];
+
 /// An accepted form, and a line of which it takes most.
 pub fn dashed(rng: &mut Rng) -> Case {
+    let form = dashed_form(rng);
+    let sheet = dashed_line(rng, &form);
+    Case::new(&form, &sheet)
+}
+
+/// A table of accepted forms, and a line for one of them, mostly behind its name.
+pub fn dashed_commands(rng: &mut Rng) -> TableCase {
+    let count = if rng.chance(1, 64) { ENTRIES } else { rng.between(1, 4) };
+    let forms: Vec<Form> = (0..count).map(|_| dashed_form(rng)).collect();
+    let commands: Vec<Command> = forms.iter().map(|form| command(rng, form)).collect();
+    let k = rng.below(count);
+    // most lines have the letters of one form alone
+    let all = if rng.chance(1, 4) { &forms[..] } else { &forms[k..=k] };
+    let letters = |kind: u16| all.iter().flat_map(|form| form.letters(kind)).collect();
+    let (flags, arguments) = (letters(FLAG), letters(ARGUMENT));
+    let mut line = Dashes { rng, form: &forms[k], flags, arguments, out: Vec::new() }.line();
+    if rng.chance(31, 32) {
+        let name = rng.pick(&commands[k].names).bytes(&commands[k].area).to_vec();
+        line.insert(0, name);
+    }
+    TableCase { table: write(&commands), sheet: Sheet { arguments: line }.write() }
+}
+
+/// An entry: a long name, and perhaps others.
+fn command(rng: &mut Rng, form: &Form) -> Command {
+    let mut names = vec![(LONG, *rng.pick(&COMMANDS))];
+    for _ in 0..rng.below(3) {
+        let short = rng.chance(1, 4);
+        names.push(if short { (SHORT, *rng.pick(&["w", "l", "-"])) } else { (LONG, *rng.pick(&COMMANDS)) });
+    }
+    Command::new(&names, form.write())
+}
+
+/// A form that is seldom refused, whatever a line has.
+pub fn dashed_form(rng: &mut Rng) -> Form {
     let mut fields: Vec<String> = (0..rng.between(1, 4)).map(|_| field(rng)).collect();
     // one before the last takes values of the options behind it
     let at = if rng.chance(7, 8) { fields.len() } else { rng.below(fields.len()) };
@@ -48,8 +92,13 @@ pub fn dashed(rng: &mut Rng) -> Case {
     if rng.chance(1, 2) {
         renumber(rng, &mut form);
     }
-    let arguments = Dashes { rng, form: &form, out: Vec::new() }.line();
-    Case::new(&form, &Sheet { arguments })
+    form
+}
+
+/// A line for such a form.
+pub fn dashed_line(rng: &mut Rng, form: &Form) -> Sheet {
+    let (flags, arguments) = (form.letters(FLAG), form.letters(ARGUMENT));
+    Sheet { arguments: Dashes { rng, form, flags, arguments, out: Vec::new() }.line() }
 }
 
 /// A field that is seldom refused, whatever the line has.
@@ -65,10 +114,12 @@ fn field(rng: &mut Rng) -> String {
     }
 }
 
-/// Writes a line for a form.
+/// Writes a line for a form, with these letters in its clusters.
 struct Dashes<'a> {
     rng: &'a mut Rng,
     form: &'a Form,
+    flags: Vec<char>,
+    arguments: Vec<char>,
     out: Vec<Vec<u8>>,
 }
 
@@ -109,13 +160,12 @@ impl Dashes<'_> {
 
     /// Letters of flags, then perhaps one of an argument with its value, or letters that may be unknown.
     fn cluster(&mut self) {
-        let (flags, arguments) = (self.form.letters(FLAG), self.form.letters(ARGUMENT));
         let few = self.rng.between(1, 3);
-        let mut letters: String = (0..few).filter(|_| !flags.is_empty()).map(|_| *self.rng.pick(&flags)).collect();
+        let mut letters: String = (0..few).filter(|_| !self.flags.is_empty()).map(|_| *self.rng.pick(&self.flags)).collect();
         let mut value: &[u8] = b"";
         match self.rng.below(4) {
-            0 | 1 if !arguments.is_empty() => {
-                letters.push(*self.rng.pick(&arguments));
+            0 | 1 if !self.arguments.is_empty() => {
+                letters.push(*self.rng.pick(&self.arguments));
                 value = *self.rng.pick(&VALUES);
             }
             2 => letters += *self.rng.pick(&["zx", "7z", "17", "-z", "€z", "\0\0", "l", "7"]),

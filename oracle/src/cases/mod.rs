@@ -8,6 +8,7 @@ mod contested;
 mod damaged;
 mod dashed;
 mod forms;
+mod idling;
 mod left_over;
 mod limits;
 mod sheets;
@@ -17,11 +18,14 @@ mod tables;
 mod tests;
 mod wanting;
 
-pub use batches::{agreeing, batched, damaged_batch, each_number, good_batches, largest_batch, limit_batches, BatchCase};
+pub use batches::{
+    agreeing, agreeing_dashed, batched, damaged_batch, dashed_batch, each_number, good_batches, largest_batch, limit_batches, BatchCase,
+};
 pub use commands::{commanded, damaged_commands, TableCase};
 pub use contested::contested;
 pub use damaged::{damaged, forms_at_fault};
-pub use dashed::dashed;
+pub use dashed::{dashed, dashed_commands};
+pub use idling::idling;
 pub use left_over::left_over;
 pub use limits::{chain, limits, shared};
 pub use short_lines::{sample_forms, short_lines};

@@ -7,6 +7,7 @@ use super::limits::{good_forms, limit_forms, limit_sheets, longest};
 use super::*;
 use crate::batches::{self, SHEETS};
 use crate::commands::{Command, Table, ENTRIES};
+use crate::idle;
 use crate::looks::{at_marker, looks_like_options, Reading};
 use crate::notation;
 
@@ -345,6 +346,63 @@ fn dashed_cases_have_words_that_look_like_options() {
 }
 
 #[test]
+fn dashed_commands_have_command_words_that_look_like_options() {
+    let mut rng = Rng::new(1);
+    let (mut words, mut first, mut misread, mut known) = (0, 0, 0, 0);
+    for _ in 0..CASES / 4 {
+        let case = dashed_commands(&mut rng);
+        let table = Table::check(&case.table).expect("a table");
+        let sheet = Sheet::check(&case.sheet).expect("a sheet");
+        let named = |c: &Command| c.tried().any(|name| sheet.arguments.first().is_some_and(|a| a == name.as_bytes()));
+        let entry = table.commands.iter().position(named);
+        let by_all = Reading::of_commands(&table, &sheet.arguments).misread;
+        let alone = entry.map(|k| Reading::of(&table.forms[k], &sheet.arguments).misread).unwrap_or_default();
+        words += usize::from(entry.is_some());
+        first += usize::from(entry.is_some() && looks_like_options(&sheet.arguments[0]));
+        misread += usize::from(!by_all.is_empty());
+        // a letter that only another form has
+        known += usize::from(alone.iter().any(|m| m.argument > 0 && !by_all.contains(m)));
+    }
+    assert!((CASES / 5..CASES / 4).contains(&words), "{words}");
+    for seen in [first, misread, known] {
+        assert!((CASES / 100..CASES / 5).contains(&seen), "{first} {misread} {known}");
+    }
+}
+
+#[test]
+fn dashed_batches_have_words_that_look_like_options() {
+    let mut rng = Rng::new(1);
+    let (mut sheets, mut misread, mut most) = (0, 0, 0);
+    for _ in 0..CASES / 10 {
+        let case = dashed_batch(&mut rng);
+        let form = Form::check(&case.form).expect("an accepted form");
+        let lines: Vec<Sheet> = case.sheets.iter().filter_map(|sheet| Sheet::check(sheet).ok()).collect();
+        let words = lines.iter().filter(|line| !Reading::of(&form, &line.arguments).misread.is_empty()).count();
+        sheets += case.sheets.len();
+        misread += words;
+        most += usize::from(case.sheets.len() == SHEETS && words > 0);
+    }
+    assert!((sheets / 8..sheets / 2).contains(&misread), "{misread} of {sheets}");
+    assert!(most > CASES / 400, "{most}");
+}
+
+#[test]
+fn idling_forms_have_repeats_of_all_sorts() {
+    let mut rng = Rng::new(1);
+    let mut seen: BTreeMap<(u16, u16, bool), usize> = BTreeMap::new();
+    for _ in 0..CASES {
+        let form = Form::check(&idling(&mut rng).write()).expect("an accepted form");
+        let named = idle::repeats(&form);
+        let repeats = (0..form.nodes.len()).filter(|k| idle::is_repeat(&form.nodes[*k]));
+        repeats.for_each(|k| *seen.entry((form.nodes[k].kind, form.nodes[k].r, named.contains(&k))).or_default() += 1);
+    }
+    let sorts = [(MANY, 0), (MANY, 1), (SOME, 0), (SOME, 1), (COUNT, 0), (LAST, 0)];
+    let all = sorts.iter().flat_map(|(kind, catch)| [false, true].map(|named| (*kind, *catch, named)));
+    assert_eq!(seen.keys().copied().collect::<Vec<_>>(), all.collect::<Vec<_>>());
+    assert!(seen.values().all(|n| *n > CASES / 20), "{seen:?}");
+}
+
+#[test]
 fn short_lines_are_all_lines() {
     for (letters, arguments, bytes) in [(2, 2, 2), (3, 1, 4), (1, 4, 1), (2, 3, 1), (0, 3, 2), (4, 0, 3)] {
         let words: usize = (0..=bytes).map(|length| usize::pow(letters, length)).sum();
@@ -460,10 +518,11 @@ fn batches_have_sheets_of_all_sorts() {
 fn pairs_agree_on_one_sheet_alone() {
     let mut rng = Rng::new(1);
     for _ in 0..CASES / 10 {
-        let ([a, b], k) = agreeing(&mut rng);
-        let both = a.sheets.iter().zip(&b.sheets).enumerate();
-        assert_eq!(both.filter(|(_, (a, b))| a == b).map(|(j, _)| j).collect::<Vec<_>>(), [k]);
-        assert!(a.form == b.form && a.sheets.len().max(b.sheets.len()) <= SHEETS);
+        for ([a, b], k) in [agreeing(&mut rng), agreeing_dashed(&mut rng)] {
+            let both = a.sheets.iter().zip(&b.sheets).enumerate();
+            assert_eq!(both.filter(|(_, (a, b))| a == b).map(|(j, _)| j).collect::<Vec<_>>(), [k]);
+            assert!(a.form == b.form && a.sheets.len().max(b.sheets.len()) <= SHEETS);
+        }
     }
 }
 

@@ -7,12 +7,12 @@ use line::batches::{self, Fault, Slices, SHEETS};
 use line::cases::{self, BatchCase, Case, Rng};
 use line::format::Sheet;
 use line::parts;
-use proved::RunAnswer;
+use proved::{Refused, RunAnswer};
 
 use super::run::{self, LEAST};
 #[cfg(live)]
 use super::split::raw_view;
-use super::{pattern, Compared, Goal};
+use super::{difference, pattern, smallest, Compared, Difference, Goal};
 use crate::lists::hex;
 
 /// What a batch is given: a form, its bytes, and slices of these lengths.
@@ -33,37 +33,43 @@ fn told(number: u32, place: u32, [records, items, answers, list]: Slices) -> Tol
 }
 
 /// A sheet's record, and its parts of the other slices.
-fn single(answer: RunAnswer, [items, answers, list]: [Vec<u32>; 3]) -> Slices {
+pub fn single(answer: RunAnswer, [items, answers, list]: [Vec<u32>; 3]) -> Slices {
     [vec![answer.number, answer.place, answer.tries, answer.words], items, answers, list]
 }
 
 /// By a single call of the proved code.
-fn called(case: &Case) -> Slices {
+pub fn called(case: &Case) -> Slices {
     let (answer, left) = run::ours(case, LEAST);
     single(answer, left)
 }
 
 /// By the real bpaf.
 #[cfg(live)]
-fn real(case: &Case) -> Slices {
+pub fn real(case: &Case) -> Slices {
     let ran = run::expected(case, LEAST);
     single(run::handed(&ran.answer, raw_view(&ran.state)), run::left(&ran, LEAST))
 }
 
+/// A call on a batch: form, batch, records, items, answers and list.
+type Call = fn(&[u8], &[u8], &mut [u32], &mut [u32], &mut [u32], &mut [u32]) -> Refused;
+
 /// Who says what a single run leaves.
-#[cfg(live)]
-const SINGLES: [(&str, fn(&Case) -> Slices); 2] = [("single calls", called), ("bpaf", real)];
-#[cfg(not(live))]
-const SINGLES: [(&str, fn(&Case) -> Slices); 1] = [("single calls", called)];
+pub type Single = (&'static str, fn(&Case) -> Slices);
 
-/// Where two differ first: what it is, the first's word and the second's.
-type Difference = (String, u32, u32);
-
-fn difference(whose: &str, ours: &Told, theirs: &Told) -> Option<Difference> {
-    let k = (0..5).find(|k| ours[*k] != theirs[*k])?;
-    let at = ours[k].iter().zip(&theirs[k]).position(|(a, b)| a != b)?;
-    Some((format!("{} at word {at}, by {whose},", NAMES[k]), ours[k][at], theirs[k][at]))
+/// The call that is compared, and with whom.
+pub struct Runs {
+    pub call: Call,
+    pub singles: &'static [Single],
 }
+
+static PLAIN: Runs = Runs {
+    call: proved::run_batch,
+    singles: &[
+        ("single calls", called),
+        #[cfg(live)]
+        ("bpaf", real),
+    ],
+};
 
 impl Given {
     pub fn new(form: &[u8], batch: Vec<u8>, lengths: [usize; 4]) -> Given {
@@ -75,10 +81,10 @@ impl Given {
     }
 
     /// The slices are filled with a pattern before the call.
-    fn ours(&self) -> Told {
+    fn ours(&self, call: Call) -> Told {
         let mut lent = self.lengths.map(pattern);
         let [records, items, answers, list] = &mut lent;
-        let answer = proved::run_batch(&self.form, &self.batch, records, items, answers, list);
+        let answer = call(&self.form, &self.batch, records, items, answers, list);
         told(answer.number, answer.place, lent)
     }
 
@@ -88,8 +94,8 @@ impl Given {
         told(number, 0, left)
     }
 
-    fn difference(&self, ours: &Told) -> Option<Difference> {
-        SINGLES.iter().find_map(|(whose, single)| difference(whose, ours, &self.theirs(*single)))
+    fn difference(&self, runs: &Runs, ours: &Told) -> Option<Difference> {
+        runs.singles.iter().find_map(|(whose, single)| difference(&NAMES, whose, ours, &self.theirs(*single)))
     }
 
     /// The same with a sheet less, each in turn, then with an argument less of one of them.
@@ -112,25 +118,17 @@ impl Given {
         }
         all
     }
-
-    /// The smallest that still differs, as far as so many tries come, and how it does.
-    fn smallest(&self, found: Difference, mut tries: usize) -> (Given, Difference) {
-        let (mut given, mut found) = (self.clone(), found);
-        let mut differs = |small: Given| {
-            tries = tries.checked_sub(1)?;
-            small.difference(&small.ours()).map(|how| (small, how))
-        };
-        while let Some((small, how)) = given.smaller().into_iter().find_map(&mut differs) {
-            (given, found) = (small, how);
-        }
-        (given, found)
-    }
 }
 
 /// The comparison, and what the batches that were compared had.
-#[derive(Default)]
 pub struct Batches {
     pub compared: Compared,
+    runs: &'static Runs,
+    seen: Seen,
+}
+
+#[derive(Default)]
+struct Seen {
     sheets: u64,
     counts: BTreeSet<usize>,
     mixed: u64,
@@ -143,14 +141,18 @@ pub struct Batches {
 }
 
 impl Batches {
+    pub fn new(runs: &'static Runs) -> Batches {
+        Batches { compared: Compared::default(), runs, seen: Seen::default() }
+    }
+
     /// A batch, with every word that it leaves.
     pub fn batch(&mut self, given: &Given) -> Told {
         self.compared.cases += 1;
-        let ours = given.ours();
-        if let Some(found) = given.difference(&ours) {
-            // only the first that differ are printed
-            let tries = if self.compared.differ < 10 { 2000 } else { 0 };
-            let (small, (what, word, theirs)) = given.smallest(found, tries);
+        let runs = self.runs;
+        let ours = given.ours(runs.call);
+        if let Some(found) = given.difference(runs, &ours) {
+            let differs = |small: &Given| small.difference(runs, &small.ours(runs.call));
+            let (small, (what, word, theirs)) = smallest((given.clone(), found), self.compared.tries(), Given::smaller, differs);
             let input = || format!("{} {} {:?}", hex(&small.form), hex(&small.batch), small.lengths);
             self.compared.same(&what, &input, word, theirs);
         }
@@ -163,24 +165,24 @@ impl Batches {
             Ok(sheets) => sheets,
             Err(fault) => {
                 self.compared.answered(15);
-                return *self.faults.entry(fault).or_default() += 1;
+                return *self.seen.faults.entry(fault).or_default() += 1;
             }
         };
         let numbers: Vec<u32> = ours[1].chunks_exact(4).take(sheets.len()).map(|record| record[0]).collect();
         let different: BTreeSet<&[u8]> = sheets.iter().copied().collect();
         numbers.iter().for_each(|number| self.compared.answered(*number));
-        self.sheets += sheets.len() as u64;
-        self.counts.insert(sheets.len());
-        self.mixed += u64::from(numbers.contains(&0) && numbers.iter().any(|number| *number != 0));
-        self.unread += u64::from(numbers.first().is_some_and(|number| (1..=4).contains(number)));
-        self.empty += sheets.iter().filter(|sheet| sheet.is_empty()).count() as u64;
-        self.twice += u64::from(different.len() < sheets.len());
-        self.longer += u64::from(given.lengths != batches::room(sheets.len()));
+        let seen = &mut self.seen;
+        seen.sheets += sheets.len() as u64;
+        seen.counts.insert(sheets.len());
+        seen.mixed += u64::from(numbers.contains(&0) && numbers.iter().any(|number| *number != 0));
+        seen.unread += u64::from(numbers.first().is_some_and(|number| (1..=4).contains(number)));
+        seen.empty += sheets.iter().filter(|sheet| sheet.is_empty()).count() as u64;
+        seen.twice += u64::from(different.len() < sheets.len());
+        seen.longer += u64::from(given.lengths != batches::room(sheets.len()));
     }
 
     /// Two batches with one form that agree on sheet k agree on its record and its parts, if neither is refused.
-    fn isolated(&mut self, rng: &mut Rng) {
-        let (pair, k) = cases::agreeing(rng);
+    pub fn isolated(&mut self, rng: &mut Rng, (pair, k): ([BatchCase; 2], usize)) {
         let [first, second] = pair.map(|case| Given::of(&case, longer(rng, case.sheets.len())));
         let (a, b) = (self.batch(&first), self.batch(&second));
         let input = || format!("sheet {k}: {} {} {}", hex(&first.form), hex(&first.batch), hex(&second.batch));
@@ -188,25 +190,26 @@ impl Batches {
             let part = batches::part(j, k);
             self.compared.words(NAMES[j + 1], &input, &a[j + 1][part.clone()], &b[j + 1][part]);
         }
-        self.isolated += 1;
+        self.seen.isolated += 1;
     }
 
     /// The least counts, in the proportion of the batches that were asked for.
-    fn goals(&self, count: u64) -> Vec<Goal> {
+    pub fn goals(&self, count: u64) -> Vec<Goal> {
+        let seen = &self.seen;
         let goal = |what: &'static str, met: u64, least: u64| Goal { what, met, least };
-        let fault = |what: &'static str, fault: Fault| goal(what, self.faults.get(&fault).copied().unwrap_or(0), 30 + count / 500);
+        let fault = |what: &'static str, fault: Fault| goal(what, seen.faults.get(&fault).copied().unwrap_or(0), 30 + count / 500);
         let bytes = |what: &'static str, of: parts::Fault| fault(what, Fault::Bytes(of));
         vec![
             goal("batches", self.compared.cases, count),
-            goal("sheets", self.sheets, 4 * count),
-            goal("different counts of sheets", self.counts.len() as u64, SHEETS as u64 + 1),
+            goal("sheets", seen.sheets, 4 * count),
+            goal("different counts of sheets", seen.counts.len() as u64, SHEETS as u64 + 1),
             goal("different numbers, 15 among them", self.compared.numbers.len() as u64, 18),
-            goal("batches with accepted sheets and refused ones", self.mixed, count / 4),
-            goal("batches with a form at fault", self.unread, count / 20),
-            goal("sheets of no bytes", self.empty, count / 10),
-            goal("batches with the same sheet at several places", self.twice, count / 4),
-            goal("batches with slices that are longer than their parts", self.longer, count / 4),
-            goal("pairs that agree on one sheet alone", self.isolated, count / 8),
+            goal("batches with accepted sheets and refused ones", seen.mixed, count / 4),
+            goal("batches with a form at fault", seen.unread, count / 20),
+            goal("sheets of no bytes", seen.empty, count / 10),
+            goal("batches with the same sheet at several places", seen.twice, count / 4),
+            goal("batches with slices that are longer than their parts", seen.longer, count / 4),
+            goal("pairs that agree on one sheet alone", seen.isolated, count / 8),
             bytes("refused with 15 for a header cut off", parts::Fault::Short),
             bytes("refused with 15 for a count over 32", parts::Fault::Count),
             bytes("refused with 15 for a first offset that is not 0", parts::Fault::First),
@@ -228,7 +231,7 @@ fn longer(rng: &mut Rng, sheets: usize) -> [usize; 4] {
 }
 
 /// The same, now and then with one slice that is a word short or empty.
-fn lengths(rng: &mut Rng, sheets: usize) -> [usize; 4] {
+pub fn lengths(rng: &mut Rng, sheets: usize) -> [usize; 4] {
     let mut lengths = longer(rng, sheets);
     let k = rng.below(4);
     match rng.below(16) {
@@ -242,12 +245,13 @@ fn lengths(rng: &mut Rng, sheets: usize) -> [usize; 4] {
 /// Batches that are known, at their limits and with each byte changed; then `count` of all sorts, one in four a pair that agrees on
 /// a sheet, one in eight at fault.
 pub fn compare(seed: u64, count: u64) -> Compared {
-    let mut batches = Batches::default();
+    let mut batches = Batches::new(&PLAIN);
     batches.known();
     let mut rng = Rng::new(seed);
     for k in 0..count {
         if k % 4 == 0 {
-            batches.isolated(&mut rng);
+            let pair = cases::agreeing(&mut rng);
+            batches.isolated(&mut rng, pair);
             continue;
         }
         let case = cases::batched(&mut rng);

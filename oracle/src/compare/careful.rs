@@ -3,11 +3,11 @@
 //! the plain run must be the real one.
 
 use line::cases::{self, Case, Rng};
-use line::forged::records;
 use line::format::*;
 use line::looks::{at_marker, looks_like_options, Misread, Reading};
 use proved::{code, CarefulAnswer, RunAnswer};
 
+use super::looked::Looked;
 use super::run::{self, Lengths, LEAST};
 #[cfg(live)]
 use super::split::raw_view;
@@ -21,20 +21,18 @@ pub struct Line {
     lengths: Lengths,
     ran: RunAnswer,
     left: [Vec<u32>; 3],
-    items: Vec<[u32; 7]>,
-    arguments: Vec<Vec<u8>>,
-    reading: Reading,
+    looked: Looked,
 }
 
 impl Line {
     pub fn new(case: Case, lengths: Lengths) -> Line {
         let (ran, left) = run::ours(&case, lengths);
-        let items = records(&left[0]);
         // nothing is read where one of them is at fault
         let both = Form::check(&case.form).and_then(|form| Sheet::check(&case.sheet).map(|sheet| (form, sheet.arguments)));
         let (form, arguments) = both.unwrap_or_default();
         let reading = Reading::of(&form, &arguments);
-        Line { case, lengths, ran, left, items, arguments, reading }
+        let looked = Looked::new(arguments, reading, &left[0], &ran.state);
+        Line { case, lengths, ran, left, looked }
     }
 
     pub fn input(&self) -> String {
@@ -50,7 +48,7 @@ impl Line {
 
     /// What an accepted line is refused for.
     fn misread(&self) -> Option<&Misread> {
-        self.reading.misread.first().filter(|_| self.ran.number == 0)
+        self.looked.reading.misread.first().filter(|_| self.ran.number == 0)
     }
 
     /// By the second reading.
@@ -67,55 +65,6 @@ impl Line {
         self.misread().map_or(plain, refused)
     }
 
-    /// The Words that are an argument which looks like options, each with its place, as the second reading has them.
-    fn misread_words(&self) -> Vec<(usize, [u32; 7])> {
-        let parts = self.parts();
-        let word = |m: &Misread| (m.place, [4, 0, 0, 0, 0, parts[m.argument].0, parts[m.argument].1]);
-        self.reading.misread.iter().map(word).collect()
-    }
-
-    /// The same, as the items have them.
-    fn whole_words(&self) -> Vec<(usize, [u32; 7])> {
-        let parts = self.parts();
-        let whole = |record: &[u32; 7]| record[0] == 4 && parts.contains(&(record[5], record[6]));
-        let words = self.items.iter().copied().enumerate().filter(|(_, record)| whole(record));
-        words.filter(|(_, record)| looks_like_options(self.text(record))).collect()
-    }
-
-    /// Offset and length of each argument.
-    fn parts(&self) -> Vec<(u32, u32)> {
-        let mut end = 0;
-        let part = |argument: &Vec<u8>| {
-            let start = end;
-            end += argument.len() as u32;
-            (start, end - start)
-        };
-        self.arguments.iter().map(part).collect()
-    }
-
-    fn text(&self, record: &[u32; 7]) -> &[u8] {
-        let start = self.case.sheet.len() - self.arguments.iter().map(Vec::len).sum::<usize>();
-        &self.case.sheet[start + record[5] as usize..][..record[6] as usize]
-    }
-}
-
-/// What lines have, for the counts.
-impl Line {
-    /// Whether an item of this kind has such a text.
-    fn has(&self, kind: u32, test: impl Fn(&[u8]) -> bool) -> bool {
-        self.items.iter().any(|record| record[0] == kind && test(self.text(record)))
-    }
-
-    /// Whether the place before this one has a name with nothing behind it, and the same field used both.
-    fn is_value(&self, place: usize) -> bool {
-        let marks = &self.ran.state.marks;
-        place > 0 && matches!(self.items[place - 1], [1 | 2, 0, ..]) && marks[place - 1] == marks[place]
-    }
-
-    fn has_dash_value(&self) -> bool {
-        (0..self.items.len()).any(|k| self.items[k][0] == 4 && self.text(&self.items[k]) == b"-" && self.is_value(k))
-    }
-
     fn longer(&self) -> bool {
         self.lengths.iter().zip(LEAST).all(|(length, least)| *length > least)
     }
@@ -130,25 +79,25 @@ const FACTS: [Fact; 16] = [
     ("lines that end in 50", 10, |_, answer| answer.number == 50),
     ("by a letter that no option has", 20, |_, answer| answer.letter != 0),
     ("by a name that is not UTF-8", 20, |_, answer| answer.number == 50 && answer.letter == 0),
-    ("at the value of an option", 100, |line, _| line.misread().is_some_and(|word| line.is_value(word.place))),
-    ("with two such words or more", 40, |line, answer| answer.number == 50 && line.reading.misread.len() > 1),
+    ("at the value of an option", 100, |line, _| line.misread().is_some_and(|word| line.looked.is_value(word.place))),
+    ("with two such words or more", 40, |line, answer| answer.number == 50 && line.looked.reading.misread.len() > 1),
     ("lines that are accepted", 8, |_, answer| answer.number == 0),
     ("with an argument that looks like options", 15, |line, answer| {
-        answer.number == 0 && at_marker(&line.arguments).0.iter().any(|a| looks_like_options(a))
+        answer.number == 0 && at_marker(&line.looked.arguments).0.iter().any(|a| looks_like_options(a))
     }),
     ("with a rest of a cluster that looks like options", 150, |line, answer| {
-        answer.number == 0 && line.has(4, looks_like_options)
+        answer.number == 0 && line.looked.has(4, looks_like_options)
     }),
     ("with a value behind `=` that looks like options", 120, |line, answer| {
-        answer.number == 0 && line.has(3, looks_like_options)
+        answer.number == 0 && line.looked.has(3, looks_like_options)
     }),
-    ("with a dash alone", 50, |line, answer| answer.number == 0 && at_marker(&line.arguments).0.contains(&b"-".to_vec())),
-    ("with a dash alone that is the value of an option", 400, |line, answer| answer.number == 0 && line.has_dash_value()),
+    ("with a dash alone", 50, |line, answer| answer.number == 0 && at_marker(&line.looked.arguments).0.contains(&b"-".to_vec())),
+    ("with a dash alone that is the value of an option", 400, |line, answer| answer.number == 0 && line.looked.has_dash_value()),
     ("with a word behind `--` that looks like options", 40, |line, answer| {
-        answer.number == 0 && line.has(5, |text| text != b"--" && looks_like_options(text))
+        answer.number == 0 && line.looked.has(5, |text| text != b"--" && looks_like_options(text))
     }),
     ("lines that the run refuses, with a word that looks like options", 10, |line, answer| {
-        (20..=27).contains(&answer.number) && !line.reading.misread.is_empty()
+        (20..=27).contains(&answer.number) && !line.looked.reading.misread.is_empty()
     }),
     ("lines refused with 7", 100, |_, answer| answer.number == 7),
     ("lines refused with 14", 200, |_, answer| answer.number == 14),
@@ -178,8 +127,8 @@ impl Careful {
             }
         }
         if line.ran.number == 0 {
-            self.compared.same("count of items", &input, line.items.len(), line.reading.items);
-            self.compared.same("misread words", &input, line.whole_words(), line.misread_words());
+            self.compared.same("count of items", &input, line.looked.items.len(), line.looked.reading.items);
+            self.compared.same("misread words", &input, line.looked.whole_words(), line.looked.misread_words());
         }
         #[cfg(live)]
         self.real(line);

@@ -10,22 +10,22 @@ use super::split::arguments;
 use super::why_known::{all_lengths, of, parsed};
 
 /// Number, place plus 1, and letter plus 1.
-type Ended = (u32, u32, u32);
+pub type Ended = (u32, u32, u32);
 
-const ACCEPTED: Ended = (0, 0, 0);
+pub const ACCEPTED: Ended = (0, 0, 0);
 
 /// Refused as the run is.
-const fn refused(number: u32, place: u32) -> Ended {
+pub const fn refused(number: u32, place: u32) -> Ended {
     (number, place + 1, 0)
 }
 
 /// No option has this letter.
-const fn unknown(place: u32, letter: char) -> Ended {
+pub const fn unknown(place: u32, letter: char) -> Ended {
     (50, place + 1, letter as u32 + 1)
 }
 
 /// The name is not UTF-8.
-const fn bad_name(place: u32) -> Ended {
+pub const fn bad_name(place: u32) -> Ended {
     (50, place + 1, 0)
 }
 

@@ -1,12 +1,15 @@
 //! The order of what refuses a table's run: every table at fault with every sheet at fault and with a line for each number, over
 //! slices of no words, one too few, just enough and more. Every word of every slice that is left.
 
-use line::cases::{forms_at_fault, TableCase};
+use line::cases::forms_at_fault;
+#[cfg(live)]
+use line::cases::TableCase;
 use line::commands::{write, Command};
 use line::forged::{ANSWER_WORDS, ITEM_WORDS, LIST_WORDS};
 use line::format::*;
 use line::notation;
 
+#[cfg(live)]
 use super::Compared;
 
 const ITEM_SLICES: [usize; 4] = [0, ITEM_WORDS - 1, ITEM_WORDS, 2000];
@@ -34,7 +37,7 @@ fn good() -> Vec<Command> {
 }
 
 /// Tables with 0 for the good one, or the number that refuses it: 1 to 4 in the last entry and in the first, 11 in the last.
-fn tables() -> Vec<(u32, Vec<u8>)> {
+pub fn tables() -> Vec<(u32, Vec<u8>)> {
     let last = ENDS.len() - 1;
     let mut all = vec![(0, write(&good()))];
     for (number, form) in forms_at_fault() {
@@ -51,7 +54,7 @@ fn tables() -> Vec<(u32, Vec<u8>)> {
 }
 
 /// Sheets, with the number that they give under the good table.
-fn sheets() -> Vec<(u32, Vec<u8>)> {
+pub fn sheets() -> Vec<(u32, Vec<u8>)> {
     let sheet = |arguments: &[&[u8]]| Sheet { arguments: arguments.iter().map(|a| a.to_vec()).collect() }.write();
     let mut all: Vec<(u32, Vec<u8>)> = ENDS.iter().map(|(number, _, _, line)| (*number, sheet(line))).collect();
     all.extend([(5, vec![0]), (6, sheet(&[b"accept" as &[u8]; 257])), (8, sheet(&[b"-vvv" as &[u8]; 86]))]);
@@ -59,7 +62,7 @@ fn sheets() -> Vec<(u32, Vec<u8>)> {
 }
 
 /// The number that is given: 11 and 1 to 4 of the table, 6 and 5 of the sheet, 7 and 14 of the slices, then the line's.
-fn number(table: u32, sheet: u32, [items, answers, list]: [usize; 3]) -> u32 {
+pub fn number(table: u32, sheet: u32, [items, answers, list]: [usize; 3]) -> u32 {
     match (table, sheet) {
         (1.., _) => table,
         (_, 5 | 6) => sheet,
@@ -69,11 +72,12 @@ fn number(table: u32, sheet: u32, [items, answers, list]: [usize; 3]) -> u32 {
     }
 }
 
-fn all_lengths() -> impl Iterator<Item = [usize; 3]> {
+pub fn all_lengths() -> impl Iterator<Item = [usize; 3]> {
     let pairs = ITEM_SLICES.iter().flat_map(|items| ANSWER_SLICES.map(|answers| (*items, answers)));
     pairs.flat_map(|(items, answers)| LIST_SLICES.map(|list| [items, answers, list]))
 }
 
+#[cfg(live)]
 impl Compared {
     /// Every table, every sheet, every three lengths.
     pub fn command_slices(&mut self) {

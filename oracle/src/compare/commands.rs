@@ -16,13 +16,13 @@ use super::{pattern, split::raw_view, Compared, Goal};
 use crate::{lines, lists::hex};
 
 /// What a run must be: the real bpaf's, or refused for what it is given.
-fn expected(case: &TableCase, [items, answers, list]: Lengths) -> Commanded {
+pub fn expected(case: &TableCase, [items, answers, list]: Lengths) -> Commanded {
     let short = forged::too_short(items, answers, list);
     run_table(&case.table, &case.sheet, short, Wanted { items: true, probe: true, ..Wanted::default() })
 }
 
 /// An answer as the library hands it over, all but its words.
-fn handed(ran: &Commanded) -> CommandAnswer {
+pub fn handed(ran: &Commanded) -> CommandAnswer {
     let answer = &ran.run.answer;
     CommandAnswer {
         number: answer.number,

@@ -4,14 +4,19 @@ mod batch_slices;
 mod batches;
 mod calls;
 mod careful;
+mod careful_batches;
+mod careful_commands;
+mod careful_commands_known;
 mod careful_known;
 mod checks;
-#[cfg(live)]
 mod command_slices;
 #[cfg(live)]
 mod commands;
 mod forged_marks;
+mod idle;
+mod idle_known;
 mod lent;
+mod looked;
 #[cfg(live)]
 mod marks;
 #[cfg(live)]
@@ -54,6 +59,11 @@ pub struct Goal {
 }
 
 impl Compared {
+    /// How many tries an input that differs is worth: only the first that differ are printed.
+    fn tries(&self) -> usize {
+        if self.differ < 10 { 2000 } else { 0 }
+    }
+
     fn answered(&mut self, number: u32) {
         *self.numbers.entry(number).or_default() += 1;
     }
@@ -77,6 +87,34 @@ impl Compared {
     }
 }
 
+/// Where two differ first: what it is, the first's word and the second's.
+type Difference = (String, u32, u32);
+
+/// Of slices with these names, by someone who says what the first must be.
+fn difference(names: &[&str], whose: &str, ours: &[Vec<u32>], theirs: &[Vec<u32>]) -> Option<Difference> {
+    let k = (0..names.len()).find(|k| ours[*k] != theirs[*k])?;
+    let at = ours[k].iter().zip(&theirs[k]).position(|(a, b)| a != b)?;
+    Some((format!("{} at word {at}, by {whose},", names[k]), ours[k][at], theirs[k][at]))
+}
+
+/// The smallest input that still differs, as far as so many tries come, and how it does.
+fn smallest<T>(
+    found: (T, Difference),
+    mut tries: usize,
+    smaller: impl Fn(&T) -> Vec<T>,
+    differs: impl Fn(&T) -> Option<Difference>,
+) -> (T, Difference) {
+    let mut least = found;
+    let mut differs = |small: T| {
+        tries = tries.checked_sub(1)?;
+        differs(&small).map(|how| (small, how))
+    };
+    while let Some(small) = smaller(&least.0).into_iter().find_map(&mut differs) {
+        least = small;
+    }
+    least
+}
+
 /// A slice filled with a pattern, so that an untouched word shows.
 fn pattern(length: usize) -> Vec<u32> {
     (0..length as u32).map(|k| 0xdead_0000 ^ k).collect()
@@ -92,6 +130,9 @@ pub fn compare(layer: &str, seed: u64, count: Option<u64>) -> Option<Compared> {
         "forged-lent" => lent::compare_forged(seed, count.unwrap_or(150_000)),
         "forged-eval" => run::compare_forged(seed, count.unwrap_or(100_000)),
         "batches" => batches::compare(seed, count.unwrap_or(100_000)),
+        "careful-batches" => careful_batches::compare(seed, count.unwrap_or(100_000)),
+        "careful-commands" => careful_commands::compare(seed, count.unwrap_or(1_000_000)),
+        "idle" => idle::compare(seed, count.unwrap_or(1_000_000)),
         "forged-tables" => tables::compare(seed, count.unwrap_or(200_000)),
         "why" => why::compare(seed, count.unwrap_or(1_000_000)),
         "careful" => careful::compare(seed, count.unwrap_or(1_000_000)),

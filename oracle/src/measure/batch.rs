@@ -17,7 +17,7 @@ const LINES: [&str; 6] = ["lock", "-1 lock", "-l7 -13 lock chain bolt", "-246 lo
 /// How many times as fast as single calls a batch must be, clearing left out.
 const GOAL: f64 = 1.5;
 
-fn six_lines() -> Benchmark {
+pub fn six_lines() -> Benchmark {
     let benchmark = Benchmark::of(wear(), "six lines of `wear`", LINES.map(arguments).to_vec());
     benchmark.assert_same();
     benchmark
@@ -28,7 +28,7 @@ fn lend(benchmark: &Benchmark) -> batches::Slices {
     batches::room(benchmark.sheets.len()).map(|length| vec![0; length])
 }
 
-fn run(form: &[u8], batch: &[u8], lent: &mut batches::Slices) -> u32 {
+pub fn run(form: &[u8], batch: &[u8], lent: &mut batches::Slices) -> u32 {
     let [records, items, answers, list] = lent;
     proved::run_batch(form, batch, records, items, answers, list).number
 }

@@ -36,17 +36,35 @@ fn line_of(words: &str) -> Vec<u8> {
     sheet(words.split_whitespace().map(|word| word.as_bytes().to_vec()).collect())
 }
 
-fn run(table: &[u8], sheet: &[u8], lent: &mut Slices) -> proved::CommandAnswer {
+#[inline(always)]
+pub fn run(table: &[u8], sheet: &[u8], lent: &mut Slices) -> proved::CommandAnswer {
     proved::run_commands(table, sheet, &mut lent.items, &mut lent.answers, &mut lent.list)
 }
 
+const FORMS: [(&str, &str); 3] = [("wear", WEAR), ("pair", PAIR), ("log", LOG)];
+
+/// Lines of the workshop: the number of a form, and what stands behind its name.
+const LINES: [(usize, &str); 4] = [(0, "lock"), (0, "-l7 -13 lock chain bolt"), (1, "-f lock chain"), (2, "lock")];
+
+fn table() -> Vec<u8> {
+    let entries: Vec<Command> = FORMS.iter().map(|(name, text)| Command::new(&[(LONG, name)], form(text))).collect();
+    commands::write(&entries)
+}
+
+/// These lines, and lines of as many items as there may be: their names, the table, their sheets.
+pub fn accepted_lines() -> Vec<(String, Vec<u8>, Vec<u8>)> {
+    let short = LINES.map(|(k, rest)| format!("{} {rest}", FORMS[k].0));
+    let short = short.into_iter().map(|words| (format!("`{words}`"), line_of(&words)));
+    let repeated = |word: &str| line_of(&format!("log{}", format!(" {word}").repeat(ITEMS - 1)));
+    let long = ["lock", "-"].map(|word| (format!("`log` and 255 times `{word}`"), repeated(word)));
+    short.chain(long).map(|(name, sheet)| (name, table(), sheet)).collect()
+}
+
 fn workshop() {
-    let forms = [("wear", WEAR), ("pair", PAIR), ("log", LOG)];
-    let entries: Vec<Command> = forms.iter().map(|(name, text)| Command::new(&[(LONG, name)], form(text))).collect();
-    let table = commands::write(&entries);
+    let table = table();
     println!("| line | alone | as a command | checking the three forms and the table |\n|---|---|---|---|");
-    for (k, rest) in [(0, "lock"), (0, "-l7 -13 lock chain bolt"), (1, "-f lock chain"), (2, "lock")] {
-        let (name, text) = forms[k];
+    for (k, rest) in LINES {
+        let (name, text) = FORMS[k];
         let alone = form(text);
         let plain = line_of(rest);
         let commanded = line_of(&format!("{name} {rest}"));

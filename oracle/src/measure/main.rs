@@ -32,7 +32,7 @@ measure stack           the deepest use of the stack
 measure slowest         inputs that take long; fails if one takes over 20 ms
 measure commands        lines of commands, and clusters under the largest tables; fails if one takes over 20 ms
 measure batch           six lines in one call; fails if that is not 1.5 times as fast as six calls, clearing left out
-measure careful         the careful run beside the plain one; fails if one line takes over 3 % more instructions
+measure careful         careful calls beside plain ones; fails if one takes over 3 % more instructions
 measure profile [NAME]  the functions that the instructions of a benchmark, or of each, are in
 measure count PART      runs every side of `lines`, `batch` or `careful` a few times, for callgrind to count
 ";
@@ -90,7 +90,8 @@ writing of zeros alone, to the words that either has to clear; instructions are 
 const CAREFUL: &str = "
 ## The careful run
 
-Instructions of whole calls on the accepted lines above, clearing and all, by callgrind, which counts it byte by byte.
+Instructions of whole calls, clearing and all, by callgrind, which counts it byte by byte: on the accepted lines above, on lines of the
+three commands above, and on batches.
 ";
 
 fn same() -> bool {
