@@ -4,7 +4,7 @@ mod prove;
 
 use std::{env, path::Path, path::PathBuf, process::Command};
 
-/// Lines of one form, lines of commands, many lines in one call, and why a place was left over.
+/// Lines of one form, lines of commands, many lines in one call; the careful run of a line, and why a place was left over.
 const LIBRARIES: [&str; 4] = ["exports", "exports_commands", "exports_batch", "exports_why"];
 
 fn main() {

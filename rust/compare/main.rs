@@ -3,8 +3,9 @@
 //! Built by `rust/test` with the libraries of `oracle/build`: `line` (formats and cases) and `bpaf` (with the harness).
 //! Compared for every line: number, place, tries, items, marks, what is missing, values with their texts; that texts are parts
 //! of the caller's arguments; that each item's part of its argument is what it stands for; the same form built from nodes; that
-//! exactly the items that a 27 left over have a reason; and of every fourth line that it is the same where it is read at once with
-//! another.
+//! exactly the items that a 27 left over have a reason. Of every second line: that read carefully it is the same but for a 50,
+//! that it has just the notes that it should have, and its form a warning for each value from nothing. Of every fourth line:
+//! that it is the same where it is read at once with another. bpaf's rules are those of `as_bpaf`.
 
 use std::collections::BTreeMap;
 use std::ffi::{OsStr, OsString};
@@ -14,7 +15,9 @@ use std::process::ExitCode;
 use bpaf::doc::harness::{self, Wanted};
 use line::cases::{self, Case, Rng};
 use line::format::{self, Base, Kind};
-use silverpoise::{Item, ItemKind, Line, Mark, Missing, Names, Node, ReadError, Reader, Reason, Takes, UsedBy, Value};
+use silverpoise::{
+    Item, ItemKind, Line, Mark, Missing, Names, Node, Note, ReadError, Reader, Reason, Takes, UsedBy, Value, Warning,
+};
 
 /// What is compared of one read.
 #[derive(Debug, PartialEq)]
@@ -33,6 +36,14 @@ struct Compared {
     rebuilt: u64,
     too_large: u64,
     differ: u64,
+    /// lines that are refused with 50 where they are read carefully
+    misread: u64,
+    /// notes of values from nothing, of words that stay used, and of 26 where the word at its place was not refused
+    noted: u64,
+    stay: u64,
+    others: u64,
+    /// accepted lines of fields with no operand left for them
+    none_left: u64,
     numbers: BTreeMap<u32, u64>,
     /// the arguments of a line before
     before: Vec<OsString>,
@@ -49,7 +60,7 @@ impl Compared {
     }
 
     fn case(&mut self, reader: &mut Reader, case: &Case) {
-        match (format::Form::check(&case.form), silverpoise::Form::from_bytes(&case.form)) {
+        match (format::Form::check(&case.form), silverpoise::Form::from_bytes(&case.form).map(silverpoise::Form::as_bpaf)) {
             (Err(theirs), Err(ours)) => {
                 self.forms_refused += 1;
                 let same = (theirs.number, theirs.place) == (ours.number(), ours.place());
@@ -64,6 +75,24 @@ impl Compared {
             },
             (theirs, ours) => self.must(false, case, || format!("form {:?}: {:?}", theirs.err(), ours.err())),
         }
+    }
+
+    /// A warning for each repeat whose child may have a value from nothing, by a reading of the form's own.
+    fn warnings(&mut self, case: &Case, form: &format::Form, warnings: &[Warning]) {
+        let repeats = (0..form.nodes.len()).filter(|node| {
+            let record = &form.nodes[*node];
+            (format::MANY..=format::LAST).contains(&record.kind) && may_be_idle(form, record.p)
+        });
+        let mut told: Vec<usize> = warnings
+            .iter()
+            .filter_map(|warning| match warning {
+                Warning::FromNothing(one) => Some(one.node),
+                _ => None,
+            })
+            .collect();
+        told.sort_unstable();
+        let worded = warnings.iter().all(|warning| !warning.to_string().is_empty() && warning.field() < form.fields.len());
+        self.must(repeats.eq(told.iter().copied()) && worded, case, || format!("warnings {warnings:?}"));
     }
 
     fn line(&mut self, reader: &mut Reader, case: &Case, form: &format::Form, ours: &silverpoise::Form, sheet: &format::Sheet) {
@@ -91,8 +120,33 @@ impl Compared {
         let seen = seen(read.as_ref().map(|line| (line.values(), line.tries())));
         self.must(seen == expected, case, || format!("{seen:?}, expected {expected:?}"));
         self.rebuilt(reader, case, form, &args, &expected);
+        if self.lines % 2 == 0 {
+            self.overlooked(reader, case, form, &args, &read);
+        }
         if self.lines % 4 == 0 {
             self.many(reader, case, ours, &args);
+        }
+    }
+
+    /// What bpaf does not tell: the line as it is read carefully, its notes, and the form's warnings.
+    fn overlooked(
+        &mut self,
+        reader: &mut Reader,
+        case: &Case,
+        form: &format::Form,
+        args: &[OsString],
+        read: &Result<Line<Vec<Value>>, ReadError>,
+    ) {
+        let careful = silverpoise::Form::from_bytes(&case.form).expect("it was accepted before");
+        self.careful(reader, case, &careful, args, read);
+        let warnings = careful.warnings();
+        self.warnings(case, form, &warnings);
+        match read {
+            Ok(line) => {
+                self.from_nothing(case, form, line);
+                self.none_left(case, &warnings, line.items());
+            }
+            Err(error) => self.stays_used(reader, case, form, args, error),
         }
     }
 
@@ -112,6 +166,90 @@ impl Compared {
         }
     }
 
+    /// The line as it is read without `as_bpaf`: the same, but refused with 50 where it is accepted and an argument before `--`
+    /// that looks like options has no Short and no Long. Its notes then name all the others.
+    fn careful(
+        &mut self,
+        reader: &mut Reader,
+        case: &Case,
+        form: &silverpoise::Form,
+        args: &[OsString],
+        plain: &Result<Line<Vec<Value>>, ReadError>,
+    ) {
+        let read = reader.read_values(form, args);
+        let items = plain.as_ref().map_or(&[][..], |line| line.items());
+        let end = args.iter().position(|arg| arg == "--").unwrap_or(args.len());
+        let dashed = (0..end).filter(|k| args[*k].len() > 1 && args[*k].as_bytes()[0] == b'-');
+        let option = |item: &Item| matches!(item.kind, ItemKind::Short(_) | ItemKind::Long(_));
+        let first = |argument: usize| items.iter().position(|item| item.argument == argument);
+        let misread: Vec<usize> = dashed.filter_map(first).filter(|place| !option(&items[*place])).collect();
+        let same = match (&read, misread.first()) {
+            (Err(error), Some(place)) => {
+                self.misread += 1;
+                let notes = error.notes().iter().chain(plain.as_ref().map_or(&[][..], |line| line.notes()));
+                let words = notes.filter(|note| matches!(note, Note::Word { .. })).count();
+                (error.number(), error.place()) == (50, Some(*place))
+                    && matches!(error.reason(), Some(Reason::UnknownLetter(_) | Reason::NotUtf8))
+                    && words == 2 * misread.len() - 1
+            }
+            (_, None) => read == *plain,
+            _ => false,
+        };
+        self.must(same, case, || format!("carefully {read:?}, misread {misread:?}"));
+    }
+
+    /// A field with the warning that no operand is left for it takes none on any line that is accepted: what it takes is an option,
+    /// or the value of the one before.
+    fn none_left(&mut self, case: &Case, warnings: &[Warning], items: &[Item]) {
+        for warning in warnings.iter().filter(|warning| matches!(warning, Warning::NoneLeft { .. })) {
+            let took = |place: &usize| items[*place].mark.field() == Some(warning.field());
+            let option = |place: usize| matches!(items[place].kind, ItemKind::Short(_) | ItemKind::Long(_));
+            let operand = (0..items.len()).filter(took).find(|place| !option(*place) && (*place == 0 || !option(place - 1)));
+            self.must(operand.is_none(), case, || format!("{warning:?}, and {operand:?} is taken"));
+            self.none_left += 1;
+        }
+    }
+
+    /// A note for each count and each list of one value that took nothing: always where it is the whole field.
+    fn from_nothing(&mut self, case: &Case, form: &format::Form, line: &Line<Vec<Value>>) {
+        let noted = |field: usize| line.notes().iter().any(|note| matches!(note, Note::FromNothing(one) if one.field == field));
+        for (field, value) in line.values().iter().enumerate() {
+            let took = line.items().iter().any(|item| item.mark.field() == Some(field));
+            let one = |value: &Value| *value == Value::Number(1) || matches!(value, Value::List(list) if list.len() == 1);
+            let within = matches!(value, Value::Optional(Some(value)) if one(value));
+            let whole = matches!(form.nodes[form.fields[field] as usize].kind, format::MANY | format::SOME | format::COUNT);
+            let good = if noted(field) { !took && (one(value) || within) } else { !whole || took || !one(value) };
+            self.must(good, case, || format!("field {field}: {value:?} with the notes {:?}", line.notes()));
+            self.noted += u64::from(noted(field));
+        }
+    }
+
+    /// A note that the place of a 23 to 26 stays used, where its own field is refused: that is so if the fields up to that one are
+    /// refused alike, with what splits the line as the others do.
+    fn stays_used(&mut self, reader: &mut Reader, case: &Case, form: &format::Form, args: &[OsString], error: &ReadError) {
+        let place = error.place().filter(|_| (23..=26).contains(&error.number()));
+        let field = place.and_then(|place| error.items()[place].mark.field());
+        let noted = error.notes().iter().any(|note| matches!(note, Note::StaysUsed { place: at } if Some(*at) == place));
+        let expected = match (error.number(), field) {
+            (26, Some(field)) => {
+                let names = |kind: u16| form.letters(kind).into_iter().fold(Names::default(), Names::short);
+                let others = [
+                    (!form.letters(format::FLAG).is_empty()).then(|| Node::flag(names(format::FLAG)).many()),
+                    (!form.letters(format::ARGUMENT).is_empty())
+                        .then(|| Node::argument(names(format::ARGUMENT), Takes::Text).many()),
+                ];
+                let fields = form.fields[..=field].iter().map(|field| node(form, *field));
+                let Ok(first) = silverpoise::Form::of(fields.chain(others.into_iter().flatten())) else { return };
+                let read = reader.read_values(&first, args);
+                read.is_err_and(|error| error.number() == 26)
+            }
+            (_, field) => field.is_some(),
+        };
+        self.must(noted == expected, case, || format!("notes {:?}, stays used: {expected}", error.notes()));
+        self.stay += u64::from(noted);
+        self.others += u64::from(!noted && error.number() == 26 && field.is_some());
+    }
+
     /// The line in one call with one that stands before it: each has the result of a single read.
     fn many(&mut self, reader: &mut Reader, case: &Case, form: &silverpoise::Form, args: &[OsString]) {
         let before = std::mem::replace(&mut self.before, args.to_vec());
@@ -123,7 +261,8 @@ impl Compared {
 
     /// The same form from nodes. Shared names become names of their own, so a large form may pass a limit.
     fn rebuilt(&mut self, reader: &mut Reader, case: &Case, form: &format::Form, args: &[OsString], expected: &Seen) {
-        match silverpoise::Form::of(form.fields.iter().map(|field| node(form, *field))) {
+        let built = silverpoise::Form::of(form.fields.iter().map(|field| node(form, *field)));
+        match built.map(silverpoise::Form::as_bpaf) {
             Err(error) => {
                 self.too_large += 1;
                 self.must(error.number() == 1, case, || format!("form of nodes: {error}"));
@@ -310,6 +449,18 @@ impl<'a> Words<'_, 'a> {
     }
 }
 
+/// Whether a node may have a value although nothing on the line is its.
+fn may_be_idle(form: &format::Form, node: u16) -> bool {
+    let record = &form.nodes[node as usize];
+    match record.kind {
+        format::FLAG => record.r == 1,
+        format::OPTIONAL | format::FALLBACK => true,
+        format::GUARD => may_be_idle(form, record.p),
+        format::CHOICE => may_be_idle(form, record.p) || may_be_idle(form, record.q),
+        _ => false,
+    }
+}
+
 /// A node of a form by the crate's constructors.
 fn node(form: &format::Form, number: u16) -> Node {
     let record = &form.nodes[number as usize];
@@ -379,8 +530,11 @@ fn main() -> ExitCode {
     println!("answered {:?}", c.numbers);
     println!("{} forms refused, {} sheets that no arguments give", c.forms_refused, c.sheets_left_out);
     println!("{} forms from nodes, {} too large for it", c.rebuilt, c.too_large);
+    println!("{} lines accepted that are refused with 50 where they are read carefully", c.misread);
+    println!("{} values from nothing, {} words that stay used, {} that another field took", c.noted, c.stay, c.others);
+    println!("{} times no operand was left for a field, as its warning says", c.none_left);
     println!("{} lines, {} differ", c.lines, c.differ);
-    if c.lines > 0 && c.differ == 0 {
+    if c.lines > 0 && c.differ == 0 && c.misread > 0 {
         ExitCode::SUCCESS
     } else {
         ExitCode::FAILURE

@@ -4,6 +4,7 @@ use std::ffi::OsStr;
 
 use crate::ffi;
 use crate::form::Form;
+use crate::rules::Slices;
 use crate::sheet;
 use crate::table_layout::write_offsets;
 
@@ -39,7 +40,7 @@ impl Batch {
         let items = room(&mut self.items, count * ffi::ITEM_WORDS);
         let answers = room(&mut self.answers, count * ffi::ANSWER_WORDS);
         let list = room(&mut self.list, count * ffi::LIST_WORDS);
-        let refused = ffi::run_batch(form.bytes(), &self.bytes, records, items, answers, list);
+        let refused = form.rules().run_batch(form.bytes(), &self.bytes, records, Slices { items, answers, list });
         assert_eq!(refused.number, 0, "a batch that is well made and has room for its lines is run");
     }
 

@@ -115,6 +115,12 @@ impl<C: Chosen> Commands<C> {
         Ok(Commands { table: CommandTable::of(entries)?, reads })
     }
 
+    /// The same commands, whose lines are read by bpaf's rules alone, as [`Form::as_bpaf`] has it. The rules of the forms that
+    /// the commands were made of do not matter.
+    pub fn as_bpaf(self) -> Commands<C> {
+        Commands { table: self.table.as_bpaf(), ..self }
+    }
+
     /// Reads a line, whose first argument is the command. The arguments are those behind the program's name
     /// ([`args`](crate::args) gives them); texts are parts of them, not copies.
     pub fn read<'a, A: AsRef<OsStr>>(&'a self, args: &'a [A]) -> Result<C::Value<'a>, ReadError> {

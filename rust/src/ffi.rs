@@ -53,6 +53,19 @@ pub struct RunAnswer {
     pub state: State,
 }
 
+/// The answer of a careful run. After 50 `letter` is the letter that no option has, handed over plus 1, and 0 where a name is not
+/// UTF-8; else it is 0.
+#[repr(C)]
+#[derive(Clone, Copy, Debug, PartialEq, Eq)]
+pub struct CarefulAnswer {
+    pub number: u32,
+    pub place: u32,
+    pub tries: u32,
+    pub words: u32,
+    pub letter: u32,
+    pub state: State,
+}
+
 /// The answer of a run of commands; `entry` is handed over plus 1, as a place is.
 #[repr(C)]
 #[derive(Clone, Copy, Debug, PartialEq, Eq)]
@@ -64,6 +77,28 @@ pub struct CommandAnswer {
     pub comparisons: u32,
     pub entry: u32,
     pub state: State,
+}
+
+#[repr(C)]
+#[derive(Clone, Copy, Debug, PartialEq, Eq)]
+pub struct CarefulCommandAnswer {
+    pub number: u32,
+    pub place: u32,
+    pub tries: u32,
+    pub words: u32,
+    pub comparisons: u32,
+    pub entry: u32,
+    pub letter: u32,
+    pub state: State,
+}
+
+/// The repeats whose child may have a value although nothing on the line is its: bit n is node n.
+#[repr(C)]
+#[derive(Clone, Copy, Debug, PartialEq, Eq)]
+pub struct IdleAnswer {
+    pub number: u32,
+    pub place: u32,
+    pub nodes: u64,
 }
 
 /// Why a place was left over; `detail` is a place, handed over plus 1, or a character. Refused, both are 0.
@@ -97,6 +132,7 @@ extern "C" {
     fn silverpoise_form_check(form: *const u8, form_count: usize) -> Refused;
     fn silverpoise_kind(form: *const u8, form_count: usize, node: usize) -> Told;
     fn silverpoise_portable(form: *const u8, form_count: usize) -> Told;
+    fn silverpoise_idle_repeats(form: *const u8, form_count: usize) -> IdleAnswer;
     fn silverpoise_run(
         form: *const u8,
         form_count: usize,
@@ -109,6 +145,18 @@ extern "C" {
         list: *mut u32,
         list_count: usize,
     ) -> RunAnswer;
+    fn silverpoise_careful(
+        form: *const u8,
+        form_count: usize,
+        sheet: *const u8,
+        sheet_count: usize,
+        items: *mut u32,
+        item_count: usize,
+        answers: *mut u32,
+        answer_count: usize,
+        list: *mut u32,
+        list_count: usize,
+    ) -> CarefulAnswer;
     fn silverpoise_commands_check(table: *const u8, table_count: usize) -> TableRefused;
     fn silverpoise_command_form(table: *const u8, table_count: usize, entry: usize) -> FormPart;
     fn silverpoise_run_commands(
@@ -123,7 +171,33 @@ extern "C" {
         list: *mut u32,
         list_count: usize,
     ) -> CommandAnswer;
+    fn silverpoise_careful_commands(
+        table: *const u8,
+        table_count: usize,
+        sheet: *const u8,
+        sheet_count: usize,
+        items: *mut u32,
+        item_count: usize,
+        answers: *mut u32,
+        answer_count: usize,
+        list: *mut u32,
+        list_count: usize,
+    ) -> CarefulCommandAnswer;
     fn silverpoise_run_batch(
+        form: *const u8,
+        form_count: usize,
+        batch: *const u8,
+        batch_count: usize,
+        records: *mut u32,
+        record_count: usize,
+        items: *mut u32,
+        item_count: usize,
+        answers: *mut u32,
+        answer_count: usize,
+        list: *mut u32,
+        list_count: usize,
+    ) -> Refused;
+    fn silverpoise_careful_batch(
         form: *const u8,
         form_count: usize,
         batch: *const u8,
@@ -167,11 +241,35 @@ pub fn portable(form: &[u8]) -> Told {
     unsafe { silverpoise_portable(form.as_ptr(), form.len()) }
 }
 
+pub fn idle_repeats(form: &[u8]) -> IdleAnswer {
+    // SAFETY: as said above
+    unsafe { silverpoise_idle_repeats(form.as_ptr(), form.len()) }
+}
+
 /// The whole run: it checks form, sheet and the lengths of the three slices before it does anything else.
 pub fn run(form: &[u8], sheet: &[u8], items: &mut [u32], answers: &mut [u32], list: &mut [u32]) -> RunAnswer {
     // SAFETY: as said above
     unsafe {
         silverpoise_run(
+            form.as_ptr(),
+            form.len(),
+            sheet.as_ptr(),
+            sheet.len(),
+            items.as_mut_ptr(),
+            items.len(),
+            answers.as_mut_ptr(),
+            answers.len(),
+            list.as_mut_ptr(),
+            list.len(),
+        )
+    }
+}
+
+/// The careful run: as `run`, and then 50.
+pub fn careful(form: &[u8], sheet: &[u8], items: &mut [u32], answers: &mut [u32], list: &mut [u32]) -> CarefulAnswer {
+    // SAFETY: as said above
+    unsafe {
+        silverpoise_careful(
             form.as_ptr(),
             form.len(),
             sheet.as_ptr(),
@@ -215,6 +313,31 @@ pub fn run_commands(table: &[u8], sheet: &[u8], items: &mut [u32], answers: &mut
     }
 }
 
+/// The careful run of a line of commands.
+pub fn careful_commands(
+    table: &[u8],
+    sheet: &[u8],
+    items: &mut [u32],
+    answers: &mut [u32],
+    list: &mut [u32],
+) -> CarefulCommandAnswer {
+    // SAFETY: as said above
+    unsafe {
+        silverpoise_careful_commands(
+            table.as_ptr(),
+            table.len(),
+            sheet.as_ptr(),
+            sheet.len(),
+            items.as_mut_ptr(),
+            items.len(),
+            answers.as_mut_ptr(),
+            answers.len(),
+            list.as_mut_ptr(),
+            list.len(),
+        )
+    }
+}
+
 /// The runs of all sheets of a batch, which checks all that it is given before it runs one.
 pub fn run_batch(
     form: &[u8],
@@ -227,6 +350,34 @@ pub fn run_batch(
     // SAFETY: as said above
     unsafe {
         silverpoise_run_batch(
+            form.as_ptr(),
+            form.len(),
+            batch.as_ptr(),
+            batch.len(),
+            records.as_mut_ptr(),
+            records.len(),
+            items.as_mut_ptr(),
+            items.len(),
+            answers.as_mut_ptr(),
+            answers.len(),
+            list.as_mut_ptr(),
+            list.len(),
+        )
+    }
+}
+
+/// The careful runs of all sheets of a batch.
+pub fn careful_batch(
+    form: &[u8],
+    batch: &[u8],
+    records: &mut [u32],
+    items: &mut [u32],
+    answers: &mut [u32],
+    list: &mut [u32],
+) -> Refused {
+    // SAFETY: as said above
+    unsafe {
+        silverpoise_careful_batch(
             form.as_ptr(),
             form.len(),
             batch.as_ptr(),
@@ -286,6 +437,12 @@ mod tests {
         assert_eq!((offset_of!(State, current), offset_of!(State, start), offset_of!(State, end)), (520, 524, 528));
         assert_eq!((offset_of!(RunAnswer, number), offset_of!(RunAnswer, place)), (0, 4));
         assert_eq!((offset_of!(RunAnswer, tries), offset_of!(RunAnswer, words), offset_of!(RunAnswer, state)), (8, 12, 16));
+        assert_eq!((size_of::<CarefulAnswer>(), align_of::<CarefulAnswer>()), (552, 4));
+        assert_eq!((offset_of!(CarefulAnswer, words), offset_of!(CarefulAnswer, letter)), (12, 16));
+        assert_eq!((offset_of!(CarefulAnswer, state), offset_of!(CarefulCommandAnswer, state)), (20, 28));
+        assert_eq!((size_of::<CarefulCommandAnswer>(), align_of::<CarefulCommandAnswer>()), (560, 4));
+        assert_eq!((offset_of!(CarefulCommandAnswer, entry), offset_of!(CarefulCommandAnswer, letter)), (20, 24));
+        assert_eq!((size_of::<IdleAnswer>(), align_of::<IdleAnswer>(), offset_of!(IdleAnswer, nodes)), (16, 8, 8));
     }
 
     /// Each field of each struct holds what it is named for.
@@ -301,6 +458,52 @@ mod tests {
         assert_eq!((s.count, s.remaining, s.current, s.start, s.end), (2, 0, 2, 0, 2));
         assert_eq!((s.marks[..3].to_vec(), items[..7].to_vec()), (vec![512, 512, 0], vec![1, 0, 118, 0, 0, 0, 3]));
         assert!(items[14..].iter().chain(&answers[1..]).chain(&list).all(|word| *word == 0));
+    }
+
+    /// Bit n is node n: a count over a switch may be idle, over a flag that must be given it may not.
+    #[test]
+    fn known_idle_repeats() {
+        assert_eq!(idle_repeats(FORM), IdleAnswer { number: 0, place: 0, nodes: 0 });
+        let mut switch = FORM.to_vec();
+        switch[16] = 1;
+        assert_eq!(idle_repeats(&switch), IdleAnswer { number: 0, place: 0, nodes: 2 });
+        assert_eq!(idle_repeats(&[]), IdleAnswer { number: 1, place: 0, nodes: 0 });
+        switch[10] = 0;
+        assert_eq!(idle_repeats(&switch), IdleAnswer { number: 3, place: 1, nodes: 0 });
+    }
+
+    /// The switch v and a word, on `-vv`, `a`, `-vx` and a byte that is no UTF-8: 50 where the run is accepted.
+    #[test]
+    fn known_careful_answers() {
+        let read = |sheet: &[u8]| {
+            let (mut items, mut answers, mut list) = ([9; ITEM_WORDS], [9; ANSWER_WORDS], [9; LIST_WORDS]);
+            let ran = careful(WITH_WORD, sheet, &mut items, &mut answers, &mut list);
+            assert!(ran.number == 20 || list.iter().chain(&answers[ran.words as usize..]).all(|word| *word == 0));
+            (ran.number, ran.place, ran.tries, ran.words, ran.letter, ran.state.marks[0])
+        };
+        assert_eq!(read(b"\x01\0\0\0\x01\0a"), (0, 0, 2, 2, 0, 513));
+        assert_eq!(read(b"\x01\0\0\0\x03\0-vx"), (50, 1, 2, 0, 121, 513));
+        assert_eq!(read(b"\x01\0\0\0\x03\0-v\xff"), (50, 1, 2, 0, 0, 513));
+        assert_eq!((read(SHEET).0, read(&[]).0), (20, 5));
+        let table =
+            [&b"\x01\0\0\0\0\0"[..], &[WITH_WORD.len() as u8 + 11, 0, 0, 0], b"\x01\0\x01\0\x01\0\0\0\x01\0a", WITH_WORD];
+        let (mut items, mut answers, mut list) = ([9; ITEM_WORDS], [9; ANSWER_WORDS], [9; LIST_WORDS]);
+        let sheet = b"\x02\0\0\0\x01\0\x04\0a-vx";
+        let ran = careful_commands(&table.concat(), sheet, &mut items, &mut answers, &mut list);
+        assert_eq!((ran.number, ran.place, ran.tries, ran.words), (50, 2, 2, 0));
+        assert_eq!((ran.comparisons, ran.entry, ran.letter, ran.state.marks[..2].to_vec()), (1, 1, 121, vec![511, 513]));
+    }
+
+    /// The record of a sheet may have 50, and what it leaves is what a single call leaves.
+    #[test]
+    fn a_careful_batch() {
+        let batch = b"\x02\0\0\0\0\0\x09\0\0\0\x10\0\0\0\x01\0\0\0\x03\0-vx\x01\0\0\0\x01\0a";
+        let [mut records, mut items, mut answers, mut list] = slices(2);
+        let refused = careful_batch(WITH_WORD, batch, &mut records, &mut items, &mut answers, &mut list);
+        assert_eq!((refused, &records[..]), (Refused { number: 0, place: 0 }, &[50, 1, 2, 0, 0, 0, 2, 2][..]));
+        assert_eq!((&items[..7], &answers[..2]), (&[4, 0, 0, 0, 0, 0, 3][..], &[0, 0][..]));
+        assert_eq!(answers[ANSWER_WORDS..][..2], [0, 0]);
+        assert_eq!(careful_batch(WITH_WORD, &[], &mut [], &mut [], &mut [], &mut []).number, 15);
     }
 
     /// A table of one entry: the long name `a`, and the form above.

@@ -7,12 +7,16 @@ use crate::kind::{Base, Kind};
 use crate::layout::{self, Layout};
 use crate::names::short;
 use crate::node::{Fallback, Node, SHORT};
+use crate::rules::Rules;
 
 /// Which options exist, as data: the fields in order, each a [`Node`]. A form that exists has passed the form check.
 #[derive(Clone, Debug, PartialEq, Eq)]
 pub struct Form {
     bytes: Vec<u8>,
     kinds: Vec<Kind>,
+    /// the repeats whose child may have a value although nothing is given: bit n is node n
+    idle: u64,
+    rules: Rules,
 }
 
 impl Form {
@@ -34,7 +38,37 @@ impl Form {
         }
         let layout = Layout::of(bytes);
         let kinds = (0..layout.fields()).map(|field| kind(bytes, layout.field(field))).collect();
-        Ok(Form { bytes: bytes.to_vec(), kinds })
+        let idle = ffi::idle_repeats(bytes).nodes;
+        Ok(Form { bytes: bytes.to_vec(), kinds, idle, rules: Rules::default() })
+    }
+
+    /// The same form, whose lines are read by bpaf's rules alone.
+    ///
+    /// There is one difference. By these rules an argument that looks like options is a plain word where no option has one of its
+    /// letters, or its name is not UTF-8; a field may take it, and the line is accepted. Without `as_bpaf` such a line is refused
+    /// with 50 (docs/FORMAT.md, section 15).
+    ///
+    /// ```
+    /// use silverpoise::{short, Form, Node, Reason, Takes, Value};
+    ///
+    /// let form = Form::of([Node::switch(short('v')), Node::positional(Takes::Text)])?;
+    /// let error = form.read_values(&["-vx"]).unwrap_err();
+    /// assert_eq!((error.number(), error.reason()), (50, Some(Reason::UnknownLetter('x'))));
+    ///
+    /// let form = form.as_bpaf();
+    /// assert_eq!(form.read_values(&["-vx"])?.into_values(), [Value::YesNo(false), Value::Text("-vx".as_ref())]);
+    /// # Ok::<(), Box<dyn std::error::Error>>(())
+    /// ```
+    pub fn as_bpaf(self) -> Form {
+        self.read_by(Rules::Plain)
+    }
+
+    pub(crate) fn read_by(self, rules: Rules) -> Form {
+        Form { rules, ..self }
+    }
+
+    pub(crate) fn rules(&self) -> Rules {
+        self.rules
     }
 
     /// A text fallback of a number has the bytes of the fallback 0, and the form check cannot tell them apart.
@@ -73,6 +107,10 @@ impl Form {
         let shorts =
             names.filter(|(ty, _)| *ty == SHORT).filter_map(|(_, bytes)| std::str::from_utf8(bytes).ok()?.chars().next());
         shorts.filter(|name| !Form::of([Node::switch(short(*name))]).is_ok_and(|form| form.is_portable())).collect()
+    }
+
+    pub(crate) fn idle(&self) -> u64 {
+        self.idle
     }
 
     pub(crate) fn kinds(&self) -> &[Kind] {

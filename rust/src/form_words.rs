@@ -13,7 +13,7 @@ const DEPTH: usize = 4;
 pub(crate) fn within_limits(all: &Node, fields: usize) -> Result<(), FormError> {
     let over = [
         (fields, 1, FIELDS, "fields"),
-        (all.nodes.len(), 1, NODES, "nodes (flags, arguments, positionals and what stands over them)"),
+        (all.nodes.len(), 1, NODES, "nodes (flags, arguments, positionals and what is over them)"),
         (all.names.len(), 0, NAMES, "names and fallback texts"),
         (area_length(&all.names), 0, AREA, "bytes of names and fallback texts"),
     ];
@@ -79,14 +79,8 @@ fn why_field(bytes: &[u8]) -> String {
 fn why_use(bytes: &[u8], node: usize) -> String {
     let layout = Layout::of(bytes);
     let fields = (0..layout.fields()).filter(|field| layout.field(*field) == node).count();
-    let children = (0..layout.nodes()).flat_map(|k| children(&layout.node(k))).filter(|child| *child == node).count();
+    let children = (0..layout.nodes()).flat_map(|k| layout.node(k).children()).filter(|child| *child == node).count();
     format!("it is used {} times, and must be used once", fields + children)
-}
-
-fn children(record: &Record) -> impl Iterator<Item = usize> {
-    let first = (kind::OPTIONAL..=kind::GUARD).contains(&record.kind).then_some(record.p);
-    let second = (record.kind == kind::CHOICE).then_some(record.q);
-    first.into_iter().chain(second)
 }
 
 fn node_words(bytes: &[u8], node: usize) -> String {
@@ -149,10 +143,10 @@ fn judge(layout: Layout, node: usize, known: &[Known]) -> Result<Known, String> 
     if record.r == MISPLACED {
         return Err("it cannot have the catch, adjacent, strict or non-strict that was put to it".to_string());
     }
-    if let Some(child) = children(&record).find(|child| *child >= node) {
+    if let Some(child) = record.children().find(|child| *child >= node) {
         return Err(format!("its child is node {child}, and children have lower numbers"));
     }
-    let below: Vec<Known> = children(&record).map(|child| known[child]).collect();
+    let below: Vec<Known> = record.children().map(|child| known[child]).collect();
     let repeats = below.iter().any(|child| child.repeats);
     match record.kind {
         kind::FLAG | kind::ARGUMENT => judge_named(layout, &record)?,

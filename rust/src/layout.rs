@@ -1,6 +1,6 @@
 //! A form's bytes: written from records, and read back as records.
 
-use crate::node::{NameRecord, Node, Record};
+use crate::node::{kind, NameRecord, Node, Record};
 
 /// The limits of a form: nodes, fields, name records, bytes of the area.
 pub(crate) const NODES: usize = 64;
@@ -90,6 +90,29 @@ impl<'a> Layout<'a> {
         Record { kind: number(0) as u16, p: number(1), q: number(2), r: number(3), lo, hi, fallback: None }
     }
 
+    /// A node of an accepted form and all that are beneath it, a choice's first side before its second.
+    pub fn tree(self, node: usize) -> Vec<usize> {
+        let beneath = self.node(node).children().flat_map(|child| self.tree(child));
+        std::iter::once(node).chain(beneath).collect()
+    }
+
+    /// The nodes of a field of an accepted form.
+    pub fn field_tree(self, field: usize) -> Vec<Record> {
+        self.tree(self.field(field)).into_iter().map(|node| self.node(node)).collect()
+    }
+
+    /// The bytes of the same form, where the guards of the fields from this one on let every number through.
+    pub fn without_guards(self, from: usize) -> Vec<u8> {
+        let mut bytes = self.bytes.to_vec();
+        let nodes = (from..self.fields()).flat_map(|field| self.tree(self.field(field)));
+        for node in nodes.filter(|node| self.node(*node).kind == kind::GUARD) {
+            let bounds = 8 + 2 * self.fields() + 16 * node + 8;
+            bytes[bounds..bounds + 4].fill(0);
+            bytes[bounds + 4..bounds + 8].fill(u8::MAX);
+        }
+        bytes
+    }
+
     /// A name record's type, offset and length.
     fn name_record(self, record: usize) -> (u16, usize, usize) {
         let at = 8 + 2 * self.fields() + 16 * self.nodes() + 6 * record;
@@ -107,5 +130,28 @@ impl<'a> Layout<'a> {
         let (ty, offset, length) = self.name_record(record);
         let area = &self.bytes[self.length() - self.area()..];
         (ty, area.get(offset..offset + length).unwrap_or_default())
+    }
+}
+
+#[cfg(test)]
+mod tests {
+    use super::*;
+    use crate::names::short;
+    use crate::node::Takes;
+
+    /// The nodes of a later field may have lower numbers.
+    #[test]
+    fn guards_of_later_fields() {
+        let guarded = |letter: char| Node::argument(short(letter), Takes::Number).guard(1..=9).guard(2..=8);
+        let mut all = guarded('a');
+        all.append(guarded('b'));
+        let bytes = write(&all, &[5, 2]);
+        let bounds = |bytes: &[u8]| [1, 2, 4, 5].map(|node| (Layout::of(bytes).node(node).lo, Layout::of(bytes).node(node).hi));
+        let layout = Layout::of(&bytes);
+        assert_eq!(bounds(&layout.without_guards(2)), bounds(&bytes));
+        let open = (0, u32::MAX);
+        assert_eq!(bounds(&layout.without_guards(1)), [open, open, (1, 9), (2, 8)]);
+        assert_eq!(bounds(&layout.without_guards(0)), [open; 4]);
+        assert_eq!((layout.without_guards(0).len(), layout.tree(5)), (bytes.len(), vec![5, 4, 3]));
     }
 }

@@ -1,6 +1,7 @@
 //! A line that was read.
 
 use crate::item::Item;
+use crate::note::{notes, Note};
 use crate::run::Run;
 
 /// A line that was accepted: its values, and what they were read from.
@@ -11,12 +12,14 @@ pub struct Line<'a, V> {
     tries: u32,
     command: Option<usize>,
     comparisons: u32,
+    notes: Vec<Note>,
 }
 
 impl<'a, V> Line<'a, V> {
     pub(crate) fn new(values: V, run: &Run<'_, 'a>) -> Line<'a, V> {
-        let (command, comparisons) = (run.command(), run.comparisons());
-        Line { values, items: run.items(), tries: run.answer.tries, command, comparisons }
+        let (items, command, comparisons) = (run.items(), run.command(), run.comparisons());
+        let notes = notes(run, &items);
+        Line { values, items, tries: run.answer.tries, command, comparisons, notes }
     }
 
     /// The values of the fields, in order.
@@ -32,6 +35,11 @@ impl<'a, V> Line<'a, V> {
     /// The items of the line, each with whether it was used, and by which field.
     pub fn items(&self) -> &[Item<'a>] {
         &self.items
+    }
+
+    /// What of the line is easily overlooked.
+    pub fn notes(&self) -> &[Note] {
+        &self.notes
     }
 
     /// How often a flag, an argument or a positional was evaluated.

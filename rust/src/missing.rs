@@ -4,8 +4,7 @@ use std::fmt;
 use std::ops::Range;
 
 use crate::layout::Layout;
-use crate::needs::leaf_words;
-use crate::node::{kind, Record, SHORT};
+use crate::needs::{given, leaf_words};
 
 /// A flag, an argument or a positional that looked for something and did not find it. Its `Display` says what that is, as in
 /// "`-l` or `--limit`" or "an operand".
@@ -35,18 +34,7 @@ pub(crate) fn read(layout: Layout, list: &[u32]) -> Vec<Missing> {
 
 fn of(layout: Layout, node: usize, scope: Range<usize>) -> Missing {
     let record = layout.node(node);
-    Missing { names: names(layout, &record), node, scope, words: leaf_words(layout, &record) }
-}
-
-fn names(layout: Layout, record: &Record) -> Vec<String> {
-    if !matches!(record.kind, kind::FLAG | kind::ARGUMENT) {
-        return Vec::new();
-    }
-    let given = |(ty, name): (u16, &[u8])| {
-        let dashes = if ty == SHORT { "-" } else { "--" };
-        format!("{dashes}{}", String::from_utf8_lossy(name))
-    };
-    (record.p..record.p + record.q).map(|k| given(layout.name(k))).collect()
+    Missing { names: given(layout, &record), node, scope, words: leaf_words(layout, &record) }
 }
 
 #[cfg(test)]

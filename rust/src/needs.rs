@@ -5,7 +5,7 @@ use crate::layout::Layout;
 use crate::node::{kind, Record, SHORT};
 
 /// What an unrestricted, a strict and a non-strict positional look for.
-const OPERANDS: [&str; 3] = ["an operand", "an operand behind `--`", "an operand before `--`"];
+const OPERANDS: [&str; 3] = ["an operand", "an operand after `--`", "an operand before `--`"];
 
 /// What the fields ask for that would be refused with 21 where it is not found: a some has no list of what is missing.
 pub(crate) fn some_required(layout: Layout) -> Vec<String> {
@@ -30,7 +30,7 @@ fn need(layout: Layout, node: usize) -> Option<u32> {
 }
 
 /// What a node looks for: one of these.
-fn parts(layout: Layout, node: usize) -> Vec<String> {
+pub(crate) fn parts(layout: Layout, node: usize) -> Vec<String> {
     let record = layout.node(node);
     match record.kind {
         kind::FLAG | kind::ARGUMENT | kind::POSITIONAL => vec![leaf_words(layout, &record)],
@@ -58,17 +58,33 @@ pub(crate) fn either(parts: &[String]) -> String {
 
 /// Whether a flag or an argument of the form has this short or long name.
 pub(crate) fn has_option(layout: Layout, ty: u16, name: &[u8]) -> bool {
-    [kind::FLAG, kind::ARGUMENT].iter().any(|kind| option_names(layout, *kind).any(|given| given == (ty, name)))
+    let of_either = [kind::FLAG, kind::ARGUMENT].into_iter().flat_map(|kind| of_kind(layout, kind));
+    of_either.flat_map(|leaf| leaf_names(layout, &leaf)).any(|given| given == (ty, name))
 }
 
 /// The short names of the flags of a form, or of its arguments.
 pub(crate) fn letters(layout: Layout, kind: u16) -> Vec<char> {
-    let shorts = option_names(layout, kind).filter(|(ty, _)| *ty == SHORT);
-    shorts.filter_map(|(_, name)| std::str::from_utf8(name).ok()?.chars().next()).collect()
+    of_kind(layout, kind).flat_map(|leaf| leaf_letters(layout, &leaf)).collect()
 }
 
-/// The types and bytes of the names of all flags, or of all arguments.
-fn option_names(layout: Layout<'_>, kind: u16) -> impl Iterator<Item = (u16, &[u8])> {
-    let nodes = (0..layout.nodes()).map(move |node| layout.node(node)).filter(move |record| record.kind == kind);
-    nodes.flat_map(|record| record.p..record.p + record.q).map(move |k| layout.name(k))
+/// The short names of a flag or an argument; any other node has none.
+pub(crate) fn leaf_letters<'a>(layout: Layout<'a>, leaf: &Record) -> impl Iterator<Item = char> + 'a {
+    let shorts = leaf_names(layout, leaf).filter(|(ty, _)| *ty == SHORT);
+    shorts.filter_map(|(_, name)| std::str::from_utf8(name).ok()?.chars().next())
+}
+
+/// The types and bytes of the names of a flag or an argument; any other node has none.
+pub(crate) fn leaf_names<'a>(layout: Layout<'a>, leaf: &Record) -> impl Iterator<Item = (u16, &'a [u8])> {
+    let records = if matches!(leaf.kind, kind::FLAG | kind::ARGUMENT) { leaf.p..leaf.p + leaf.q } else { 0..0 };
+    records.map(move |record| layout.name(record))
+}
+
+/// The names of a flag or an argument as they are given on a line.
+pub(crate) fn given(layout: Layout, leaf: &Record) -> Vec<String> {
+    let dashes = |ty: u16| if ty == SHORT { "-" } else { "--" };
+    leaf_names(layout, leaf).map(|(ty, name)| format!("{}{}", dashes(ty), String::from_utf8_lossy(name))).collect()
+}
+
+fn of_kind(layout: Layout<'_>, kind: u16) -> impl Iterator<Item = Record> + '_ {
+    (0..layout.nodes()).map(move |node| layout.node(node)).filter(move |record| record.kind == kind)
 }

@@ -26,6 +26,9 @@ pub(crate) const SHORT: u16 = 0;
 pub(crate) const LONG: u16 = 1;
 pub(crate) const TEXT: u16 = 2;
 
+/// In `p` of a positional: only words before `--`.
+pub(crate) const NON_STRICT: usize = 2;
+
 /// In `r`, a modifier that does not belong to its node. No kind of node accepts this number, so the form check refuses it.
 pub(crate) const MISPLACED: usize = 0xffff;
 
@@ -81,6 +84,13 @@ pub(crate) struct Record {
 }
 
 impl Record {
+    /// The nodes that it stands right over.
+    pub fn children(&self) -> impl Iterator<Item = usize> {
+        let first = (kind::OPTIONAL..=kind::GUARD).contains(&self.kind).then_some(self.p);
+        let second = (self.kind == kind::CHOICE).then_some(self.q);
+        first.into_iter().chain(second)
+    }
+
     /// The record behind `nodes` further nodes and `names` further names.
     fn moved(mut self, nodes: usize, names: usize) -> Record {
         match self.kind {
@@ -184,7 +194,7 @@ impl Node {
     /// Of a positional: only words before `--`.
     pub fn non_strict(self) -> Node {
         self.modified(|root| match root.kind {
-            kind::POSITIONAL => root.p = 2,
+            kind::POSITIONAL => root.p = NON_STRICT,
             _ => root.r = MISPLACED,
         })
     }

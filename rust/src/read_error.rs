@@ -8,6 +8,7 @@ use std::os::unix::ffi::OsStrExt;
 use crate::ffi;
 use crate::item::{starts, Area, Item};
 use crate::missing::Missing;
+use crate::note::{notes, Note};
 use crate::read_words::{said, Said};
 use crate::reason::Reason;
 use crate::run::Run;
@@ -30,6 +31,7 @@ struct Inner {
     comparisons: u32,
     missing: Vec<Missing>,
     reason: Option<Reason>,
+    notes: Vec<Note>,
     said: Vec<Said>,
     program: Option<OsString>,
     /// empty where the line was not split
@@ -52,6 +54,7 @@ impl ReadError {
             said: said(run, &items, place, &missing),
             missing,
             reason: run.reason,
+            notes: notes(run, &items),
             program: None,
             args: if split { run.args.iter().map(OsString::from).collect() } else { Vec::new() },
             records: run.records.to_vec(),
@@ -109,9 +112,12 @@ impl ReadError {
         &self.0.missing
     }
 
-    /// Why the item at [`place`](ReadError::place) was left over, where the refusal is 27 (docs/FORMAT.md, section 14). None for
-    /// every other refusal. None for a line of commands too: the proved call that tells it knows one form, and such a line is
-    /// split by the letters of all forms. What is said in words of such a line is read from its items.
+    /// Why the item at [`place`](ReadError::place) was left over, where the refusal is 27 (docs/FORMAT.md, section 14), and why it
+    /// is a word, where it is 50 (section 15): the letter that no option has, or a name that is not UTF-8. None for every other
+    /// refusal.
+    ///
+    /// None for a 27 of a line of commands too: the proved call that tells it knows one form, and such a line is split by the
+    /// letters of all forms. What is said in words of such a line is read from its items.
     ///
     /// ```
     /// use silverpoise::{short, Reason, TypedForm};
@@ -123,10 +129,23 @@ impl ReadError {
     /// `-v` is given twice: already at place 0
     ///   -v -v
     ///      ^^");
+    ///
+    /// let form = TypedForm::of((short('l').argument::<silverpoise::Text>(),))?;
+    /// let error = form.read(&["-l", "-17"]).unwrap_err();
+    /// assert_eq!((error.number(), error.place(), error.reason()), (50, Some(1), Some(Reason::UnknownLetter('1'))));
+    /// assert_eq!(error.to_string(), "\
+    /// `-17` looks like options and was read as a word: no option has the letter `1`; as a value write `-l=-17`
+    ///   -l -17
+    ///      ^^^");
     /// # Ok::<(), silverpoise::FormError>(())
     /// ```
     pub fn reason(&self) -> Option<Reason> {
         self.0.reason
+    }
+
+    /// What of the line is easily overlooked, and is not what the refusal says.
+    pub fn notes(&self) -> &[Note] {
+        &self.0.notes
     }
 
     /// The items of the line, each with whether it was used, and by which field, up to the refusal. None where the line could

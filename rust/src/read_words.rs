@@ -5,8 +5,8 @@ use std::os::unix::ffi::OsStrExt;
 
 use crate::item::{Item, ItemKind, Mark, UsedBy};
 use crate::missing::Missing;
-use crate::needs::{either, has_option, some_required};
-use crate::node::{kind, LONG, SHORT};
+use crate::needs::{either, has_option, letters, some_required};
+use crate::node::{kind, LONG, NON_STRICT, SHORT};
 use crate::reason::Reason;
 use crate::run::{Run, Tried};
 use crate::sheet::ARGUMENTS;
@@ -53,12 +53,13 @@ fn sentence(run: &Run, items: &[Item], place: Option<usize>, missing: &[Missing]
         (20, _) => not_found(&[either(&missing.iter().map(Missing::to_string).collect::<Vec<_>>())]),
         (21, _) => not_found(&run.form.map_or_else(Vec::new, |form| some_required(form.layout()))),
         (22, Some(key)) => no_value(key, place.and_then(|place| items.get(place + 1))),
-        (23, Some(item)) => format!("{} must stand behind `--`", name(item)),
-        (24, Some(item)) => format!("{} stands behind `--`, and must stand before it", name(item)),
+        (23, Some(item)) => format!("{} must come after `--`", name(item)),
+        (24, Some(item)) => format!("{} comes after `--`, and must come before it", name(item)),
         (25, Some(item)) => format!("{} is not a number from 0 to 4294967295", name(item)),
         (26, Some(_)) => "a number is out of its bounds; the word that was taken last is shown".to_string(),
         (26, None) => "a number is out of its bounds, and no word was taken".to_string(),
         (27, Some(item)) => left_over(items, item, run.reason.unwrap_or_else(|| reason_under(run, items, item))),
+        (50, Some(item)) => misread(run, items, item),
         (number, _) => format!("the line is refused with {number}"),
     }
 }
@@ -99,7 +100,7 @@ fn ambiguous(run: &Run, items: &[Item], word: &Item) -> String {
     let named = format!("the letter {} in {}", quoted(letter), quoted(word.text.as_bytes()));
     match (run.commands, std::str::from_utf8(letter).ok().and_then(|letter| letter.chars().next())) {
         (Some(tried), Some(letter)) => format!("{named} {}", ambiguous_in(tried.table, letter)),
-        _ => format!("{named} may be a flag and may take a value: it must be given apart"),
+        _ => format!("{named} may be a flag and may take a value: it must be given separately"),
     }
 }
 
@@ -107,7 +108,7 @@ fn ambiguous(run: &Run, items: &[Item], word: &Item) -> String {
 fn ambiguous_in(table: &CommandTable, letter: char) -> String {
     let names = |kind: u16| table.with_letter(kind, letter).iter().map(|name| shown_word(name.as_bytes())).collect::<Vec<_>>();
     let (flags, arguments) = (names(kind::FLAG).join(", "), names(kind::ARGUMENT).join(", "));
-    format!("is a flag of {flags} and takes a value in {arguments}: under every command it must be given apart")
+    format!("is a flag of {flags} and takes a value in {arguments}: under every command it must be given separately")
 }
 
 /// The first item that is not used: the only one that may be a command.
@@ -123,7 +124,7 @@ fn no_command(run: &Run, items: &[Item]) -> String {
     match first_present(items) {
         None => format!("a command is required: {all}"),
         Some(item) if item.kind == ItemKind::PosWord => {
-            format!("{} stands behind `--`, and a command must stand before it; {there_are}", name(item))
+            format!("{} comes after `--`, and a command must come before it; {there_are}", name(item))
         }
         Some(item) => format!("{} is not a command; {there_are}", name(item)),
     }
@@ -142,10 +143,10 @@ fn no_value(key: &Item, next: Option<&Item>) -> String {
     match next {
         Some(next) if matches!(next.kind, ItemKind::Short(_) | ItemKind::Long(_)) => {
             let hint = with_equals(key, next).map_or(String::new(), |hint| format!(" (as its value: {hint})"));
-            format!("{key_name} needs a value, and {} behind it is an option{hint}", quoted(next.text.as_bytes()))
+            format!("{key_name} needs a value, and {} after it is an option{hint}", quoted(next.text.as_bytes()))
         }
         Some(next) if matches!(next.kind, ItemKind::Word | ItemKind::ArgWord) => {
-            format!("{key_name} needs a value, and {} behind it is taken already", name(next))
+            format!("{key_name} needs a value, and {} after it is taken already", name(next))
         }
         _ => format!("{key_name} needs a value, and none follows it"),
     }
@@ -176,14 +177,47 @@ fn left_over(items: &[Item], item: &Item, reason: Reason) -> String {
         }
         Reason::Unnamed => not_known(item),
         Reason::NoPositional => format!("{shown} is read as an operand, and no operands are taken"),
-        Reason::UnknownLetter(letter) => {
-            format!("{shown} is read as a word: no option has the letter {}", quoted(letter.to_string().as_bytes()))
-        }
+        Reason::UnknownLetter(_) | Reason::NotUtf8 => format!("{shown} is read as a word: {}", reason.word_cause()),
         Reason::Other if item.kind == ItemKind::Word && item.text.len() > 1 && item.text.as_bytes()[0] == b'-' => {
             format!("{shown} is not expected here: it is read as a word, not as options")
         }
         Reason::Other => format!("{shown} is not expected here"),
     }
+}
+
+/// Why an argument that looks like options is a word, and what to write instead.
+fn misread(run: &Run, items: &[Item], word: &Item) -> String {
+    let cause = run.reason.map_or(String::new(), Reason::word_cause);
+    format!("{} looks like options and was read as a word: {cause}{}", name(word), instead(run, items, word))
+}
+
+/// How a word that looks like options can be given: to an option before it in one argument, or after `--`. There is no way where
+/// a letter is ambiguous and has no `=`, or the operand must come before `--`.
+fn instead(run: &Run, items: &[Item], word: &Item) -> String {
+    let before = items.iter().take_while(|item| item.argument < word.argument).last();
+    // an option and what the same field took right after it: no field has both flags and operands
+    let key = before.filter(|key| key.mark == word.mark && matches!(key.kind, ItemKind::Short(_) | ItemKind::Long(_)));
+    let hint = match key {
+        Some(key) => with_equals(key, word).or_else(|| joined(run, key, word)).map(|hint| format!("as a value write {hint}")),
+        None => takes_after_marker(run, word).then(|| "to be a word it must come after `--`".to_string()),
+    };
+    hint.map_or(String::new(), |hint| format!("; {hint}"))
+}
+
+/// A short name and its value as one argument, where the letter is not a flag's too.
+fn joined(run: &Run, key: &Item, value: &Item) -> Option<String> {
+    let ItemKind::Short(letter) = key.kind else { return None };
+    let ambiguous = match (run.commands, run.form) {
+        (Some(tried), _) => !tried.table.with_letter(kind::FLAG, letter).is_empty(),
+        (_, form) => form.is_some_and(|form| letters(form.layout(), kind::FLAG).contains(&letter)),
+    };
+    (!ambiguous).then(|| quoted(&[format!("-{letter}").as_bytes(), value.text.as_bytes()].concat()))
+}
+
+/// Whether the field that took a word takes operands after `--` too.
+fn takes_after_marker(run: &Run, word: &Item) -> bool {
+    let (Some(form), Some(field)) = (run.form, word.mark.field()) else { return false };
+    form.layout().field_tree(field).iter().any(|node| node.kind == kind::POSITIONAL && node.p != NON_STRICT)
 }
 
 /// Why an item was left over under a command. The proved call that tells it knows one form, and the letters of all forms split

@@ -5,10 +5,11 @@ use std::ffi::OsStr;
 use crate::batch::{self, Accepted, Batch};
 use crate::ffi;
 use crate::form::Form;
-use crate::item::{starts, Area};
+use crate::item::{starts, Area, Mark};
 use crate::line::Line;
 use crate::read_error::ReadError;
 use crate::reason::Reason;
+use crate::rules::{buffer, Rules, Slices};
 use crate::run::{Run, Tried};
 use crate::sheet;
 use crate::table::CommandTable;
@@ -29,8 +30,7 @@ pub struct Reader {
 impl Reader {
     /// A reader with buffers of its own, about 40 KB. Where many lines are read at once it has others, 1.3 MB for 32 lines.
     pub fn new() -> Reader {
-        let words = vec![0; ffi::ITEM_WORDS + ffi::ANSWER_WORDS + ffi::LIST_WORDS];
-        Reader { sheet: Vec::new(), starts: Vec::new(), words, batch: Batch::default() }
+        Reader { sheet: Vec::new(), starts: Vec::new(), words: buffer(), batch: Batch::default() }
     }
 
     /// Reads a line under an untyped form, as [`Form::read_values`] does.
@@ -93,17 +93,23 @@ impl Reader {
 
     fn run_line<'r, 'a>(&'r mut self, form: &'a Form, args: Vec<&'a OsStr>) -> Result<Run<'r, 'a>, ReadError> {
         self.write_sheet(&args);
-        let Slices { items, answers, list } = slices(&mut self.words);
-        let answer = ffi::run(form.bytes(), &self.sheet, items, answers, list);
-        // to ask why is to run the line once more, so only a line that needs it is asked
-        let left_over = ffi::place(answer.place).filter(|_| answer.number == 27);
-        let reason = left_over.and_then(|place| self.reason(form, place));
-        self.ran(args, Some(form), None, answer, reason)
+        let answer = form.rules().run(form.bytes(), &self.sheet, Slices::of(&mut self.words));
+        let reason = match answer.number {
+            // to ask why is to run the line once more, so only a line that needs it is asked
+            27 => ffi::place(answer.place).and_then(|place| self.reason(form, place)),
+            50 => Some(Reason::of_word(answer.letter)),
+            _ => None,
+        };
+        let kept = kept(&answer, |field| {
+            let open = form.layout().without_guards(field + 1);
+            Rules::Plain.run(&open, &self.sheet, Slices::of(&mut buffer())).number
+        });
+        self.ran(args, Some(form), None, answer, Told { reason, kept })
     }
 
     /// Why a place of the line in the sheet was left over. The slices then have what a run of the line leaves.
     fn reason(&mut self, form: &Form, place: usize) -> Option<Reason> {
-        let Slices { items, answers, list } = slices(&mut self.words);
+        let Slices { items, answers, list } = Slices::of(&mut self.words);
         Reason::of(ffi::why(form.bytes(), &self.sheet, place, items, answers, list))
     }
 
@@ -121,12 +127,19 @@ impl Reader {
     ) -> Result<Run<'r, 'a>, ReadError> {
         let args = references(args);
         self.write_sheet(&args);
-        let Slices { items, answers, list } = slices(&mut self.words);
-        let answer = ffi::run_commands(table.bytes(), &self.sheet, items, answers, list);
-        let ffi::CommandAnswer { number, place, tries, words, comparisons, entry, state } = answer;
+        let answer = table.rules().run_commands(table.bytes(), &self.sheet, Slices::of(&mut self.words));
+        let ffi::CarefulCommandAnswer { number, place, tries, words, comparisons, entry, letter, state } = answer;
         let tried = Tried { table, command: ffi::place(entry), comparisons };
         let form = tried.command.and_then(|command| table.forms().get(command));
-        self.ran(args, form, Some(tried), ffi::RunAnswer { number, place, tries, words, state }, None)
+        let answer = ffi::CarefulAnswer { number, place, tries, words, letter, state };
+        let reason = (number == 50).then(|| Reason::of_word(letter));
+        let kept = form.zip(tried.command).and_then(|(form, command)| {
+            kept(&answer, |field| {
+                let open = table.with_form(command, &form.layout().without_guards(field + 1));
+                Rules::Plain.run_commands(&open, &self.sheet, Slices::of(&mut buffer())).number
+            })
+        });
+        self.ran(args, form, Some(tried), answer, Told { reason, kept })
     }
 
     /// What a run left in the buffers, as a run or as its refusal.
@@ -135,13 +148,13 @@ impl Reader {
         args: Vec<&'a OsStr>,
         form: Option<&'a Form>,
         commands: Option<Tried<'a>>,
-        answer: ffi::RunAnswer,
-        reason: Option<Reason>,
+        answer: ffi::CarefulAnswer,
+        Told { reason, kept }: Told,
     ) -> Result<Run<'r, 'a>, ReadError> {
         let (records, rest) = self.words.split_at(ffi::ITEM_WORDS);
         let (words, list) = rest.split_at(ffi::ANSWER_WORDS);
         let (records, words) = (&records[..7 * answer.state.count as usize], &words[..answer.words as usize]);
-        let run = Run { form, commands, args, answer, reason, starts: &self.starts, records, words, list };
+        let run = Run { form, commands, args, answer, reason, kept, starts: &self.starts, records, words, list };
         match answer.number {
             0 => Ok(run),
             _ => Err(ReadError::new(&run)),
@@ -168,17 +181,22 @@ fn references<A: AsRef<OsStr>>(args: &[A]) -> Vec<&OsStr> {
     args.iter().map(AsRef::as_ref).collect()
 }
 
-/// The slices that a run writes.
-struct Slices<'r> {
-    items: &'r mut [u32],
-    answers: &'r mut [u32],
-    list: &'r mut [u32],
+/// What further runs of a refused line told of it.
+struct Told {
+    reason: Option<Reason>,
+    kept: Option<usize>,
 }
 
-fn slices(words: &mut [u32]) -> Slices<'_> {
-    let (items, rest) = words.split_at_mut(ffi::ITEM_WORDS);
-    let (answers, list) = rest.split_at_mut(ffi::ANSWER_WORDS);
-    Slices { items, answers, list }
+/// The place of a word that was refused and stays used. With 26 the place is that of the word that was taken last, perhaps by an
+/// earlier field, which was not refused: so the line is run once more, where only the guards up to that field refuse.
+fn kept(answer: &ffi::CarefulAnswer, number_up_to: impl FnOnce(usize) -> u32) -> Option<usize> {
+    let place = ffi::place(answer.place)?;
+    let field = Mark::of(*answer.state.marks.get(place)?).field()?;
+    match answer.number {
+        23..=25 => Some(place),
+        26 => (number_up_to(field) == 26).then_some(place),
+        _ => None,
+    }
 }
 
 /// A line that was accepted, with a value for each field of its form.
@@ -256,10 +274,12 @@ mod tests {
         reader.words.pop();
         refused(reader.read_values(&form, &["-v"]).unwrap_err(), 14);
         let (items, rest) = reader.words.split_at_mut(ffi::ITEM_WORDS - 1);
-        let answer = ffi::run(form.bytes(), &reader.sheet, items, rest, &mut []);
+        let slices = Slices { items, answers: rest, list: &mut [] };
+        let answer = form.rules().run(form.bytes(), &reader.sheet, slices);
         let args = vec![OsStr::new("-v")];
         let (form, commands) = (Some(&form), None);
-        let run = Run { form, commands, args, answer, reason: None, starts: &[0], records: &[], words: &[], list: &[] };
+        let (starts, records, words, list) = (&[0], &[], &[], &[]);
+        let run = Run { form, commands, args, answer, reason: None, kept: None, starts, records, words, list };
         refused(ReadError::new(&run), 7);
     }
 

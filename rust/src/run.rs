@@ -2,7 +2,7 @@
 
 use std::ffi::OsStr;
 
-use crate::ffi::RunAnswer;
+use crate::ffi::CarefulAnswer;
 use crate::form::Form;
 use crate::item::{Area, Item};
 use crate::missing::{self, Missing};
@@ -16,9 +16,11 @@ pub struct Run<'r, 'a> {
     /// of a line of commands
     pub(crate) commands: Option<Tried<'a>>,
     pub(crate) args: Vec<&'a OsStr>,
-    pub(crate) answer: RunAnswer,
-    /// why the place of a 27 was left over; none for a line of commands
+    pub(crate) answer: CarefulAnswer,
+    /// why the place of a 27 was left over, none for a line of commands; why that of a 50 is a word
     pub(crate) reason: Option<Reason>,
+    /// the place of a word that was refused and stays used
+    pub(crate) kept: Option<usize>,
     /// where each argument begins in the sheet's area
     pub(crate) starts: &'r [usize],
     /// the records of the items

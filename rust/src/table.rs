@@ -7,6 +7,7 @@ use crate::form_words;
 use crate::names::Names;
 use crate::needs::letters;
 use crate::node::{kind, name_records, NameRecord};
+use crate::rules::Rules;
 use crate::shown::shown_word;
 use crate::table_layout::{self, TableLayout};
 use crate::table_words;
@@ -37,17 +38,19 @@ pub struct CommandTable {
     bytes: Vec<u8>,
     names: Vec<String>,
     forms: Vec<Form>,
+    rules: Rules,
 }
 
 impl CommandTable {
     /// The table of these commands, 1 to 32. A name is what is given on the line, without dashes; a short one is a single
     /// character, and one at least is long. The commands are tried in order, of each the long names before the short ones.
+    /// All lines are read by the same rules, whatever those of the forms are: [`as_bpaf`](CommandTable::as_bpaf) is the table's.
     pub fn of(commands: impl IntoIterator<Item = (Names, Form)>) -> Result<CommandTable, FormError> {
         let (names, forms): (Vec<Vec<NameRecord>>, Vec<Form>) =
             commands.into_iter().map(|(names, form)| (name_records(names), form)).unzip();
         table_words::within_limits(&names)?;
         let entries = names.iter().zip(&forms).map(|(names, form)| (&names[..], form.bytes()));
-        CommandTable::checked(table_layout::write(entries), |number| Ok(forms[number].clone()))
+        CommandTable::checked(table_layout::write(entries), |number| Ok(forms[number].clone().read_by(Rules::default())))
     }
 
     /// The table of these bytes, as docs/FORMAT.md lays them out.
@@ -73,7 +76,17 @@ impl CommandTable {
         }
         let commands = 0..table.commands().unwrap_or_default();
         let (names, forms) = (commands.clone().map(called).collect(), commands.map(form).collect::<Result<_, _>>()?);
-        Ok(CommandTable { bytes, names, forms })
+        Ok(CommandTable { bytes, names, forms, rules: Rules::default() })
+    }
+
+    /// The same table, whose lines are read by bpaf's rules alone, as [`Form::as_bpaf`] has it.
+    pub fn as_bpaf(self) -> CommandTable {
+        let forms = self.forms.into_iter().map(Form::as_bpaf).collect();
+        CommandTable { forms, rules: Rules::Plain, ..self }
+    }
+
+    pub(crate) fn rules(&self) -> Rules {
+        self.rules
     }
 
     /// The table as bytes, which [`from_bytes`](CommandTable::from_bytes) and every other caller of the proved code reads.
@@ -112,6 +125,12 @@ impl CommandTable {
         both.sort_unstable();
         both.dedup();
         both
+    }
+
+    /// The table's bytes with another form of the same length.
+    pub(crate) fn with_form(&self, entry: usize, form: &[u8]) -> Vec<u8> {
+        let part = ffi::command_form(&self.bytes, entry);
+        [&self.bytes[..part.offset], form, &self.bytes[part.offset + part.length..]].concat()
     }
 
     /// The names of the commands whose form has the letter on a node of this kind.

@@ -13,6 +13,7 @@ use crate::read_error::ReadError;
 use crate::reader::Reader;
 use crate::shape::Shape;
 use crate::value::Words;
+use crate::warning::Warning;
 
 mod sealed {
     pub trait Kinds {}
@@ -105,8 +106,13 @@ impl<K: Kinds> TypedForm<K> {
         Ok(TypedForm { form, fields, kinds: PhantomData })
     }
 
+    /// The same form, whose lines are read by bpaf's rules alone, as [`Form::as_bpaf`] has it.
+    pub fn as_bpaf(self) -> TypedForm<K> {
+        TypedForm { form: self.form.as_bpaf(), ..self }
+    }
+
     /// Reads a line. The arguments are those behind the program's name ([`args`](crate::args) gives them); texts are parts of
-    /// them, not copies.
+    /// them, not copies. An argument that looks like options is not taken for a word ([`Form::as_bpaf`] shows the difference).
     pub fn read<'a, A: AsRef<OsStr>>(&'a self, args: &'a [A]) -> Result<K::Values<'a>, ReadError> {
         Reader::new().read(self, args)
     }
@@ -125,6 +131,11 @@ impl<K: Kinds> TypedForm<K> {
         let mut reader = Reader::new();
         let run = reader.run(&self.form, args)?;
         Ok(Line::new(K::read(&mut Words::new(&run)), &run))
+    }
+
+    /// What of the form is easily overlooked, as [`Form::warnings`] has it.
+    pub fn warnings(&self) -> Vec<Warning> {
+        self.form.warnings()
     }
 
     /// The same form without types.

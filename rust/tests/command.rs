@@ -28,8 +28,13 @@ fn form_file(name: &str) -> PathBuf {
 
 /// Reads a line by a form of rust/forms, and compares the exit status and all that is printed.
 fn shows(form: &str, line: &[&str], status: i32, expected: &str) {
-    let words = line.iter().map(OsString::from);
-    let args: Vec<OsString> = std::iter::once(form_file(form).into_os_string()).chain(words).collect();
+    shows_with(&[], form, line, status, expected);
+}
+
+/// The same with options of the command.
+fn shows_with(options: &[&str], form: &str, line: &[&str], status: i32, expected: &str) {
+    let (options, words) = (options.iter().map(OsString::from), line.iter().map(OsString::from));
+    let args: Vec<OsString> = options.chain([form_file(form).into_os_string()]).chain(words).collect();
     let Output { status: ended, stdout, stderr } = command(&args, b"");
     assert_eq!(String::from_utf8_lossy(&stdout), expected.trim_start_matches('\n'), "{form} {line:?}");
     assert_eq!((ended.code(), stderr), (Some(status), Vec::new()), "{form} {line:?}");
@@ -68,6 +73,17 @@ line  -vx lock
    0  ^^^       Word  used by parts
    1      ^^^^  Word  used by parts
 
+refused with 50 at place 0 in 6 tries
+  `-vx` looks like options and was read as a word: no option has the letter `x`; to be a word it must come after `--`
+    -vx lock
+    ^^^
+"#;
+    shows("bench.form", &["-vx", "lock"], 1, expected);
+    let expected = r#"
+line  -vx lock
+   0  ^^^       Word  used by parts
+   1      ^^^^  Word  used by parts
+
 values in 6 tries
   verbose  no
   quiet    no
@@ -75,7 +91,79 @@ values in 6 tries
   parts    ["-vx", "lock"]
 note: `-vx` is one word, not options: no option has the letter `x`
 "#;
-    shows("bench.form", &["-vx", "lock"], 0, expected);
+    shows_with(&["--as-bpaf"], "bench.form", &["-vx", "lock"], 0, expected);
+}
+
+/// The wear order with a cradle too many: no label.
+#[test]
+fn a_cradle_that_there_is_not() {
+    let expected = r#"
+line  -17 lock
+   0  ^^^       Word  used by label
+   1      ^^^^  Word  used by parts
+
+refused with 50 at place 0 in 10 tries
+  `-17` looks like options and was read as a word: no option has the letter `7`; to be a word it must come after `--`
+    -17 lock
+    ^^^
+"#;
+    shows("wear.form", &["-17", "lock"], 1, expected);
+}
+
+/// What to write instead is shown where an option took the word.
+#[test]
+fn a_value_that_looks_like_options() {
+    let printed = command(&["-", "--label", "-17", "-é=7"], b"label: text -l --label\nparts: text, many\n");
+    let expected = "line  --label -17 -é=7
+   0  ^^^^^^^           Long  used by label
+   1          ^^^       Word  used by label
+   2              ^^^^  Word  used by parts
+
+refused with 50 at place 1 in 3 tries
+  `-17` looks like options and was read as a word: no option has the letter `1`; as a value write `--label=-17`
+    --label -17 -é=7
+            ^^^
+note: `-é=7` is one word, not options: its name is not UTF-8
+";
+    assert_eq!((printed.status.code(), String::from_utf8_lossy(&printed.stdout).as_ref()), (Some(1), expected));
+}
+
+/// Each warning has its field, and its command if there are commands.
+#[test]
+fn warnings_of_a_form() {
+    let said = |text: &[u8]| {
+        let Output { status, stdout, stderr } = command(&["--check", "-"], text);
+        assert_eq!(stderr, []);
+        (status.code(), String::from_utf8(stdout).expect("UTF-8"))
+    };
+    assert_eq!(said(b"verbose: switch -v\nparts: text, many\n"), (Some(0), "no warnings\n".to_string()));
+    let all = "verbose: switch -v, count
+label:   text
+weight:  number -w, else 0, 1..9
+rest:    text, many
+more:    switch -v ---x
+last:    text, optional
+";
+    let expected =
+        "warning: verbose: the count of `-v` is 1 where nothing is given: a switch always has a value, a flag only if it is given
+warning: weight: an operand comes before `-w` and may take its value: put operands last
+warning: weight: the fallback 0 is not in the bounds 1..9: where nothing is given, it is refused
+warning: more: `-v` is an option of an earlier field too, which takes it first
+warning: more: the long name `-x` begins with a dash: it is given as `---x`
+warning: last: no operand is left: an earlier field takes all
+";
+    assert_eq!(said(all.as_bytes()), (Some(1), expected.to_string()));
+    let commands = b"[wear]\na: switch -a\n[log]\nb: text, many\n\x1bc: text\n";
+    let expected = "warning: log: \\u{1b}c: no operand is left: an earlier field takes all\n";
+    assert_eq!(said(commands), (Some(1), expected.to_string()));
+}
+
+/// The forms of rust/forms that show what is easily overlooked are those that have a warning.
+#[test]
+fn warnings_of_the_folder() {
+    let warned = |name: &str| command(&[OsStr::new("--check"), form_file(name).as_os_str()], b"").status.code() == Some(1);
+    let forms = ["bench.form", "count.form", "label-first.form", "strict.form", "wear.form", "workshop.form"];
+    assert_eq!(forms.map(warned), [false, true, true, false, false, false]);
 }
 
 #[test]
@@ -85,7 +173,7 @@ line  (no arguments)
 
 values in 1 try
   verbose  1
-note: `verbose` is 1 although `-v` is not given: a switch always has a value; `flag -v, count` gives 0
+note: the count of `-v` is 1 although it took nothing: a switch always has a value, a flag only if it is given
 ";
     shows("count.form", &[], 0, expected);
     let given = "
@@ -106,7 +194,7 @@ line  -v lock
    1     ^^^^  Word   used by part
 
 refused with 23 at place 1 in 2 tries
-  `lock` must stand behind `--`
+  `lock` must come after `--`
     -v lock
        ^^^^
 note: place 1 stays used: a word is not given back when it is refused
@@ -123,7 +211,7 @@ line  -vw7
    2     ^  Word             used by label
 
 refused with 22 at place 1 in 3 tries
-  `-w` needs a value, and `7` behind it is taken already
+  `-w` needs a value, and `7` after it is taken already
     -vw7
       ^
 note: a positional took `7`, the rest of `-vw7`, before `-w` looked for its value
@@ -244,7 +332,7 @@ fn letters_of_another_command() {
    1       ^^^  Word  not used
 
 refused with 9 at place 1 in 0 tries, 0 comparisons
-  the letter `l` in `-l7` is a flag of log and takes a value in wear: under every command it must be given apart
+  the letter `l` in `-l7` is a flag of log and takes a value in wear: under every command it must be given separately
     wear -l7
           ^
 ";
@@ -254,7 +342,21 @@ refused with 9 at place 1 in 0 tries, 0 comparisons
         String::from_utf8(command(&["-", "a", word], b"[a1]\na: switch -a\nr: text, many\n[b1 a]\nb: switch -b\n").stdout)
     };
     assert!(printed("-bb").expect("UTF-8").contains("b1: `-b` is not expected here"));
-    assert!(printed("-bx").expect("UTF-8").contains("note: `-bx` is one word, not options: no option has the letter `x`"));
+    let note = "note: `-bx` is one word, not options: no option has the letter `x`\n";
+    assert!(printed("-bx").expect("UTF-8").ends_with(note));
+    let misread = "a1: `-bx` looks like options and was read as a word: no option has the letter `x`";
+    let form = b"[a1]\na: switch -a\nr: text, many\n[b1 a]\nb: switch -b\n";
+    let read = |args: &[&str]| String::from_utf8(command(args, form).stdout).expect("UTF-8");
+    assert!(read(&["-", "a1", "-bx"]).contains(misread));
+    assert!(read(&["--as-bpaf", "-", "a1", "-bx"]).ends_with(note));
+}
+
+/// The word that was taken last is shown, and was not refused.
+#[test]
+fn a_number_of_another_field() {
+    let form = b"a: number -a, optional\nn: number -n, else 0, 1..9\n";
+    let printed = String::from_utf8(command(&["-", "-a", "5"], form).stdout).expect("UTF-8");
+    assert!(printed.contains("refused with 26 at place 1 in 2 tries\n") && !printed.contains("note:"), "{printed}");
 }
 
 /// Where no word was taken, the place of 26 is that of the command, which is not refused.
@@ -407,8 +509,12 @@ values in 6 tries
   quiet    no
   weight   absent
   parts    ["\xff7", "-v\xff"]
+note: `-v\xff` is one word, not options: its name is not UTF-8
 "#;
-    assert_eq!(String::from_utf8_lossy(&command(&line, b"").stdout), expected);
+    let plain = [&[OsStr::new("--as-bpaf")][..], &line].concat();
+    assert_eq!(String::from_utf8_lossy(&command(&plain, b"").stdout), expected);
+    let refused = String::from_utf8(command(&line, b"").stdout).expect("UTF-8");
+    assert!(refused.contains("`-v\\xff` looks like options and was read as a word: its name is not UTF-8; "), "{refused}");
 }
 
 /// A long line goes to several rows, a long argument is cut off, and a long list is wrapped.
@@ -483,12 +589,15 @@ refused with 9 at place 1 in 0 tries
 /// Lines that come near to a note, and of which it would not be true.
 #[test]
 fn no_note_where_its_fact_does_not_hold() {
-    let noted = |form: &[u8], word: &str| String::from_utf8_lossy(&command(&["-", word], form).stdout).contains("note:");
+    let noted = |form: &[u8], word: &str| {
+        let printed = command(&["--as-bpaf", "-", word], form).stdout;
+        String::from_utf8_lossy(&printed).contains("note:")
+    };
     // the letter b is at fault, not x behind it
     let both = b"b: switch -b\nc: text -b, optional\nrest: text, many\n";
     assert!(noted(both, "-xb") && !noted(both, "-bx"));
-    // a word for its first byte's sake
-    assert!(noted(both, "-\u{e9}7") && !noted(both, "-\u{e9}=7"));
+    // what was taken from an argument, or comes after `--`
+    assert!(noted(both, "-\u{e9}7") && noted(both, "-\u{e9}=7") && !noted(both, "-b=-x7") && !noted(both, "-"));
     // an `else` gives the word back
     assert!(noted(b"n: number\n", "a") && !noted(b"n: number, else 9\n", "a"));
 }
@@ -528,6 +637,7 @@ refused with 27 at place 1 in 13 tries
   last    absent
   text    "a \"quoted\" \xff"
   no      no
+note: the list of `-f` has one value although it took nothing: an optional always has a value
 "#;
     let stdout = String::from_utf8_lossy(&printed.stdout).into_owned();
     assert!(stdout.ends_with(values), "{stdout}");
@@ -535,7 +645,7 @@ refused with 27 at place 1 in 13 tries
 
 #[test]
 fn wrong_use_and_help() {
-    let usage = "usage: silverpoise [--emit | --portable] [--] FORM WORD...\n";
+    let usage = "usage: silverpoise [--as-bpaf | --check | --emit | --portable] [--] FORM WORD...\n";
     let wrong = |args: &[&str], words: &str| {
         let Output { status, stdout, stderr } = command(args, b"");
         assert_eq!((status.code(), stdout), (Some(2), Vec::new()), "{args:?}");
@@ -544,8 +654,10 @@ fn wrong_use_and_help() {
     wrong(&[], &format!("silverpoise: a form is needed\n{usage}"));
     wrong(&["--emit", "--"], &format!("silverpoise: a form is needed\n{usage}"));
     wrong(&["--emti", "x"], &format!("silverpoise: there is no option `--emti`\n{usage}"));
-    wrong(&["--emit", "x", "-v"], &format!("silverpoise: `--emit` takes no words behind the form\n{usage}"));
-    wrong(&["--portable", "x", "-v"], &format!("silverpoise: `--portable` takes no words behind the form\n{usage}"));
+    for option in ["--emit", "--portable", "--check"] {
+        wrong(&[option, "x", "-v"], &format!("silverpoise: `{option}` takes no words after the form\n{usage}"));
+        wrong(&["--as-bpaf", option, "x"], &format!("silverpoise: `--as-bpaf` and `{option}` do not go together\n{usage}"));
+    }
     wrong(&["--emit", "--portable", "x"], &format!("silverpoise: `--emit` and `--portable` do not go together\n{usage}"));
     wrong(&["no/such.form"], "silverpoise: no/such.form: No such file or directory (os error 2)\n");
     wrong(&["--", "--help"], "silverpoise: --help: No such file or directory (os error 2)\n");
@@ -608,7 +720,7 @@ fn every_error_of_the_notation() {
     let expected: &[(&str, &str)] = &[
         ("# nothing\n", "1:1: the form has no field"),
         (": switch -v", "1:1: a field begins with its name, as in `limit: number -l`"),
-        ("\n\n\tv switch -v", "3:4: a `:` stands behind the field's name, as in `limit: number -l`"),
+        ("\n\n\tv switch -v", "3:4: a `:` comes after the field's name, as in `limit: number -l`"),
         ("v: switch -v\nv: text", "2:1: a field before this one is called `v` too"),
         ("v: # nothing", &format!("1:4: {base}")),
         ("v: swich -v", &format!("1:4: {base}")),
@@ -616,8 +728,8 @@ fn every_error_of_the_notation() {
         ("v: switch # -v", "1:11: a name must be here, as in `-v` or `--verbose`"),
         ("v: switch -v,", &format!("1:14: {modifier}")),
         ("v: switch -v, lots", &format!("1:15: {modifier}")),
-        ("v: switch -vq", "1:11: a name behind one dash is one character; a longer one has two dashes"),
-        ("v: switch -", "1:11: a name behind one dash is one character; a longer one has two dashes"),
+        ("v: switch -vq", "1:11: a name after one dash is one character; a longer one has two dashes"),
+        ("v: switch -", "1:11: a name after one dash is one character; a longer one has two dashes"),
         ("é: text --a=b", "1:9: a long name with a `=` could never be given"),
         ("w: text \"-\\xff\"", "1:9: a name must be UTF-8"),
         ("w: text -w optional", "1:12: a comma, `or` or the end of the line must be here"),
@@ -626,14 +738,14 @@ fn every_error_of_the_notation() {
         ("w: text, else \"abc", "1:15: the quotes are not closed on this line"),
         ("w: text, else \"a\\q\"", "1:17: there is no such escape: there are `\\\\`, `\\\"`, `\\n`, `\\r`, `\\t` and `\\xff`"),
         ("w: text, else \"\\xfg\"", "1:16: `\\x` needs two hexadecimal digits, as in `\\xff`"),
-        ("w: text -\\x", "1:10: an escape stands in quotes, as in `\"\\xff\"`"),
+        ("w: text -\\x", "1:10: an escape must be in quotes, as in `\"\\xff\"`"),
         ("w: text, else maybe", "1:15: `yes`, `no`, a number or a text in quotes must be here"),
         ("w: number, else 4294967296", "1:17: `4294967296` is no number from 0 to 4294967295"),
         ("w: number, 1..+9", "1:12: `+9` is no number from 0 to 4294967295"),
-        ("w: text -w, strict", "1:13: `strict` stands right behind a text or number without a name"),
-        ("w: flag -w, non-strict", "1:13: `non-strict` stands right behind a text or number without a name"),
-        ("w: text, adjacent", "1:10: `adjacent` stands right behind a text or number with a name"),
-        ("w: text, last, catch", "1:16: `catch` stands right behind `optional`, `many` or `some`"),
+        ("w: text -w, strict", "1:13: `strict` comes right after a text or number without a name"),
+        ("w: flag -w, non-strict", "1:13: `non-strict` comes right after a text or number without a name"),
+        ("w: text, adjacent", "1:10: `adjacent` comes right after a text or number with a name"),
+        ("w: text, last, catch", "1:16: `catch` comes right after `optional`, `many` or `some`"),
     ];
     for (text, words) in expected {
         assert_eq!(fault(text.as_bytes()), *words, "{text}");
@@ -657,7 +769,7 @@ fn every_error_of_a_heading() {
         ("[wear \"\\xff\"]", "1:7: a name must be UTF-8"),
         ("[wear wear]", "1:7: this name is a command's already"),
         ("[wear w]\na: text\n[w log]", "3:2: this name is a command's already"),
-        ("a: text\n[wear]\nb: text", "2:1: fields stand above the first command: they belong to none"),
+        ("a: text\n[wear]\nb: text", "2:1: fields come before the first command: they belong to none"),
         ("[wear]\n# nothing\n[log]\na: text", "1:1: the command has no field"),
         ("[wear]\na: text\n  [log]", "3:3: the command has no field"),
         // each form has its own fields, and its faults their own lines
@@ -708,12 +820,12 @@ fn limits_have_their_place() {
     let or = format!("v: switch -v{}", " or switch -v".repeat(32));
     assert!(fault(or.as_bytes()).starts_with(&format!("1:{}: a form has at most 64 nodes: ", 14 + 13 * 31)));
     let names = format!("v: switch{}", " -v".repeat(129));
-    assert_eq!(fault(names.as_bytes()), format!("1:{}: a form has at most 128 names and texts behind `else`", 11 + 3 * 128));
+    assert_eq!(fault(names.as_bytes()), format!("1:{}: a form has at most 128 names and texts after `else`", 11 + 3 * 128));
     let area = format!("v: text --{}, else \"x\"", "v".repeat(4096));
-    let words = "the names and the texts behind `else` have at most 4096 bytes together";
+    let words = "the names and the texts after `else` have at most 4096 bytes together";
     assert_eq!(fault(area.as_bytes()), format!("1:{}: {words}", 3 + 7 + 4096 + 8));
     let brackets = format!("v: {}switch -v{}", "(".repeat(65), ")".repeat(65));
-    assert_eq!(fault(brackets.as_bytes()), "1:68: brackets stand in each other at most 64 deep");
+    assert_eq!(fault(brackets.as_bytes()), "1:68: brackets are at most 64 deep");
 }
 
 /// At the limits a form is still accepted.

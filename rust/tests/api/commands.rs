@@ -91,7 +91,7 @@ fn no_command() {
     // only the first item is looked at, and an option is none
     assert_eq!(refused(&["-1", "wear"]), shown("`-1` is not a command", "-1 wear", "^^"));
     assert_eq!(refused(&["--wear=7"]), shown("`--wear` is not a command", "--wear=7", "^^^^^^"));
-    let behind = "`wear` stands behind `--`, and a command must stand before it";
+    let behind = "`wear` comes after `--`, and a command must come before it";
     assert_eq!(refused(&["--", "wear"]), shown(behind, "-- wear", "   ^^^^"));
     assert_eq!(refused(&[]), (31, None, 5, "a command is required: wear, pair, log".to_string()));
     assert_eq!(refused(&["--"]), (31, None, 5, "a command is required: wear, pair, log".to_string()));
@@ -116,7 +116,7 @@ fn refused_under_a_command() {
 #[test]
 fn refused_before_a_command() {
     let ambiguous =
-        "the letter `l` in `-1l` is a flag of log and takes a value in wear: under every command it must be given apart";
+        "the letter `l` in `-1l` is a flag of log and takes a value in wear: under every command it must be given separately";
     let wear = TypedForm::of((short('1').switch(), short('l').argument::<Text>().optional())).unwrap();
     let log = TypedForm::of((short('l').switch(),)).unwrap();
     let commands = Commands::<Number>::of([

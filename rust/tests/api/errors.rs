@@ -53,14 +53,14 @@ fn an_ambiguous_letter() {
         both(),
         &["a", "-véb7"],
         9,
-        "the letter `b` in `-véb7` may be a flag and may take a value: it must be given apart\n  \
+        "the letter `b` in `-véb7` may be a flag and may take a value: it must be given separately\n  \
          wear a -véb7\n            ^",
     );
     is(
         both(),
         &["-bv"],
         9,
-        "the letter `b` in `-bv` may be a flag and may take a value: it must be given apart\n  wear -bv\n        ^",
+        "the letter `b` in `-bv` may be a flag and may take a value: it must be given separately\n  wear -bv\n        ^",
     );
 }
 
@@ -70,7 +70,7 @@ fn something_missing() {
     is([weight()], &[], 20, "`-w` or `--weight` is required, and was not found");
     let adjacent = "`-w` or `--weight` with its value in the same argument is required, and was not found";
     is([weight().adjacent()], &["-w", "7"], 20, adjacent);
-    is([text().strict()], &[], 20, "an operand behind `--` is required, and was not found");
+    is([text().strict()], &[], 20, "an operand after `--` is required, and was not found");
     is([weight().guard(1..=5).last(), switch('v')], &["-v"], 20, "`-w` or `--weight` is required, and was not found");
     // the first field that looks in vain ends the run, and the others are not asked
     let fields = |first: Node| [first, weight().optional(), text().non_strict(), text().many()];
@@ -86,7 +86,7 @@ fn either_of_several_missing() {
     is([Node::flag(short('v')).or(Node::flag(short('q')))], &[], 20, "`-v` or `-q` is required, and was not found");
     let flag = |name: char| Node::flag(short(name));
     is([flag('a').or(flag('b').or(flag('c')))], &[], 20, "`-a` or `-b` or `-c` is required, and was not found");
-    let words = "an operand behind `--`, or `-w` is required, and was not found";
+    let words = "an operand after `--`, or `-w` is required, and was not found";
     is([text().strict().or(Node::argument(short('w'), Takes::Text))], &[], 20, words);
     // an optional, a fallback and a repeat do without, and name nothing
     let fields = [weight().optional(), weight().fallback(9), text().many(), limit().last()];
@@ -111,7 +111,7 @@ fn what_is_missing() {
         error.missing().iter().map(|one| format!("{one}: {:?} {} {:?}", one.names, one.node, one.scope)).collect()
     };
     let first = "`-l` or `--limit`: [\"-l\", \"--limit\"] 1 0..2";
-    assert_eq!(seen(&error), [first, "an operand behind `--`: [] 2 0..2"]);
+    assert_eq!(seen(&error), [first, "an operand after `--`: [] 2 0..2"]);
     let error = form.read_values(&["-v", "-lx", "a"]).unwrap_err();
     assert_eq!(seen(&error), ["`--yes`: [\"--yes\"] 4 0..4"]);
     // every other refusal misses nothing
@@ -159,13 +159,13 @@ fn a_value_missing() {
         [weight()],
         &["-w", "-7"],
         22,
-        "`-w` needs a value, and `-7` behind it is an option (as its value: `-w=-7`)\n  wear -w -7\n       ^^",
+        "`-w` needs a value, and `-7` after it is an option (as its value: `-w=-7`)\n  wear -w -7\n       ^^",
     );
     is(
         [weight()],
         &["--weight", "--x=1"],
         22,
-        "`--weight` needs a value, and `--x=1` behind it is an option (as its value: `--weight=--x=1`)\n  \
+        "`--weight` needs a value, and `--x=1` after it is an option (as its value: `--weight=--x=1`)\n  \
          wear --weight --x=1\n       ^^^^^^^^",
     );
     // `-é=-7` would be a word
@@ -173,20 +173,15 @@ fn a_value_missing() {
         [Node::argument(short('é'), Takes::Text)],
         &["-é", "-7"],
         22,
-        "`-é` needs a value, and `-7` behind it is an option\n  wear -é -7\n       ^^",
+        "`-é` needs a value, and `-7` after it is an option\n  wear -é -7\n       ^^",
     );
-    is([text(), weight()], &["-w7"], 22, "`-w` needs a value, and `7` behind it is taken already\n  wear -w7\n        ^");
+    is([text(), weight()], &["-w7"], 22, "`-w` needs a value, and `7` after it is taken already\n  wear -w7\n        ^");
 }
 
 #[test]
 fn words_on_the_wrong_side() {
-    is([text().strict()], &["a"], 23, "`a` must stand behind `--`\n  wear a\n       ^");
-    is(
-        [text().non_strict()],
-        &["--", "ab"],
-        24,
-        "`ab` stands behind `--`, and must stand before it\n  wear -- ab\n          ^^",
-    );
+    is([text().strict()], &["a"], 23, "`a` must come after `--`\n  wear a\n       ^");
+    is([text().non_strict()], &["--", "ab"], 24, "`ab` comes after `--`, and must come before it\n  wear -- ab\n          ^^");
 }
 
 #[test]

@@ -174,7 +174,7 @@ fn limits() {
 
     let chain = |n: usize| (1..n).fold(text(), |node, _| node.fallback("x"));
     assert!(Form::of([chain(64)]).is_ok());
-    let nodes = "nodes (flags, arguments, positionals and what stands over them)";
+    let nodes = "nodes (flags, arguments, positionals and what is over them)";
     assert_eq!(refused(chain(65)), format!("1 None: the form has 65 {nodes}, and 1 to 64 are allowed"));
 
     let names = |n: usize| Node::flag((0..n).fold(Names::default(), |names, _| names.short('v')));

@@ -1,6 +1,6 @@
 //! Help and version beside the values.
 
-use silverpoise::{long, positional, short, Answer, Names, Text, TypedForm};
+use silverpoise::{long, positional, short, Answer, Names, Reader, Text, TypedForm};
 
 /// A switch v, a number w and a word that must be given, with help.
 fn answer(args: &[&str]) -> String {
@@ -25,12 +25,34 @@ fn asked_for() {
     }
 }
 
-/// Help wins also where the rest is refused: a value missing (22), too often (27), no number (25), a value for help (27).
+/// Help wins also where the rest is refused: a value missing (22), too often (27), no number (25), a value for help (27), a word
+/// that looks like options (50).
 #[test]
 fn asked_for_on_a_line_that_is_refused() {
-    for args in [&["-w", "-h"][..], &["-h", "-h"], &["-wx", "-h", "a"], &["--help=7", "a"], &["a", "-x", "-h"]] {
+    for args in [&["-w", "-h"][..], &["-h", "-h"], &["-wx", "-h", "a"], &["--help=7", "a"], &["a", "-x", "-h"], &["-17", "-h"]]
+    {
         assert_eq!(answer(args), "help", "{args:?}");
     }
+    assert_eq!((answer(&["-17", "-V"]), answer(&["-17"])), ("version".to_string(), "50".to_string()));
+}
+
+/// The items and the tries of a line, as a form without help has them; a reader reads such lines too.
+#[test]
+fn lines_and_readers() {
+    let fields = || (short('v').switch(), positional::<Text>());
+    let form = TypedForm::of(fields()).unwrap().with_help().unwrap();
+    let (args, mut reader) = (["-v", "lock"], Reader::new());
+    let Ok(Answer::Values(line)) = form.read_line(&args) else { panic!("values") };
+    assert_eq!((line.tries(), line.notes().len()), (4, 0));
+    assert_eq!(line.items(), TypedForm::of(fields()).unwrap().read_line(&args).unwrap().items());
+    for _ in 0..2 {
+        assert_eq!(reader.read_help(&form, &args), Ok(Answer::Values((true, "lock".as_ref()))));
+        assert_eq!(reader.read_help(&form, &["-xh", "--help"]), Ok(Answer::Help));
+        assert_eq!(reader.read_help(&form, &["-V"]), Ok(Answer::Version));
+        assert_eq!(reader.read_help(&form, &["-xh"]), Err(form.read_line(&["-xh"]).unwrap_err()));
+    }
+    assert_eq!(form.read_line(&["-h"]), Ok(Answer::Help));
+    assert_eq!(form.read_line(&["-17", "-V"]), Ok(Answer::Version));
 }
 
 #[test]
@@ -39,7 +61,7 @@ fn not_asked_for() {
     assert_eq!(answer(&["-v", "--", "-h"]), "(true, None, \"-h\")");
     assert_eq!(answer(&["-w=7", "--", "--help"]), "(false, Some(7), \"--help\")");
     // an unknown letter makes the cluster a word
-    assert_eq!(answer(&["-xh"]), "(false, None, \"-xh\")");
+    assert_eq!(answer(&["-xh"]), "50");
     assert_eq!(answer(&["-w-h", "a"]), "25");
     assert_eq!(answer(&["--hel", "a"]), "27");
     assert_eq!(answer(&[]), "20");

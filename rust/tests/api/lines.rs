@@ -156,7 +156,7 @@ fn a_reader_reads_many_lines() {
 /// Bytes that are not UTF-8 are read as they are.
 #[test]
 fn any_bytes() {
-    let form = Form::of([text().many()]).unwrap();
+    let form = Form::of([text().many()]).unwrap().as_bpaf();
     let args: Vec<OsString> = [&b"\xff\x00"[..], b"-\xc3", b"--\xff=1"].map(|bytes| OsString::from_vec(bytes.to_vec())).into();
     let line = form.read_values(&args).unwrap();
     let texts: Vec<Value> = args.iter().map(|arg| Value::Text(arg)).collect();

@@ -165,7 +165,7 @@ fn every_short_line() {
                 Some(Reason::Unnamed) => matches!(item.kind, ItemKind::Short(_) | ItemKind::Long(_)),
                 Some(Reason::UnknownLetter(letter)) => item.text.to_str().unwrap().contains(letter),
                 Some(Reason::Other) => true,
-                Some(Reason::NoPositional) => false,
+                Some(Reason::NoPositional | Reason::NotUtf8) => false,
             };
             assert!(borne_out && (reason == error.reason() || Some(place) != error.place()), "{line:?} {place} {reason:?}");
             seen += 1;

@@ -2,7 +2,6 @@
 #![forbid(unsafe_code)]
 
 mod notation;
-mod notes;
 mod sections;
 mod show;
 // the library's own file
@@ -20,19 +19,22 @@ use std::os::unix::ffi::OsStrExt;
 use std::process::ExitCode;
 
 use show::{Counts, Paint};
-use silverpoise::{Form, Line, ReadError};
+use silverpoise::{Form, Line, ReadError, Warning};
 use source::{Fault, Spot};
 use written::{What, Written};
 
-const USAGE: &str = "usage: silverpoise [--emit | --portable] [--] FORM WORD...";
+const USAGE: &str = "usage: silverpoise [--as-bpaf | --check | --emit | --portable] [--] FORM WORD...";
 
 const HELP: &str = "\
-Reads the words as a command line by the form, and shows how it was read.
+Reads the words as a command line by the form, and shows how it was read. A line is refused on which an
+argument that looks like options would be a word.
 
-usage: silverpoise [--emit | --portable] [--] FORM WORD...
+usage: silverpoise [--as-bpaf | --check | --emit | --portable] [--] FORM WORD...
 
   FORM        a file with one field a line; - is standard input
-  WORD...     the line; all words behind FORM belong to it
+  WORD...     the line; all words after FORM belong to it
+  --as-bpaf   read by bpaf's rules alone: an argument that looks like options may be a word
+  --check     say what of the form is easily overlooked; no words
   --emit      write the form or the commands as bytes, for other programs; no words
   --portable  say whether POSIX has such short options; no words
   --help      print this
@@ -50,8 +52,8 @@ A form:
   flag NAMES     yes, must be given      text, number               a word without a name
   ( ... )        brackets                A or B                     the one that is given
 
-  behind a comma: optional, many, some, count, last, LO..HI, else VALUE, and
-  catch (behind optional, many, some), adjacent (of text NAMES and number NAMES),
+  after a comma: optional, many, some, count, last, LO..HI, else VALUE, and
+  catch (after optional, many, some), adjacent (of text NAMES and number NAMES),
   strict and non-strict (of text and number without names)
 
 Several commands, each with its names and a form below them; a name of one character is short:
@@ -61,16 +63,18 @@ Several commands, each with its names and a form below them; a name of one chara
   [log]
   parts:   text, many
 
-Exit status: 0 values, 1 the line is refused or the form is not portable, 2 wrong use or a form at fault.
+Exit status: 0 values; 1 the line is refused, the form is not portable, or --check has a warning;
+2 wrong use or a form at fault. A line that is accepted with --as-bpaf alone is refused with 50 without it.
 docs/COMMAND.md says more.
 ";
 
 enum Use<'a> {
     Help,
     Version,
+    Check(&'a OsStr),
     Emit(&'a OsStr),
     Portable(&'a OsStr),
-    Read(&'a OsStr, &'a [OsString]),
+    Read { form: &'a OsStr, line: &'a [OsString], as_bpaf: bool },
 }
 
 fn main() -> ExitCode {
@@ -94,9 +98,10 @@ fn wanted(args: &[OsString]) -> Result<Use<'_>, String> {
         match first.as_bytes() {
             b"--help" => return Ok(Use::Help),
             b"--version" => return Ok(Use::Version),
-            b"--emit" | b"--portable" => {
-                if asked.is_some_and(|other| other != first) {
-                    return Err(format!("silverpoise: `--emit` and `--portable` do not go together\n{USAGE}"));
+            b"--as-bpaf" | b"--check" | b"--emit" | b"--portable" => {
+                if let Some(other) = asked.filter(|other| *other != first) {
+                    let (other, first) = (named(other), named(first));
+                    return Err(format!("silverpoise: `{other}` and `{first}` do not go together\n{USAGE}"));
                 }
                 asked = Some(first);
             }
@@ -109,12 +114,14 @@ fn wanted(args: &[OsString]) -> Result<Use<'_>, String> {
         }
         rest = behind;
     }
-    match (asked, rest) {
+    match (asked.map(|option| option.as_bytes()), rest) {
         (_, []) => Err(format!("silverpoise: a form is needed\n{USAGE}")),
-        (None, [form, line @ ..]) => Ok(Use::Read(form, line)),
-        (Some(option), [form]) if option == "--emit" => Ok(Use::Emit(form)),
+        (None, [form, line @ ..]) => Ok(Use::Read { form, line, as_bpaf: false }),
+        (Some(b"--as-bpaf"), [form, line @ ..]) => Ok(Use::Read { form, line, as_bpaf: true }),
+        (Some(b"--check"), [form]) => Ok(Use::Check(form)),
+        (Some(b"--emit"), [form]) => Ok(Use::Emit(form)),
         (Some(_), [form]) => Ok(Use::Portable(form)),
-        (Some(option), _) => Err(format!("silverpoise: `{}` takes no words behind the form\n{USAGE}", named(option))),
+        (Some(option), _) => Err(format!("silverpoise: `{}` takes no words after the form\n{USAGE}", shown::shown(option))),
     }
 }
 
@@ -123,16 +130,36 @@ fn run(wanted: Use) -> Result<(u8, Vec<u8>), String> {
     match wanted {
         Use::Help => Ok((0, HELP.into())),
         Use::Version => Ok((0, concat!("silverpoise ", env!("CARGO_PKG_VERSION"), "\n").into())),
+        Use::Check(file) => {
+            let (status, text) = check(&form(file)?, paint());
+            Ok((status, text.into_bytes()))
+        }
         Use::Emit(file) => Ok((0, form(file)?.bytes().to_vec())),
         Use::Portable(file) => {
             let (status, text) = portable(&form(file)?);
             Ok((status, text.into_bytes()))
         }
-        Use::Read(file, line) => {
-            let (status, text) = read(&form(file)?, line, paint());
+        Use::Read { form: file, line, as_bpaf } => {
+            let written = form(file)?;
+            let (status, text) = read(&if as_bpaf { written.by_plain_rules() } else { written }, line, paint());
             Ok((status, text.into_bytes()))
         }
     }
+}
+
+/// What is easily overlooked in the form, each with its field, and its command if there are commands.
+fn check(written: &Written, paint: Paint) -> (u8, String) {
+    let warnings = written.warnings();
+    if warnings.is_empty() {
+        return (0, "no warnings\n".into());
+    }
+    let row = |(command, warning): &(Option<usize>, Warning)| {
+        let under = written.under(*command);
+        let command = under.command.map_or(String::new(), |command| format!("{}: ", shown::shown_word(command.as_bytes())));
+        let field = shown::shown(under.fields[warning.field()].name.as_bytes());
+        show::aside(paint, "warning", &format!("{command}{field}: {warning}"))
+    };
+    (1, warnings.iter().map(row).collect())
 }
 
 /// The portable mark, and the short names that take it away, each behind its command if there are commands.
@@ -203,15 +230,14 @@ fn read(written: &Written, line: &[OsString], paint: Paint) -> (u8, String) {
     let (status, items, answered, notes) = match &answer {
         Ok(read) => {
             let values = show::values(paint, under, read.values(), counts(written, read.tries(), read.comparisons()));
-            (0, read.items().to_vec(), values, notes::notes(under, line, read.items(), Ok(read.values())))
+            (0, read.items().to_vec(), values, read.notes())
         }
         Err(error) => {
-            let items = error.items();
-            let notes = notes::notes(under, line, &items, Err(error));
-            (1, items, show::refusal(paint, error, counts(written, error.tries(), error.comparisons())), notes)
+            let refusal = show::refusal(paint, error, counts(written, error.tries(), error.comparisons()));
+            (1, error.items(), refusal, error.notes())
         }
     };
-    let notes: String = notes.iter().map(|words| show::note(paint, words)).collect();
+    let notes: String = notes.iter().map(|note| show::aside(paint, "note", &note.to_string())).collect();
     (status, format!("{}\n{answered}{notes}", show::line(paint, under, line, &items)))
 }
 

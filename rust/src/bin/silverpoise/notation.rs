@@ -9,7 +9,7 @@ use crate::sections::{crate_names, written, Heading, Section, START};
 use crate::shown::quoted;
 use crate::source::{Fault, Spot};
 use crate::tokens::{tokens, Token, Tokens};
-use crate::written::{Field, Letters, OptionName, Written};
+use crate::written::{Field, OptionName, Written};
 
 /// The limits of a form. They are tested here too, where the line and the column are known.
 const NODES: usize = 64;
@@ -26,8 +26,7 @@ const COMMANDS: usize = 32;
 /// The form, or the commands with their forms, that the text has.
 pub fn parse(text: &str) -> Result<Written, Fault> {
     let line = Tokens { tokens: Vec::new(), end: START };
-    let (section, letters) = (Section::default(), Letters::default());
-    let mut parser = Parser { line, at: 0, depth: 0, above: Vec::new(), section, letters };
+    let mut parser = Parser { line, at: 0, depth: 0, above: Vec::new(), section: Section::default() };
     for (k, line) in text.lines().enumerate() {
         (parser.line, parser.at) = (tokens(line, k + 1)?, 0);
         match parser.peek() {
@@ -37,7 +36,7 @@ pub fn parse(text: &str) -> Result<Written, Fault> {
         }
     }
     parser.above.push(parser.section);
-    written(parser.above, parser.letters)
+    written(parser.above)
 }
 
 /// What was read of a field so far.
@@ -48,8 +47,6 @@ struct Part {
 
 /// What the last words made, as far as it decides which modifiers may follow.
 enum Last {
-    Switch(Vec<OptionName>),
-    CountedSwitch(Vec<OptionName>),
     Argument,
     Positional,
     /// an optional, a many or a some
@@ -65,7 +62,6 @@ struct Parser {
     above: Vec<Section>,
     /// the form that is read
     section: Section,
-    letters: Letters,
 }
 
 impl Parser {
@@ -104,7 +100,7 @@ impl Parser {
         match (&self.section.heading, self.section.fields.is_empty()) {
             (Some(_), _) => self.above.push(std::mem::take(&mut self.section)),
             (None, true) => {}
-            (None, false) => return Err(Fault::new(spot, "fields stand above the first command: they belong to none")),
+            (None, false) => return Err(Fault::new(spot, "fields come before the first command: they belong to none")),
         }
         if self.above.len() == COMMANDS {
             return Err(Fault::new(spot, format!("a file has at most {COMMANDS} commands")));
@@ -166,14 +162,13 @@ impl Parser {
             return Err(Fault::new(spot, format!("a field before this one is called {} too", quoted(name.as_bytes()))));
         }
         if !self.accept(&Token::Colon) {
-            return self.fault("a `:` stands behind the field's name, as in `limit: number -l`");
+            return self.fault("a `:` comes after the field's name, as in `limit: number -l`");
         }
-        let Part { node, last } = self.parser()?;
+        let Part { node, .. } = self.parser()?;
         if self.at < self.line.tokens.len() {
             return self.fault("a comma, `or` or the end of the line must be here");
         }
-        let counted_switch = if let Last::CountedSwitch(names) = last { names } else { Vec::new() };
-        self.section.fields.push(Field { name, counted_switch });
+        self.section.fields.push(Field { name });
         self.section.roots.push(node);
         Ok(())
     }
@@ -206,8 +201,8 @@ impl Parser {
             return self.bracket(spot);
         }
         match self.word().as_deref() {
-            Some("switch") => self.flag(spot, Node::switch, Last::Switch),
-            Some("flag") => self.flag(spot, Node::flag, |_| Last::Other),
+            Some("switch") => self.flag(spot, Node::switch),
+            Some("flag") => self.flag(spot, Node::flag),
             Some("text") => self.taking(spot, Takes::Text),
             Some("number") => self.taking(spot, Takes::Number),
             _ => Err(Fault::new(spot, "`switch`, `flag`, `text`, `number` or `(` must be here")),
@@ -216,7 +211,7 @@ impl Parser {
 
     fn bracket(&mut self, open: Spot) -> Result<Part, Fault> {
         if self.depth == DEPTH {
-            return Err(Fault::new(open, format!("brackets stand in each other at most {DEPTH} deep")));
+            return Err(Fault::new(open, format!("brackets are at most {DEPTH} deep")));
         }
         self.depth += 1;
         let part = self.parser()?;
@@ -227,13 +222,12 @@ impl Parser {
         }
     }
 
-    fn flag(&mut self, spot: Spot, leaf: fn(Names) -> Node, last: fn(Vec<OptionName>) -> Last) -> Result<Part, Fault> {
+    fn flag(&mut self, spot: Spot, leaf: fn(Names) -> Node) -> Result<Part, Fault> {
         let names = self.option_names()?;
         if names.is_empty() {
             return self.fault("a name must be here, as in `-v` or `--verbose`");
         }
-        self.letters.flags.extend(short_names(&names));
-        self.over(spot, leaf(crate_names(&names)), last(names))
+        self.over(spot, leaf(crate_names(&names)), Last::Other)
     }
 
     /// An argument if names follow, else a positional.
@@ -242,7 +236,6 @@ impl Parser {
         if names.is_empty() {
             return self.over(spot, Node::positional(takes), Last::Positional);
         }
-        self.letters.arguments.extend(short_names(&names));
         self.over(spot, Node::argument(crate_names(&names), takes), Last::Argument)
     }
 
@@ -263,7 +256,7 @@ impl Parser {
         let mut characters = name.chars();
         match (dashes, characters.next(), characters.next()) {
             (1, Some(letter), None) => Ok(OptionName::Short(letter)),
-            (1, ..) => self.fault("a name behind one dash is one character; a longer one has two dashes"),
+            (1, ..) => self.fault("a name after one dash is one character; a longer one has two dashes"),
             _ if name.contains('=') => self.fault("a long name with a `=` could never be given"),
             _ => Ok(OptionName::Long(name)),
         }
@@ -276,7 +269,6 @@ impl Parser {
             ("optional", _) => self.over(spot, node.optional(), Last::MayCatch),
             ("many", _) => self.over(spot, node.many(), Last::MayCatch),
             ("some", _) => self.over(spot, node.some(), Last::MayCatch),
-            ("count", Last::Switch(names)) => self.over(spot, node.count(), Last::CountedSwitch(names)),
             ("count", _) => self.over(spot, node.count(), Last::Other),
             ("last", _) => self.over(spot, node.last(), Last::Other),
             ("else", _) => {
@@ -284,13 +276,13 @@ impl Parser {
                 self.over(spot, node.fallback(value), Last::Other)
             }
             ("catch", Last::MayCatch) => Ok(Part { node: node.catch(), last: Last::Other }),
-            ("catch", _) => Err(Fault::new(spot, "`catch` stands right behind `optional`, `many` or `some`")),
+            ("catch", _) => Err(Fault::new(spot, "`catch` comes right after `optional`, `many` or `some`")),
             ("adjacent", Last::Argument) => Ok(Part { node: node.adjacent(), last: Last::Other }),
-            ("adjacent", _) => Err(Fault::new(spot, "`adjacent` stands right behind a text or number with a name")),
+            ("adjacent", _) => Err(Fault::new(spot, "`adjacent` comes right after a text or number with a name")),
             ("strict", Last::Positional) => Ok(Part { node: node.strict(), last: Last::Other }),
             ("non-strict", Last::Positional) => Ok(Part { node: node.non_strict(), last: Last::Other }),
             ("strict" | "non-strict", _) => {
-                Err(Fault::new(spot, format!("`{word}` stands right behind a text or number without a name")))
+                Err(Fault::new(spot, format!("`{word}` comes right after a text or number without a name")))
             }
             (bounds, _) => match bounds.split_once("..") {
                 Some((lo, hi)) => self.over(spot, node.guard(number(lo, spot)?..=number(hi, spot)?), Last::Other),
@@ -330,10 +322,10 @@ impl Parser {
         self.section.names += 1;
         self.section.area += bytes;
         if self.section.names > NAMES {
-            return self.fault(format!("a form has at most {NAMES} names and texts behind `else`"));
+            return self.fault(format!("a form has at most {NAMES} names and texts after `else`"));
         }
         if self.section.area > AREA {
-            return self.fault(format!("the names and the texts behind `else` have at most {AREA} bytes together"));
+            return self.fault(format!("the names and the texts after `else` have at most {AREA} bytes together"));
         }
         Ok(())
     }
@@ -355,13 +347,6 @@ fn dashed(token: &Token) -> Option<(usize, Vec<u8>)> {
     };
     let dashes = dashes.min(2);
     (dashes > 0).then(|| (dashes, bytes[dashes..].to_vec()))
-}
-
-fn short_names(names: &[OptionName]) -> impl Iterator<Item = char> + '_ {
-    names.iter().filter_map(|name| match name {
-        OptionName::Short(letter) => Some(*letter),
-        OptionName::Long(_) => None,
-    })
 }
 
 fn number(digits: &str, spot: Spot) -> Result<u32, Fault> {

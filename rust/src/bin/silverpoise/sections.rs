@@ -3,10 +3,10 @@
 use silverpoise::{CommandTable, Form, FormError, Names, Node};
 
 use crate::source::{Fault, Spot};
-use crate::written::{Field, Letters, OptionName, What, Written};
+use crate::written::{Field, OptionName, What, Written};
 
 /// What the sections of a whole text make.
-pub fn written(sections: Vec<Section>, letters: Letters) -> Result<Written, Fault> {
+pub fn written(sections: Vec<Section>) -> Result<Written, Fault> {
     let (mut headings, mut forms, mut fields) = (Vec::new(), Vec::new(), Vec::new());
     for section in sections {
         forms.push(section.form()?);
@@ -17,7 +17,7 @@ pub fn written(sections: Vec<Section>, letters: Letters) -> Result<Written, Faul
         true => What::Form(forms.remove(0)),
         false => What::Commands(table(&headings, forms)?),
     };
-    Ok(Written { what, fields, letters })
+    Ok(Written { what, fields })
 }
 
 fn table(headings: &[Heading], forms: Vec<Form>) -> Result<CommandTable, Fault> {

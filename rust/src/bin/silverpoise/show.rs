@@ -196,6 +196,7 @@ impl Counts {
     }
 }
 
-pub fn note(paint: Paint, words: &str) -> String {
-    format!("{} {words}\n", paint.paint("33", "note:"))
+/// A note or a warning.
+pub fn aside(paint: Paint, what: &str, words: &str) -> String {
+    format!("{} {words}\n", paint.paint("33", &format!("{what}:")))
 }

@@ -99,7 +99,7 @@ fn sort_of(words: &str) -> String {
 #[test]
 fn generated_texts_are_answered() {
     let mut numbers = Numbers(1);
-    let (mut accepted, mut commands, mut sorts) = (0, 0, BTreeSet::new());
+    let (mut accepted, mut commands, mut warned, mut sorts) = (0, 0, 0, BTreeSet::new());
     for _ in 0..1_500 {
         let text = file_text(&mut numbers);
         match notation::parse(&text) {
@@ -110,6 +110,9 @@ fn generated_texts_are_answered() {
                     What::Commands(table) => CommandTable::from_bytes(written.bytes()).as_ref() == Ok(table),
                 };
                 assert!(again, "{text:?}");
+                let (status, warnings) = check(&written, Paint(false));
+                assert!(if status == 0 { warnings == "no warnings\n" } else { warnings.starts_with("warning: ") }, "{text:?}");
+                warned += usize::from(status == 1);
                 commands += usize::from(matches!(written.what, What::Commands(_)));
             }
             Err(fault) => {
@@ -121,6 +124,7 @@ fn generated_texts_are_answered() {
         }
     }
     assert!(accepted > 50 && commands > 20 && sorts.len() > 20, "{accepted} accepted, {commands} commands, {sorts:?}");
+    assert!(warned > 20 && warned + 20 < accepted, "{warned} warned");
 }
 
 const FORM: &str =

@@ -74,7 +74,7 @@ impl Lexer {
             '[' if self.heading => Token::OpenCommand,
             ']' if self.heading => Token::CloseCommand,
             '"' => return self.quoted(),
-            '\\' => return Err(Fault::new(self.spot(), "an escape stands in quotes, as in `\"\\xff\"`")),
+            '\\' => return Err(Fault::new(self.spot(), "an escape must be in quotes, as in `\"\\xff\"`")),
             _ => return Ok(self.word()),
         };
         self.at += 1;

@@ -2,15 +2,13 @@
 
 use std::ffi::OsString;
 
-use silverpoise::{CommandTable, Form, Line, ReadError, Value};
+use silverpoise::{CommandTable, Form, Line, ReadError, Value, Warning};
 
 /// A form or commands, with what their text says beyond them.
 pub struct Written {
     pub what: What,
     /// the fields of each form
     pub fields: Vec<Vec<Field>>,
-    /// those of all forms together, by which a line is split
-    pub letters: Letters,
 }
 
 /// What a file has.
@@ -19,10 +17,9 @@ pub enum What {
     Commands(CommandTable),
 }
 
-/// What a line was read by: the letters that split it, the command that was given, if there are commands, and its fields.
+/// What a line was read by: the command that was given, if there are commands, and its fields.
 #[derive(Clone, Copy)]
 pub struct Under<'w> {
-    pub letters: &'w Letters,
     pub command: Option<&'w str>,
     pub fields: &'w [Field],
 }
@@ -43,6 +40,23 @@ impl Written {
         }
     }
 
+    /// The same, read by bpaf's rules alone.
+    pub fn by_plain_rules(self) -> Written {
+        let what = match self.what {
+            What::Form(form) => What::Form(form.as_bpaf()),
+            What::Commands(table) => What::Commands(table.as_bpaf()),
+        };
+        Written { what, ..self }
+    }
+
+    /// What is easily overlooked in the form, or in those of the commands with the number of the command.
+    pub fn warnings(&self) -> Vec<(Option<usize>, Warning)> {
+        match &self.what {
+            What::Form(form) => form.warnings().into_iter().map(|warning| (None, warning)).collect(),
+            What::Commands(table) => table.warnings().into_iter().map(|(command, warning)| (Some(command), warning)).collect(),
+        }
+    }
+
     pub fn read_values<'a>(&'a self, line: &'a [OsString]) -> Result<Line<'a, Vec<Value<'a>>>, ReadError> {
         match &self.what {
             What::Form(form) => form.read_values(line),
@@ -57,21 +71,12 @@ impl Written {
             What::Commands(table) => (command, command.map(|number| table.names()[number].as_str())),
         };
         let fields = form.map_or(&[][..], |number| &self.fields[number]);
-        Under { letters: &self.letters, command, fields }
+        Under { command, fields }
     }
 }
 
 pub struct Field {
     pub name: String,
-    /// of a field that counts a switch: the names of the switch
-    pub counted_switch: Vec<OptionName>,
-}
-
-/// The short names of all flags and switches, and those of all arguments.
-#[derive(Default)]
-pub struct Letters {
-    pub flags: Vec<char>,
-    pub arguments: Vec<char>,
 }
 
 #[derive(Clone, Debug, PartialEq, Eq)]
