@@ -7,28 +7,28 @@ use Prim.Native.Nat.{ℕ, zero, suc, _+_, _-_, _*_, _^_, _≤_, _<_}
 use native.Mathlib.Numerals.{add-one}
 use native.Mathlib.Omega.{arith}
 use lib.Dec.{leb}
-use lib.ListN.{length, drop, replicate, length-append, drop-of-length-le}
-use lib.Seq.{sets, length-sets}
+use lib.ListN.{length, take, drop, length-append, drop-of-length-le}
+use lib.Seq.{sets, length-sets, sets-eq, take-at}
 use borrow.Author.Tests.{lt-ltb, le-ltb}
 use Rattle.utf8.specs.Utf8.{if_then_else_}
 use Rattle.wire.specs.Wire.{numberAt, areaStart, offset, entryOf, HasEntry}
 use Rattle.wire.specs.Laws.{good-table}
 use Rattle.rules.specs.Base.{concatMap}
-use Rattle.rules.specs.Outcome.{Outcome, ok, refused, fault, _>>=_, refuse}
+use Rattle.rules.specs.Outcome.{Outcome, ok, refused, fault, _>>=_}
 use Rattle.rules.specs.Codes.{placeCode}
 use Rattle.rules.specs.Sheet.{argumentCount, arguments}
 use Rattle.rules.specs.Accept.{Letters}
 use Rattle.rules.specs.Split.{Item, PosWord, Group, plain, splitArgument, Split, positionals, joined, splitFrom, itemsOf, itemWords, recordsFrom}
-use Rattle.rules.specs.Run.{tooMany, ambiguity, lineOf, padded}
+use Rattle.rules.specs.Run.{tooMany, ambiguity, lineOf}
 use Rattle.rules.specs.Demands.{hasMarker}
 use Rattle.rules.proofs.SplitLaws.{split-ok, flatten-append, records-from-length, MarkerAt, marker-law, ambiguous-law}
 use Rattle.split_arg.proofs.LookUp.{ok-same}
 use Rattle.split_group.specs.declared.Group.{Group as Made}
 use Rattle.split_group.specs.Groups.{stored, ArgumentFits, Makes}
-use Rattle.split_group.proofs.Stores.{sets-append, no-room, has-room}
-use Rattle.split_args.specs.Construct.{groupAt, markerAfter, lineFor, refusalNumber, refusalPlace, SheetAndZeros, SplitEnds}
+use Rattle.split_group.proofs.Stores.{sets-append, has-room}
+use Rattle.split_args.specs.Construct.{groupAt, markerAfter, lineFor, refusalNumber, refusalPlace, SheetAndRoom, SplitWrites}
 use Rattle.split_args.proofs.Sheets.{GoodSheet, good-sheet, arguments-length, has-entry, argument-next, argument-end, argument-fits, offset-there}
-use Rattle.split_args.proofs.States.{markerOf, starts, empty-raw, zeroed, padded-words}
+use Rattle.split_args.proofs.States.{markerOf, starts, empty-raw}
 
 -- the others, where the first `--` was seen at a place (plus 1) or not
 unfoldable pub restFrom : Letters → ℕ → ℕ → List (List ℕ) → Outcome Split
@@ -56,22 +56,20 @@ fits-32 n h = omega arith
 pub fits-64 : (n : ℕ) → n ≤ 256 → n < 2 ^ 64
 fits-64 n h = omega arith
 
-pub records-fit : (n : ℕ) → n ≤ 256 → 7 * n < 2 ^ 64
-records-fit n h = omega arith
-
 -- ---- the loop's state
 -- groups in front of a split
 abbrev pub front : List (List Item) → ℕ → Split → Split
 front gs m y = record { groups = gs ++ y .groups; marker = markerFirst m (y .marker); ambiguous = y .ambiguous }
 
-pub two-bytes : (s o : List ℕ) → SheetAndZeros s o → 2 ≤ length s
-two-bytes s o g = good-sheet s (g .given .checked) .two
+pub two-bytes : (s o : List ℕ) → SheetAndRoom s o → 2 ≤ length s
+two-bytes s o g = good-sheet s (g .checked) .two
 
 pub count-is : (s : List ℕ) (n : ℕ) → n ≡ numberAt 2 s 0 → n ≡ argumentCount s
 unfolding argumentCount
 count-is s n e = e
 
-pub record SplitSoFar (l : Letters) (s : List ℕ) (n : ℕ) (o : List ℕ) (k at m : ℕ) : Type 0 where
+-- over what the slice `b` held
+pub record SplitSoFar (l : Letters) (s b o : List ℕ) (k at m : ℕ) : Type 0 where
   pub done : List (List Item)
   pub words : List ℕ
   pub whole : Split
@@ -82,17 +80,17 @@ pub record SplitSoFar (l : Letters) (s : List ℕ) (n : ℕ) (o : List ℕ) (k a
   pub recorded :
       (ys : List (List Item))
       → recordsFrom 0 (arguments s) (done ++ ys) ≡ words ++ recordsFrom (offset 2 s k) (drop k (arguments s)) ys
-  pub put : o ≡ sets (replicate n 0) 0 words
+  pub put : o ≡ sets b 0 words
   pub size : length words ≡ 7 * at
   pub places : at ≡ length (flatten done)
   pub few : at ≤ 256
   pub within : k ≤ argumentCount s
-  pub long : length o ≡ n
+  pub long : length o ≡ length b
 
-pub going-first : (l : Letters) (s o : List ℕ) → SheetAndZeros s o → SplitSoFar l s (length o) o 0 0 0
+pub going-first : (l : Letters) (s o : List ℕ) → SheetAndRoom s o → SplitSoFar l s o o 0 0 0
 unfolding restFrom markerFirst flatten
 going-first l s o g =
-    let h = good-sheet s (g .given .checked) in
+    let h = good-sheet s (g .checked) in
     let x = split-ok l 0 (arguments s) in
     let first = good-table 2 (argumentCount s) s (h .good) .first in
     record {
@@ -104,7 +102,7 @@ going-first l s o g =
       left = x .1;
       joins = refl;
       recorded = λ ys. rw first;
-      put = g .zeros;
+      put = refl;
       size = refl;
       places = refl;
       few = omega arith;
@@ -228,21 +226,26 @@ too-long : (l : Letters) (s : List ℕ) (x : Split) → splitFrom l 0 (arguments
 unfolding lineOf if_then_else_ _>>=_
 too-long l s x e h = rw (e, lt-ltb 256 (length (itemsOf x)) h)
 
-module _ (l : Letters) (s : List ℕ) (n : ℕ) (o : List ℕ) (x : Split) (c m : ℕ) where
+-- what is written at the start of a slice stands there
+written-first : (w b : List ℕ) (n : ℕ) → length w ≡ n → n ≤ length b → take n (sets b 0 w) ≡ w
+written-first w b n e h = ap (take n) (sets-eq w b 0 (omega arith)) ∙ take-at w (drop (0 + length w) b) n e
+
+module _ (l : Letters) (s b o : List ℕ) (x : Split) (c m : ℕ) where
   ends :
       splitFrom l 0 (arguments s) ≡ ok x
       → length (itemsOf x) ≡ c
       → c ≤ 256
       → m ≤ c
       → x .marker ≡ markerOf m
-      → o ≡ sets (replicate n 0) 0 (recordsFrom 0 (arguments s) (x .groups))
-      → length (recordsFrom 0 (arguments s) (x .groups)) ≤ n
+      → o ≡ sets b 0 (recordsFrom 0 (arguments s) (x .groups))
+      → length (recordsFrom 0 (arguments s) (x .groups)) ≡ 7 * c
+      → 1792 ≤ length b
       → (number place : ℕ)
       → number ≡ refusalNumber (ambiguity (x .ambiguous))
       → place ≡ refusalPlace (ambiguity (x .ambiguous))
-      → SplitEnds l s n o (record { number = number; place = place; count = c; marker = m })
+      → SplitWrites l s o (record { number = number; place = place; count = c; marker = m })
   unfolding lineOf if_then_else_ _>>=_
-  ends e size few within marker put room number place nu pl =
+  ends e size few within marker put long room number place nu pl =
       let st = starts c m few within in
       record {
         line = record {
@@ -254,19 +257,16 @@ module _ (l : Letters) (s : List ℕ) (n : ℕ) (o : List ℕ) (x : Split) (c m 
         same = rw (e, le-ltb 256 (length (itemsOf x)) (omega arith), size, marker, st .same);
         number = nu;
         place = pl;
-        words = put ∙ padded-words (recordsFrom 0 (arguments s) (x .groups)) n room;
+        words = ap (take (7 * c)) put ∙ written-first (recordsFrom 0 (arguments s) (x .groups)) b (7 * c) long (omega arith);
         marked = record { few = few; within = within };
         state = st .raw;
       }
 
 -- ---- a turn of the loop
-module _ (l : Letters) (s items : List ℕ) (given : SheetAndZeros s items) (o : List ℕ) (k at m : ℕ) (z : SplitSoFar l s (length items) o k at m)
+module _ (l : Letters) (s items : List ℕ) (given : SheetAndRoom s items) (o : List ℕ) (k at m : ℕ) (z : SplitSoFar l s items o k at m)
     (c : ℕ) (f : c ≡ argumentCount s) (t : k < c) where
-  abbrev n : ℕ
-  n = length items
-
   h : GoodSheet s
-  h = good-sheet s (given .given .checked)
+  h = good-sheet s (given .checked)
 
   inside : k < argumentCount s
   inside = omega arith
@@ -315,11 +315,8 @@ module _ (l : Letters) (s items : List ℕ) (given : SheetAndZeros s items) (o :
             length-append (w .group .items) (flatten (next .later)),
           )
 
-      pub made-long : length p ≡ n
+      pub made-long : length p ≡ length items
       made-long = ap length (w .words) ∙ stored-long o at (length (w .group .items)) _ ∙ z .long
-
-      pub filled-long : (q : List ℕ) → q ≡ sets p 0 (replicate (7 * at) 0) → length q ≡ n
-      filled-long q e = ap length e ∙ length-sets p 0 (replicate (7 * at) 0) ∙ made-long
 
       pub count-few : r .count ≤ 256 - at → at + r .count ≤ 256
       count-few c = omega (arith, z .few)
@@ -328,14 +325,14 @@ module _ (l : Letters) (s items : List ℕ) (given : SheetAndZeros s items) (o :
       unfolding recs
       fits c = w .words ∙ sym (has-room o at (length (w .group .items)) _ (omega (arith, count, z .few)))
 
-      written : r .count ≤ 256 - at → p ≡ sets (replicate n 0) 0 (z .words ++ recs)
+      written : r .count ≤ 256 - at → p ≡ sets items 0 (z .words ++ recs)
       written c =
           let size = z .size in
           let place : 7 * at ≡ 0 + length (z .words) = omega arith in
           fits c
           ∙ ap (λ (x : List ℕ). sets x (7 * at) recs) (z .put)
-          ∙ ap (λ (j : ℕ). sets (sets (replicate n 0) 0 (z .words)) j recs) place
-          ∙ sym (sets-append (z .words) recs (replicate n 0) 0)
+          ∙ ap (λ (j : ℕ). sets (sets items 0 (z .words)) j recs) place
+          ∙ sym (sets-append (z .words) recs items 0)
 
       more-records :
           (ys : List (List Item))
@@ -355,24 +352,17 @@ module _ (l : Letters) (s items : List ℕ) (given : SheetAndZeros s items) (o :
           sym (ap length (append-nil recs)) ∙ e ∙ omega (arith, length-append (w .group .items) [])
 
       -- ---- 8
-      pub too-many : 256 - at < r .count → (q : List ℕ) → q ≡ sets p 0 (replicate (7 * at) 0) → SplitEnds l s n q (record { number = 8; place = 0; count = 0; marker = 0 })
-      unfolding tooMany padded
-      too-many c q e =
-          let same : p ≡ o = w .words ∙ sym (no-room o at (length (w .group .items)) _ (omega (arith, count, z .few))) in
-          let zero : n - 0 ≡ n = omega arith in
-          record {
-            line = tooMany;
-            same = too-long l s (z .whole) (z .all) (omega (arith, total, count, z .few));
-            number = refl;
-            place = refl;
-            words =
-                e
-                ∙ ap (λ (x : List ℕ). sets x 0 (replicate (7 * at) 0)) (same ∙ z .put)
-                ∙ zeroed (z .words) n 0 (7 * at) (z .size)
-                ∙ ap (λ (j : ℕ). replicate {A = ℕ} j 0) (sym zero);
-            marked = record { few = omega arith; within = omega arith };
-            state = empty-raw;
-          }
+      pub too-many : 256 - at < r .count → SplitWrites l s p (record { number = 8; place = 0; count = 0; marker = 0 })
+      unfolding tooMany
+      too-many c = record {
+        line = tooMany;
+        same = too-long l s (z .whole) (z .all) (omega (arith, total, count, z .few));
+        number = refl;
+        place = refl;
+        words = refl;
+        marked = record { few = omega arith; within = omega arith };
+        state = empty-raw;
+      }
 
       -- ---- on with the next
       pub goes-on :
@@ -380,7 +370,7 @@ module _ (l : Letters) (s items : List ℕ) (given : SheetAndZeros s items) (o :
           → r .ambiguous ≤ 0
           → (m′ : ℕ)
           → m′ ≡ markerAfter m (r .marker) at
-          → SplitSoFar l s n p (k + 1) (at + r .count) m′
+          → SplitSoFar l s items p (k + 1) (at + r .count) m′
       unfolding flatten
       goes-on c a m′ e =
           let none-left = code-none (w .group .ambiguous) (λ i. omega (arith, ap (λ (x : Made). x .ambiguous) (w .told≡))) in
@@ -441,22 +431,23 @@ module _ (l : Letters) (s items : List ℕ) (given : SheetAndZeros s items) (o :
         ambiguous-few =
             omega (arith, last-total, place-code, ambiguous-law l (arguments s) (z .whole) (at + place .0) (z .all) whole-ambiguous .1, z .few)
 
-        pub ambiguous-letter : SplitEnds l s n p (record { number = 9; place = at + r .ambiguous; count = at + r .count; marker = 0 })
+        pub ambiguous-letter : SplitWrites l s p (record { number = 9; place = at + r .ambiguous; count = at + r .count; marker = 0 })
         unfolding ambiguity recordsFrom
         ambiguous-letter =
             let records : recordsFrom 0 (arguments s) (z .whole .groups) ≡ z .words ++ recs =
             ap (recordsFrom 0 (arguments s)) last-groups ∙ more-records [] ∙ append-nil (z .words ++ recs) in
-            ends l s n p (z .whole) (at + r .count) 0 (z .all) last-total (omega (arith, z .few)) (omega arith)
+            ends l s items p (z .whole) (at + r .count) 0 (z .all) last-total (omega (arith, z .few)) (omega arith)
             (ambiguous-law l (arguments s) (z .whole) (at + place .0) (z .all) whole-ambiguous .0)
-            (written fit ∙ ap (sets (replicate n 0) 0) (sym records))
-            (omega (arith, ap length records, length-append (z .words) recs, z .size, recs-size, count, z .few, given .given .room))
+            (written fit ∙ ap (sets items 0) (sym records))
+            (omega (arith, ap length records, length-append (z .words) recs, z .size, recs-size, count))
+            (given .room)
             9 (at + r .ambiguous)
             (sym (ap (λ (a : Option ℕ). refusalNumber (ambiguity a)) whole-ambiguous))
             ((let e : at + r .ambiguous ≡ suc (at + place .0) = omega (arith, place-code) in e)
             ∙ sym (ap (λ (a : Option ℕ). refusalPlace (ambiguity a)) whole-ambiguous))
 
 -- ---- the last argument is done
-module _ (l : Letters) (s items : List ℕ) (given : SheetAndZeros s items) (o : List ℕ) (k at m : ℕ) (z : SplitSoFar l s (length items) o k at m)
+module _ (l : Letters) (s items : List ℕ) (given : SheetAndRoom s items) (o : List ℕ) (k at m : ℕ) (z : SplitSoFar l s items o k at m)
     (c : ℕ) (f : c ≡ argumentCount s) (t : c ≤ k) where
   no-more : drop k (arguments s) ≡ []
   no-more = let h : length (arguments s) ≤ k = omega (arith, arguments-length s) in drop-of-length-le (arguments s) h
@@ -503,16 +494,17 @@ module _ (l : Letters) (s items : List ℕ) (given : SheetAndZeros s items) (o :
   pub marker-small : m ≤ 256
   marker-small = omega (arith, marker-few, z .few)
 
-  pub all-done : SplitEnds l s (length items) o (record { number = 0; place = 0; count = at; marker = m })
+  pub all-done : SplitWrites l s o (record { number = 0; place = 0; count = at; marker = m })
   unfolding ambiguity recordsFrom
   all-done =
       let records : recordsFrom 0 (arguments s) (z .whole .groups) ≡ z .words =
       ap (recordsFrom 0 (arguments s)) (all-groups ∙ sym (append-nil (z .done)))
       ∙ z .recorded []
       ∙ append-nil (z .words) in
-      ends l s (length items) o (z .whole) at m (z .all) all-items (z .few) marker-few marker-is
-      (z .put ∙ ap (sets (replicate (length items) 0) 0) (sym records))
-      (omega (arith, ap length records, z .size, z .few, given .given .room))
+      ends l s items o (z .whole) at m (z .all) all-items (z .few) marker-few marker-is
+      (z .put ∙ ap (sets items 0) (sym records))
+      (omega (arith, ap length records, z .size))
+      (given .room)
       0 0
       (sym (ap (λ (a : Option ℕ). refusalNumber (ambiguity a)) no-ambiguous))
       (sym (ap (λ (a : Option ℕ). refusalPlace (ambiguity a)) no-ambiguous))

@@ -1,12 +1,12 @@
 -- The state after splitting, and the slices cleared and filled.
 use mathlib.Core.Path.{_≡_, refl, sym, subst, _∙_, ap}
-use mathlib.Core.List.{List, [], _∷_, append-nil}
+use mathlib.Core.List.{List, [], _∷_, _++_, append-nil}
 use mathlib.Core.Option.{Option, some, none}
-use Prim.Native.Nat.{ℕ, zero, suc, _+_, _-_, _≤_, _<_}
+use Prim.Native.Nat.{ℕ, zero, suc, _+_, _-_, _*_, _≤_, _<_}
 use native.Mathlib.Nat.{zero-add, sub-zero, zero-sub, suc-sub-suc}
 use native.Mathlib.Omega.{arith}
-use lib.ListN.{length, set, drop, replicate, length-set, length-replicate, replicate-append-replicate}
-use lib.Seq.{sets, sets-eq, length-sets, set-set, set-comm, set-append-left, drop-length}
+use lib.ListN.{length, set, take, drop, replicate, length-set, length-replicate, replicate-append-replicate, drop-of-length-le}
+use lib.Seq.{sets, sets-eq, length-sets, length-take-le, set-append-left, drop-length}
 use borrow.Author.Tests.{le-leb}
 use Rattle.utf8.specs.Utf8.{if_then_else_}
 use Rattle.rules.specs.Base.{minus, write}
@@ -19,7 +19,7 @@ use Rattle.rules.specs.declared.State.{State as Raw}
 use Rattle.state_marks.specs.Written.{markerNumber}
 use Rattle.state_marks.proofs.Mark.{marker-told}
 use Rattle.split_args.specs.declared.Ended.{Ended}
-use Rattle.split_args.specs.Construct.{startingState, Unmarked, SheetAndRoom, SheetAndZeros, SplitEnds}
+use Rattle.split_args.specs.Construct.{startingState, Unmarked, SheetAndRoom, SplitWrites, SplitEnds}
 
 write-set : (l : List ℕ) (i x : ℕ) → i < length l → write l i x ≡ some (set l i x)
 unfolding write
@@ -97,31 +97,6 @@ unfolding startingState toRaw emptyState padded
 empty-raw = refl
 
 -- ---- words over zeros
-sets-before : (w l : List ℕ) (i j a : ℕ) → j < i → set (sets l i w) j a ≡ sets (set l j a) i w
-sets-before [] l i j a h = refl
-sets-before (x ∷ w) l i j a h =
-    sets-before w (set l i x) (suc i) j a (omega arith)
-    ∙ ap (λ (r : List ℕ). sets r (suc i) w) (set-comm l i j x a (λ e. omega arith))
-
-zero-again : (n i x : ℕ) → set (set (replicate {A = ℕ} n 0) i x) i 0 ≡ replicate n 0
-zero-again n i x = set-set {A = ℕ} (replicate n 0) i x 0 ∙ go n i
-  where
-    go : (n i : ℕ) → set (replicate {A = ℕ} n 0) i 0 ≡ replicate n 0
-    go zero i = refl
-    go (suc n) zero = refl
-    go (suc n) (suc i) = ap (λ (l : List ℕ). 0 ∷ l) (go n i)
-
--- what was written over zeros, and zeroed again, is zeros
-pub zeroed : (w : List ℕ) (n i k : ℕ) → length w ≡ k → sets (sets (replicate n 0) i w) i (replicate k 0) ≡ replicate n 0
-zeroed [] n i zero e = refl
-zeroed [] n i (suc k) e = absurd (omega arith)
-zeroed (x ∷ w) n i zero e = absurd (omega arith)
-zeroed (x ∷ w) n i (suc k) e =
-    ap (λ (r : List ℕ). sets r (suc i) (replicate k 0))
-    (sets-before w (set (replicate n 0) i x) (suc i) i 0 (omega arith)
-    ∙ ap (λ (r : List ℕ). sets r (suc i) w) (zero-again n i x))
-    ∙ zeroed w n (suc i) k (omega arith)
-
 drop-zeros : (n k : ℕ) → drop k (replicate {A = ℕ} n 0) ≡ replicate (n - k) 0
 drop-zeros n zero = rw (sub-zero n)
 drop-zeros zero (suc k) = rw (zero-sub (suc k))
@@ -158,26 +133,36 @@ module _ (n m : ℕ) (marks : List ℕ) (u : Unmarked marks) where
       go (suc i) h = let back : suc i - 1 ≡ i = omega arith in rw (u .zeros, back)
 
 -- ---- `construct`
-pub cleared : (s o p : List ℕ) → SheetAndRoom s o → p ≡ sets o 0 (replicate (length o) 0) → SheetAndZeros s p
-cleared s o p g e =
-    let long = fill-long p o 0 (length o) e in
-    let room = g .room in
-    record {
-      given = record { checked = g .checked; room = omega arith };
-      zeros = e ∙ all-zero o (length o) refl ∙ ap (λ (n : ℕ). replicate {A = ℕ} n 0) (sym long);
-    }
+-- the first words of a slice, and zeros behind them
+zeros-behind : (p : List ℕ) (n m : ℕ) → n ≤ length p → length p ≡ m → sets p n (replicate (length p - n) 0) ≡ padded m (take n p)
+unfolding padded
+zeros-behind p n m h e =
+    let zeros : length (replicate {A = ℕ} (length p - n) 0) ≡ length p - n = length-replicate {A = ℕ} (length p - n) 0 in
+    let left : length p - n ≡ m - length (take n p) = omega (arith, e, length-take-le n p h) in
+    sets-eq (replicate (length p - n) 0) p n (omega (arith, zeros))
+    ∙ ap (λ (w : List ℕ). take n p ++ replicate (length p - n) 0 ++ w)
+    (drop-of-length-le p {i = n + length (replicate {A = ℕ} (length p - n) 0)} (omega (arith, zeros)))
+    ∙ append-nil (take n p ++ replicate {A = ℕ} (length p - n) 0)
+    ∙ ap (λ (k : ℕ). take n p ++ replicate k 0) left
 
 pub constructs :
     (l : Letters) (s o p q : List ℕ) (r : Ended)
-    → p ≡ sets o 0 (replicate (length o) 0)
-    → SplitEnds l s (length p) q r
+    → SheetAndRoom s o
+    → length p ≡ length o
+    → SplitWrites l s p r
+    → (c : ℕ)
+    → c ≡ r .count
+    → q ≡ sets p (7 * c) (replicate (length p - 7 * c) 0)
     → SplitEnds l s (length o) q r
-constructs l s o p q r f z = record {
+constructs l s o p q r g e z c h f = record {
   line = z .line;
   same = z .same;
   number = z .number;
   place = z .place;
-  words = z .words ∙ ap (λ (n : ℕ). padded n (z .line .records)) (fill-long p o 0 (length o) f);
+  words =
+      let within : 7 * c ≤ length p = omega (arith, g .room, z .marked .few) in
+      let here : take (7 * c) p ≡ z .line .records = ap (λ (k : ℕ). take (7 * k) p) h ∙ z .words in
+      f ∙ zeros-behind p (7 * c) (length o) within e ∙ ap (padded (length o)) here;
   marked = z .marked;
   state = z .state;
 }

@@ -3,9 +3,9 @@ use mathlib.Core.Path.{_≡_}
 use mathlib.Core.Bool.{Bool, true, not, _||_}
 use mathlib.Core.List.{List, [], _∷_}
 use mathlib.Core.Option.{Option, some, none}
-use Prim.Native.Nat.{ℕ, zero, suc, _+_, _-_, _≤_}
+use Prim.Native.Nat.{ℕ, zero, suc, _+_, _-_, _*_, _≤_}
 use lib.Dec.{eqb}
-use lib.ListN.{length, set, replicate}
+use lib.ListN.{length, set, replicate, take}
 use Rattle.utf8.specs.Utf8.{if_then_else_}
 use Rattle.rules.specs.Outcome.{Outcome, ok, _>>=_, Refusal}
 use Rattle.rules.specs.Sheet.{sheetFault, arguments}
@@ -52,10 +52,6 @@ pub record SheetAndRoom (sheet items : List ℕ) : Type 0 where
   pub checked : sheetFault sheet ≡ 0
   pub room : 1792 ≤ length items
 
-pub record SheetAndZeros (sheet items : List ℕ) : Type 0 where
-  pub given : SheetAndRoom sheet items
-  pub zeros : items ≡ replicate (length items) 0
-
 -- the line of a sheet, for any letters: `split` is this for those of a form
 abbrev pub lineFor : Letters → List ℕ → Outcome Line
 lineFor l s = splitFrom l 0 (arguments s) >>= lineOf (arguments s)
@@ -68,6 +64,17 @@ abbrev pub refusalPlace : Option Refusal → ℕ
 refusalPlace none = 0
 refusalPlace (some e) = placeCode (e .place)
 
+-- the records of the items stand at the start of the slice
+pub record SplitWrites (l : Letters) (sheet items : List ℕ) (r : Ended) : Type 0 where
+  pub line : Line
+  pub same : lineFor l sheet ≡ ok line
+  pub number : r .number ≡ refusalNumber (line .refusal)
+  pub place : r .place ≡ refusalPlace (line .refusal)
+  pub words : take (7 * r .count) items ≡ line .records
+  pub marked : MarkerWithin (r .count) (r .marker)
+  pub state : startingState (r .count) (r .marker) ≡ toRaw (line .state)
+
+-- and zeros behind them
 pub record SplitEnds (l : Letters) (sheet : List ℕ) (n : ℕ) (items : List ℕ) (r : Ended) : Type 0 where
   pub line : Line
   pub same : lineFor l sheet ≡ ok line

@@ -9,12 +9,13 @@ ghost use Rattle.split_arg.specs.Order.{CanLookUp};
 ghost use Rattle.split_group.specs.Groups.{ArgumentFits, Makes};
 ghost use Rattle.state_marks.specs.Lent.{rawOf};
 ghost use Rattle.split_args.specs.Construct.{groupAt, markerAfter, plainArgument, startingState};
-ghost use Rattle.split_args.specs.Construct.{MarkerWithin, Unmarked, SheetAndRoom, SheetAndZeros, SplitEnds};
+ghost use Rattle.split_args.specs.Construct.{MarkerWithin, Unmarked, SheetAndRoom, SplitWrites, SplitEnds};
 use rules::State;
 use split_arg::ITEMS;
 use split_group::Group;
 use state_marks::MARKER;
 use state_marks::Numbers;
+use wire::wide;
 
 // The refusals of splitting: more items than have room, and a letter that is a flag's and an argument's.
 const TOO_MANY: u32 = 8;
@@ -56,10 +57,10 @@ fn marker_after(marker: usize, first: bool, at: usize) -> usize
     if first { at + 1 } else { marker }
 }
 
-// The loop over the arguments, over a slice that is 0. `at` is the place of the next item.
+// The loop over the arguments. `at` is the place of the next item. What stands behind the records of the items is of no use.
 fn split_arguments(sheet: &[u8], flags: &[u32], arguments: &[u32], items: &mut [u32]) -> Ended
-    requires { ⌜ SheetAndZeros (now sheet) (now items) × CanLookUp (now flags) (now arguments) ⌝ }
-    ensures { λ r. ⌜ SplitEnds (letters (now (flags .entry)) (now (arguments .entry))) (now (sheet .entry)) (length (now (items .entry))) (now (items .exit)) r ⌝ }
+    requires { ⌜ SheetAndRoom (now sheet) (now items) × CanLookUp (now flags) (now arguments) ⌝ }
+    ensures { λ r. ⌜ SplitWrites (letters (now (flags .entry)) (now (arguments .entry))) (now (sheet .entry)) (now (items .exit)) r ⌝ }
 {
     let n = wire::u16_at(sheet, 0) as usize;
     let mut k = 0;
@@ -71,7 +72,6 @@ fn split_arguments(sheet: &[u8], flags: &[u32], arguments: &[u32], items: &mut [
         let group = next_group(os, begin, marker, flags, arguments, items, at);
         let count = group.count;
         if ITEMS - at < count {
-            wire::fill(items, 0, 7 * at, 0);
             return Ended {
                 number: TOO_MANY,
                 place: 0,
@@ -100,13 +100,16 @@ fn split_arguments(sheet: &[u8], flags: &[u32], arguments: &[u32], items: &mut [
     }
 }
 
-// The items of a sheet. What the state starts as is told by their count and by the place of the first `--`.
+// The items of a sheet, and zeros behind them: no word is cleared that a record is written to. What the state starts as is told by
+// their count and by the place of the first `--`.
 pub fn construct(sheet: &[u8], flags: &[u32], arguments: &[u32], items: &mut [u32]) -> Ended
     requires { ⌜ SheetAndRoom (now sheet) (now items) × CanLookUp (now flags) (now arguments) ⌝ }
     ensures { λ r. ⌜ SplitEnds (letters (now (flags .entry)) (now (arguments .entry))) (now (sheet .entry)) (length (now (items .entry))) (now (items .exit)) r ⌝ }
 {
-    wire::fill(items, 0, items.len(), 0);
-    split_arguments(sheet, flags, arguments, items)
+    let split = split_arguments(sheet, flags, arguments, items);
+    let end = 7 * wide(split.count);
+    wire::fill(items, end, items.len() - end, 0);
+    split
 }
 
 // Whether an argument is no cluster: that has three bytes or more, and one dash.

@@ -2,17 +2,16 @@
 use mathlib.Core.Path.{_≡_, refl}
 use mathlib.Core.Logic.{inl}
 use Prim.Native.Nat.{_-_}
-use lib.ListN.{length}
 use borrow.Author.Needs.{needs}
 use Rattle.rules.specs.Sheet.{argumentCount}
 use Rattle.split_arg.specs.Clusters.{letters}
-use Rattle.split_args.proofs.Lines.{SplitSoFar, two-bytes, count-is, going-first, has-offset, has-argument, fits-here, made-long, filled-long}
-use Rattle.split_args.proofs.Lines.{too-many, goes-on, count-few, ambiguous-few, ambiguous-letter, marker-small, all-done, fits-32, fits-64, records-fit}
+use Rattle.split_args.proofs.Lines.{SplitSoFar, two-bytes, count-is, going-first, has-offset, has-argument, fits-here, made-long}
+use Rattle.split_args.proofs.Lines.{too-many, goes-on, count-few, ambiguous-few, ambiguous-letter, marker-small, all-done, fits-32, fits-64}
 use Rattle.split_args.proofs.split_arguments.Statement.{statement}
 use Rattle.split_args.proofs.split_arguments.Tie as tie
 
 abbrev Inv-loop : tie.InvT-loop
-Inv-loop sheet flags arguments items₀ n k₀ at₀ marker₀ items k at marker = SplitSoFar (letters flags arguments) sheet (length items₀) items k at marker × (n ≡ argumentCount sheet)
+Inv-loop sheet flags arguments items₀ n k₀ at₀ marker₀ items k at marker = SplitSoFar (letters flags arguments) sheet items₀ items k at marker × (n ≡ argumentCount sheet)
 
 abbrev μ-loop : tie.MeasureT-loop
 μ-loop sheet flags arguments items₀ n k₀ at₀ marker₀ items k at marker = n - k
@@ -38,29 +37,23 @@ next-group-requires c κs = (search fits-here, search needs)
 sub-if1 : tie.Need-sub-if1 Inv-loop μ-loop
 sub-if1 c = search needs
 
-mul-fill : tie.Need-mul-fill Inv-loop μ-loop
-mul-fill c = record { fits = search records-fit }
-
-fill-requires : tie.Need-fill-requires Inv-loop μ-loop
-fill-requires c κs = search needs
-
 same-length : tie.Need-same-length Inv-loop μ-loop
-same-length c = search (filled-long, made-long)
+same-length c = search made-long
 
 returns : tie.Need-returns Inv-loop μ-loop
 returns c = search too-many
 
-add-t23 : tie.Need-add-t23 Inv-loop μ-loop
-add-t23 c = record { fits = search (fits-64, ambiguous-few) }
+add-t19 : tie.Need-add-t19 Inv-loop μ-loop
+add-t19 c = record { fits = search (fits-64, ambiguous-few) }
 
-cast-t24 : tie.Need-cast-t24 Inv-loop μ-loop
-cast-t24 c = record { fits = search (fits-32, ambiguous-few) }
+cast-t20 : tie.Need-cast-t20 Inv-loop μ-loop
+cast-t20 c = record { fits = search (fits-32, ambiguous-few) }
 
-add-t25 : tie.Need-add-t25 Inv-loop μ-loop
-add-t25 c = record { fits = search (fits-64, count-few) }
+add-t21 : tie.Need-add-t21 Inv-loop μ-loop
+add-t21 c = record { fits = search (fits-64, count-few) }
 
-cast-t26 : tie.Need-cast-t26 Inv-loop μ-loop
-cast-t26 c = record { fits = search (fits-32, count-few) }
+cast-t22 : tie.Need-cast-t22 Inv-loop μ-loop
+cast-t22 c = record { fits = search (fits-32, count-few) }
 
 same-length-2 : tie.Need-same-length-2 Inv-loop μ-loop
 same-length-2 c = search made-long
@@ -86,8 +79,8 @@ loop-again c = (search goes-on, search needs)
 cast-t14 : tie.Need-cast-t14 Inv-loop μ-loop
 cast-t14 c = record { fits = search fits-32 }
 
-cast-t27 : tie.Need-cast-t27 Inv-loop μ-loop
-cast-t27 c = record { fits = search (fits-32, marker-small) }
+cast-t23 : tie.Need-cast-t23 Inv-loop μ-loop
+cast-t23 c = record { fits = search (fits-32, marker-small) }
 
 same-length-3 : tie.Need-same-length-3 Inv-loop μ-loop
 same-length-3 c = search needs
@@ -108,14 +101,12 @@ split-arguments-spec =
     entry-requires
     next-group-requires
     sub-if1
-    mul-fill
-    fill-requires
     same-length
     returns
-    add-t23
-    cast-t24
-    add-t25
-    cast-t26
+    add-t19
+    cast-t20
+    add-t21
+    cast-t22
     same-length-2
     returns-2
     marker-after-requires
@@ -124,6 +115,6 @@ split-arguments-spec =
     loop-less
     loop-again
     cast-t14
-    cast-t27
+    cast-t23
     same-length-3
     returns-3)
