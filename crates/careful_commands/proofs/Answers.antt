@@ -23,18 +23,21 @@ use Rattle.rules.proofs.InputFaults.{padded-nil}
 use Rattle.rules_careful.specs.Careful.{firstMisread, misreadLetter, refusedWord, lookAt}
 use Rattle.rules_careful.specs.CarefulCommands.{lookedAt, carefulCommands}
 use Rattle.rules_careful.proofs.LooksCommandLaws.{AcceptedTable, accepted-table, accepted-filled}
+use Rattle.state_marks.specs.Lent.{rawOf}
 use Rattle.split_args.proofs.States.{all-zero}
 use Rattle.run.specs.Runner.{runAnswer}
 use Rattle.command_layout.specs.Tables.{HasForms}
 use Rattle.command_run.specs.declared.CommandAnswer.{CommandAnswer}
-use Rattle.command_run.specs.Commanded.{Ended, commandsAnswer}
+use Rattle.command_run.specs.declared.Commanded.{Commanded}
+use Rattle.command_run.specs.Commanded.{Ended, commandsAnswer, commandedAs}
 use Rattle.why_letter.specs.declared.LetterOption.{LetterOption}
 use Rattle.careful_words.specs.Looking.{LineIs, HasLine, Finds}
 use Rattle.careful_words.proofs.Laws.{found-misread}
-use Rattle.careful.specs.Looked.{letterCode}
+use Rattle.careful.specs.declared.Looked.{Looked}
+use Rattle.careful.specs.Looked.{letterCode, asRun}
 use Rattle.careful.proofs.Lines.{ran-line-is, ran-line-asked}
 use Rattle.careful_commands.specs.declared.CarefulCommandAnswer.{CarefulCommandAnswer}
-use Rattle.careful_commands.specs.Looked.{MisreadPlace, MisreadTold, asRun, CarefulEnded, carefulCommandsAnswer}
+use Rattle.careful_commands.specs.Looked.{MisreadPlace, MisreadTold, CanLookAtTable, CarefulEnded, carefulCommandsAnswer, LooksAtTableRun}
 
 -- ---- what is known of the rules' report from what the run hands back
 record Told (o : Outcome CommandReport) (r : CommandAnswer) (is os ls : List ℕ) : Type 0 where
@@ -111,18 +114,30 @@ module _
     ended q a = some (record { answer = q; items = is; answers = a; list = ls })
 
     -- as the run ended
-    as-ran : carefulCommandsAnswer (ok (record { report = report; letter = 0 })) ≡ ended (asRun r) os
+    abbrev unlooked : CarefulCommandAnswer
+    unlooked = record {
+      number = r .number;
+      place = r .place;
+      tries = r .tries;
+      words = r .words;
+      comparisons = r .comparisons;
+      entry = r .entry;
+      letter = 0;
+      state = r .state;
+    }
+
+    as-ran : carefulCommandsAnswer (ok (record { report = report; letter = 0 })) ≡ ended unlooked os
     unfolding carefulCommandsAnswer
     as-ran =
         same-ended (sym (x .number)) (sym (x .place)) (sym (x .tries)) (sym (x .words)) (sym (x .comparisons)) (sym (x .entry)) refl (sym (x .state))
         (x .items) (x .answers) (x .list)
 
-    pub answer-refused : (r .number ≡ 0 → ⊥) → (q : CarefulCommandAnswer) → q ≡ asRun r → carefulCommandsAnswer (carefulCommands t s ni na nl) ≡ ended q os
+    answer-refused : (r .number ≡ 0 → ⊥) → carefulCommandsAnswer (carefulCommands t s ni na nl) ≡ ended unlooked os
     unfolding carefulCommands _>>=_ if_then_else_
-    answer-refused n q d =
+    answer-refused n =
         let other : eqb (report .report .number) 0 ≡ false = ne-eqb (report .report .number) 0 (λ e. n (x .number ∙ e)) in
         let done : carefulCommands t s ni na nl ≡ ok (record { report = report; letter = 0 }) = rw (x .same, other) in
-        ap carefulCommandsAnswer done ∙ as-ran ∙ ap (λ (z : CarefulCommandAnswer). ended z os) (sym d)
+        ap carefulCommandsAnswer done ∙ as-ran
 
     module _ (n : r .number ≡ 0) where
       ended-well : report .report .number ≡ 0
@@ -141,7 +156,7 @@ module _
         line : LineIs s is count l given
         line = ran-line-is l s ni (report .report) (over .line) is (x .items) (r .state) (x .state) count c
 
-        pub line-asked : HasLine s is count
+        line-asked : HasLine s is count
         line-asked = ran-line-asked l s ni (report .report) (over .line) is (x .items) (r .state) (x .state) count c
 
         looked : (p : ℕ) → Finds s is 1 count p → (f : Option ℕ) → (if eqb p count then none else some p) ≡ f
@@ -154,11 +169,9 @@ module _
             let found : firstMisread 1 (arguments s) (given .groups) ≡ f = h .same l given line ∙ e in
             rw (x .same, eq-eqb (report .report .number) 0 ended-well, over .tabled, over .formed, over .line .grouped, found, lookAt)
 
-        pub answer-clean :
-            (p : ℕ) → Finds s is 1 count p → p ≡ count → (q : CarefulCommandAnswer) → q ≡ asRun r → carefulCommandsAnswer (carefulCommands t s ni na nl) ≡ ended q os
+        answer-clean : (p : ℕ) → Finds s is 1 count p → p ≡ count → carefulCommandsAnswer (carefulCommands t s ni na nl) ≡ ended unlooked os
         unfolding lookedAt if_then_else_
-        answer-clean p h e q d =
-            ap carefulCommandsAnswer (looked p h none (rw (eq-eqb p count e))) ∙ as-ran ∙ ap (λ (z : CarefulCommandAnswer). ended z os) (sym d)
+        answer-clean p h e = ap carefulCommandsAnswer (looked p h none (rw (eq-eqb p count e))) ∙ as-ran
 
         module _ (p : ℕ) (h : Finds s is 1 count p) (e : p ≡ count → ⊥) where
           found : firstMisread 1 (arguments s) (given .groups) ≡ some p
@@ -174,10 +187,7 @@ module _
             misread = found-misread 1 (arguments s) (given .groups) p found;
           }
 
-          pub letter-asked : MisreadPlace t s is p
-          letter-asked = place
-
-          pub answer-misread :
+          answer-misread :
               (u : LetterOption)
               → MisreadTold t s is p u
               → (k : ℕ)
@@ -198,3 +208,69 @@ module _
               let after : p + 1 ≡ suc p = omega arith in
               ap carefulCommandsAnswer (looked p h (some p) (rw (ne-eqb p count e)))
               ∙ same-ended refl (sym after) (sym (x .tries)) refl (sym (x .comparisons)) (sym (x .entry)) lettered (sym (x .state)) (x .items) cleared listed
+
+-- ---- the same of what was reached, whatever marks and list the run left
+abbrev answerOf : Commanded → List ℕ → CommandAnswer
+answerOf r m = record {
+  number = r .reached .number;
+  place = r .reached .place;
+  tries = r .reached .tries;
+  words = r .reached .words;
+  comparisons = r .comparisons;
+  entry = r .entry;
+  state = rawOf m (r .reached .numbers);
+}
+
+module _ (t s is os : List ℕ) (r : Commanded) where
+  pub looks-refused : (r .reached .number ≡ 0 → ⊥) → (q : Looked) → q ≡ asRun (r .reached) → LooksAtTableRun t s is os r os q
+  looks-refused n q d = rw d (record { same = λ ni na nl m ls ran. answer-refused t s ni na nl (answerOf r m) is os ls ran n })
+
+  module _ (n : r .reached .number ≡ 0) (count : ℕ) (c : count ≡ r .reached .numbers .count) where
+    pub run-line : CanLookAtTable t s is os r → HasLine s is count
+    run-line x = line-asked t s (x .items₀) (x .answers₀) (x .list₀) (answerOf r (x .marks)) is os (x .list) (x .ran) n count c
+
+    module _ (p : ℕ) (h : Finds s is 1 count p) where
+      pub looks-clean : p ≡ count → (q : Looked) → q ≡ asRun (r .reached) → LooksAtTableRun t s is os r os q
+      looks-clean e q d = rw d (record { same = λ ni na nl m ls ran. answer-clean t s ni na nl (answerOf r m) is os ls ran n count c p h e })
+
+      module _ (e : p ≡ count → ⊥) where
+        pub run-place : CanLookAtTable t s is os r → MisreadPlace t s is p
+        run-place x = place t s (x .items₀) (x .answers₀) (x .list₀) (answerOf r (x .marks)) is os (x .list) (x .ran) n count c p h e
+
+        pub looks-misread : (u : LetterOption) → MisreadTold t s is p u → (k : ℕ) → k ≡ letterCode u → (a : List ℕ) → a ≡ sets os 0 (replicate (length os) 0)
+            → LooksAtTableRun t s is os r a (record { number = 50; place = p + 1; words = 0; letter = k })
+        looks-misread u told k d a z = record {
+          same = λ ni na nl m ls ran. answer-misread t s ni na nl (answerOf r m) is os ls ran n count c p h e u told k d a z;
+        }
+
+-- ---- and with the state put together
+pub run-looked :
+    (t s is os after : List ℕ) (r : Commanded) (q : Looked)
+    → LooksAtTableRun t s is os r after q
+    → (ni na nl : ℕ) (m ls : List ℕ)
+    → commandsAnswer (runCommands t s ni na nl) ≡ commandedAs r m is os ls
+    → (x : Raw)
+    → x ≡ rawOf m (r .reached .numbers)
+    → carefulCommandsAnswer (carefulCommands t s ni na nl)
+    ≡ some (record {
+      answer = record {
+        number = q .number;
+        place = q .place;
+        tries = r .reached .tries;
+        words = q .words;
+        comparisons = r .comparisons;
+        entry = r .entry;
+        letter = q .letter;
+        state = x;
+      };
+      items = is;
+      answers = after;
+      list = ls;
+    })
+run-looked t s is os after r q seen ni na nl m ls ran x e = rw e (seen .same ni na nl m ls ran)
+
+pub can-look :
+    (t s is os : List ℕ) (r : Commanded) (ni na nl : ℕ) (m ls : List ℕ)
+    → commandsAnswer (runCommands t s ni na nl) ≡ commandedAs r m is os ls
+    → CanLookAtTable t s is os r
+can-look t s is os r ni na nl m ls ran = record { items₀ = ni; answers₀ = na; list₀ = nl; marks = m; list = ls; ran = ran }

@@ -10,14 +10,17 @@ use Rattle.rules.specs.Sheet.{arguments}
 use Rattle.rules.specs.Split.{Split}
 use Rattle.rules.specs.Codes.{placeCode}
 use Rattle.rules.specs.Calls.{toRaw}
-use Rattle.rules.specs.Commands.{tableLetters}
+use Rattle.rules.specs.Commands.{tableLetters, runCommands}
 use Rattle.rules_careful.specs.Careful.{isMisread, misreadLetter}
-use Rattle.rules_careful.specs.CarefulCommands.{CarefulCommandReport}
+use Rattle.rules_careful.specs.CarefulCommands.{CarefulCommandReport, carefulCommands}
+use Rattle.state_marks.specs.Lent.{rawOf}
 use Rattle.command_layout.specs.Tables.{HasForms}
-use Rattle.command_run.specs.declared.CommandAnswer.{CommandAnswer}
+use Rattle.command_run.specs.declared.Commanded.{Commanded}
+use Rattle.command_run.specs.Commanded.{commandsAnswer, commandedAs}
 use Rattle.why_letter.specs.declared.LetterOption.{LetterOption}
 use Rattle.why_letter.specs.Withdrawn.{SmallLetter}
 use Rattle.careful_words.specs.Looking.{LineIs}
+use Rattle.careful.specs.declared.Looked.{Looked}
 use Rattle.careful.specs.Looked.{letterCode}
 use Rattle.careful_commands.specs.declared.CarefulCommandAnswer.{CarefulCommandAnswer}
 
@@ -34,19 +37,17 @@ pub record MisreadTold (t s words : List ℕ) (i : ℕ) (r : LetterOption) : Typ
   pub letter : SmallLetter r
   pub same : (p : MisreadPlace t s words i) → misreadLetter (tableLetters (p .forms .forms)) (arguments s) (p .given .groups) i ≡ letterCode r
 
--- ---- what the call hands back
-abbrev pub asRun : CommandAnswer → CarefulCommandAnswer
-asRun r = record {
-  number = r .number;
-  place = r .place;
-  tries = r .tries;
-  words = r .words;
-  comparisons = r .comparisons;
-  entry = r .entry;
-  letter = 0;
-  state = r .state;
-}
+-- ---- a run whose words are looked at
+-- the slices and the numbers are those that some run of the table left
+pub record CanLookAtTable (table sheet items answers : List ℕ) (r : Commanded) : Type 0 where
+  pub items₀ : ℕ
+  pub answers₀ : ℕ
+  pub list₀ : ℕ
+  pub marks : List ℕ
+  pub list : List ℕ
+  pub ran : commandsAnswer (runCommands table sheet items₀ answers₀ list₀) ≡ commandedAs r marks items answers list
 
+-- ---- what the call hands back
 -- the answer, and what the three slices hold
 pub record CarefulEnded : Type 0 where
   pub answer : CarefulCommandAnswer
@@ -73,3 +74,22 @@ carefulCommandsAnswer (ok x) = some (record {
 })
 carefulCommandsAnswer (refused e) = none
 carefulCommandsAnswer (fault e) = none
+
+-- what the run of a table told, with what was seen
+abbrev pub seenIn : Looked → Commanded → List ℕ → CarefulCommandAnswer
+seenIn q r marks = record {
+  number = q .number;
+  place = q .place;
+  tries = r .reached .tries;
+  words = q .words;
+  comparisons = r .comparisons;
+  entry = r .entry;
+  letter = q .letter;
+  state = rawOf marks (r .reached .numbers);
+}
+
+-- whatever marks and list the run left, this is the careful run
+pub record LooksAtTableRun (table sheet items answers : List ℕ) (r : Commanded) (after : List ℕ) (q : Looked) : Type 0 where
+  pub same : (ni na nl : ℕ) (marks list : List ℕ)
+      → commandsAnswer (runCommands table sheet ni na nl) ≡ commandedAs r marks items answers list
+      → carefulCommandsAnswer (carefulCommands table sheet ni na nl) ≡ some (record { answer = seenIn q r marks; items = items; answers = after; list = list })

@@ -4,11 +4,14 @@ ghost use mathlib.Core.Path.{_≡_};
 ghost use mathlib.Core.Option.{some};
 ghost use lib.ListN.{length};
 ghost use Rattle.rules_careful.specs.CarefulCommands.{carefulCommands};
-ghost use Rattle.careful_commands.specs.Looked.{MisreadPlace, MisreadTold, asRun, carefulCommandsAnswer};
+ghost use Rattle.careful_commands.specs.Looked.{MisreadPlace, MisreadTold, CanLookAtTable, LooksAtTableRun, carefulCommandsAnswer};
+use careful::Looked;
 use careful::MISREAD;
-use command_run::CommandAnswer;
+use careful::as_run;
+use command_run::Commanded;
 use form_letters::Counts;
 use rules::State;
+use run_fields::Reached;
 use split_arg::Item;
 use why_letter::LetterOption;
 use wire::wide;
@@ -30,23 +33,6 @@ pub struct CarefulCommandAnswer {
     pub state: State,
 }
 
-// What a run answers, where no word is misread.
-fn as_run(ran: CommandAnswer) -> CarefulCommandAnswer
-    ensures { λ r. ⌜ r ≡ asRun ran ⌝ }
-{
-    let state = ran.state;
-    CarefulCommandAnswer {
-        number: ran.number,
-        place: ran.place,
-        tries: ran.tries,
-        words: ran.words,
-        comparisons: ran.comparisons,
-        entry: ran.entry,
-        letter: 0,
-        state,
-    }
-}
-
 // The letter of the word at a place. The letters of all forms are gathered again: only a line that is refused pays for it.
 fn word_letter(table: &[u8], sheet: &[u8], items: &[u32], place: usize) -> LetterOption
     requires { ⌜ MisreadPlace (now table) (now sheet) (now items) place ⌝ }
@@ -65,8 +51,34 @@ fn word_letter(table: &[u8], sheet: &[u8], items: &[u32], place: usize) -> Lette
     why_letter::cluster_letter(os, &flags[0..n], &arguments[0..m])
 }
 
+// The words of a line that was run. 50 where it is accepted and an argument that looks like options is a word, and not the command
+// word: answers 0.
+fn look(table: &[u8], sheet: &[u8], items: &[u32], answers: &mut [u32], ran: Commanded) -> Looked
+    requires { ⌜ CanLookAtTable (now table) (now sheet) (now items) (now answers) ran ⌝ }
+    ensures { λ r. ⌜ LooksAtTableRun (now (table .entry)) (now (sheet .entry)) (now (items .entry)) (now (answers .entry)) ran (now (answers .exit)) r ⌝ }
+{
+    let reached: Reached = ran.reached;
+    if reached.number != 0 {
+        return as_run(reached);
+    }
+    let left = reached.numbers;
+    let count = wide(left.count);
+    let place = careful_words::first_misread(sheet, items, FIRST, count);
+    if place == count {
+        return as_run(reached);
+    }
+    wire::fill(answers, 0, answers.len(), 0);
+    let letter = word_letter(table, sheet, items, place);
+    Looked {
+        number: MISREAD,
+        place: place as u32 + 1,
+        words: 0,
+        letter: careful::letter_code(letter),
+    }
+}
+
 // A table and a sheet, as a run. 50 where it is accepted and an argument that looks like options is a word, and not the command word:
-// answers 0, the rest as the run left it.
+// answers 0, the rest as the run left it. As in a run, the state is put together once, here.
 pub fn careful_commands(
     table: &[u8],
     sheet: &[u8],
@@ -76,26 +88,19 @@ pub fn careful_commands(
 ) -> CarefulCommandAnswer
     ensures { λ r. ⌜ carefulCommandsAnswer (carefulCommands (now (table .entry)) (now (sheet .entry)) (length (now (items .entry))) (length (now (answers .entry))) (length (now (list .entry)))) ≡ some (record { answer = r; items = now (items .exit); answers = now (answers .exit); list = now (list .exit) }) ⌝ }
 {
-    let ran = command_run::run_commands(table, sheet, items, answers, list);
-    if ran.number != 0 {
-        return as_run(ran);
-    }
-    let count = wide(ran.state.count);
-    let place = careful_words::first_misread(sheet, items, FIRST, count);
-    if place == count {
-        return as_run(ran);
-    }
-    wire::fill(answers, 0, answers.len(), 0);
-    let letter = word_letter(table, sheet, items, place);
-    let state = ran.state;
+    let mut marks = split_args::unmarked();
+    let ran = command_run::run_input(table, sheet, items, answers, list, &mut marks);
+    let looked = look(table, sheet, items, answers, ran);
+    let reached: Reached = ran.reached;
+    let left = reached.numbers;
     CarefulCommandAnswer {
-        number: MISREAD,
-        place: place as u32 + 1,
-        tries: ran.tries,
-        words: 0,
+        number: looked.number,
+        place: looked.place,
+        tries: reached.tries,
+        words: looked.words,
         comparisons: ran.comparisons,
         entry: ran.entry,
-        letter: careful::letter_code(letter),
-        state,
+        letter: looked.letter,
+        state: state_marks::joined(marks, left),
     }
 }

@@ -6,11 +6,11 @@ use mathlib.Core.Option.{some, none, Option·some-injective}
 use mathlib.Core.Path.{_≡_, refl, sym, ap, _∙_}
 use Prim.Native.Nat.{ℕ, zero, suc, _+_, _-_, _*_, _≤_, _<_}
 use native.Mathlib.Omega.{arith}
-use lib.Dec.{eqb, lit<}
+use lib.Dec.{eqb, leb, lit<}
 use lib.ListN.{length, getD, drop, length-drop}
 use lib.Seq.{getD-take, getD-drop, length-take-le}
 use native.Mathlib.Nat.{add-zero}
-use borrow.Author.Tests.{not-true, not-false, eq-eqb, ne-eqb, eqb-true, eqb-false}
+use borrow.Author.Tests.{not-true, not-false, eq-eqb, ne-eqb, eqb-true, eqb-false, leb-true, leb-false}
 use Rattle.utf8.specs.Utf8.{if_then_else_}
 use Rattle.wire.specs.Wire.{areaStart, area as wireArea}
 use Rattle.wire.specs.Laws.{good-table, start-most}
@@ -177,39 +177,57 @@ module _ (s words : List ℕ) (count i : ℕ) where
         let inside = word-here y f .1 in
         length-take-le (text .length) (drop (text .offset) (sheetArea s)) (omega (arith, length-drop (text .offset) (sheetArea s)))
 
-    pub looks-short-word : getD words (7 * i + 6) 0 < 2 → WordLooks s words count i false
+    short-word : (y : rules.Item) → itemFrom (sheetArea s) (recordAt words i) ≡ some y → getD words (7 * i + 6) 0 < 2 → false ≡ looksWord y
     unfolding looksWord
-    looks-short-word h = told-word false (λ y f.
+    short-word y f h =
         let long = bytes-long y f in
-        rw (word-here y f .0) (looks-short (partBytes (sheetArea s) text) (omega (arith, size-is))))
+        rw (word-here y f .0) (looks-short (partBytes (sheetArea s) text) (omega (arith, size-is)))
 
-    module _ (two : 2 ≤ getD words (7 * i + 6) 0) (a : ℕ) (ea : a ≡ areaStart 2 (argumentCount s)) (o : ℕ) (eo : o ≡ getD words (7 * i + 5) 0) where
-      first-byte : (y : rules.Item) → itemFrom (sheetArea s) (recordAt words i) ≡ some y
+    module _ (a : ℕ) (ea : a ≡ areaStart 2 (argumentCount s)) (o : ℕ) (eo : o ≡ getD words (7 * i + 5) 0) where
+      first-byte : (y : rules.Item) → itemFrom (sheetArea s) (recordAt words i) ≡ some y → 2 ≤ getD words (7 * i + 6) 0
           → getD (partBytes (sheetArea s) text) 0 0 ≡ getD s (a + o) 0
       unfolding partBytes sheetArea wireArea
-      first-byte y f =
+      first-byte y f two =
           getD-take (text .length) (drop (text .offset) (sheetArea s)) 0 0 (omega (arith, size-is))
           ∙ getD-drop (text .offset) (sheetArea s) 0 0
           ∙ getD-drop (areaStart 2 (argumentCount s)) s (text .offset + 0) 0
           ∙ ap (λ (k : ℕ). getD s k 0) (let z : areaStart 2 (argumentCount s) + (text .offset + 0) ≡ a + o = omega (arith, offset-is) in z)
 
-      pub byte-there : HasLine s words count → i < count → a + o < length s
+      long-word : (y : rules.Item) → itemFrom (sheetArea s) (recordAt words i) ≡ some y → 2 ≤ getD words (7 * i + 6) 0 → eqb (getD s (a + o) 0) 45 ≡ looksWord y
+      unfolding looksWord
+      long-word y f two =
+          let long = bytes-long y f in
+          rw (word-here y f .0)
+          (ap (λ (b : ℕ). eqb b 45) (sym (first-byte y f two)) ∙ looks-first (partBytes (sheetArea s) text) (omega (arith, size-is)))
+
+      pub byte-fits : HasLine s words count → i < count → length s < 18446744073709551616 → a + o < 18446744073709551616
       unfolding sheetArea wireArea
-      byte-there g h =
+      byte-fits g h l =
           let (y, e) = lookup-some (itemsOf (g .given)) i (omega (arith, g .line .long)) in
           let inside = word-here y (g .line .table .at i y e) .1 in
           let start = good-table 2 (argumentCount s) s (good-sheet s (g .line .made) .table) .long in
-          omega (arith, inside, offset-is, size-is, length-drop (areaStart 2 (argumentCount s)) s, start)
+          omega (arith, inside, offset-is, length-drop (areaStart 2 (argumentCount s)) s, start)
 
-      pub byte-fits : HasLine s words count → i < count → length s < 18446744073709551616 → a + o < 18446744073709551616
-      byte-fits g h l = omega (arith, byte-there g h)
+      -- there is no such byte: the text is empty
+      pub looks-empty : length s ≤ a + o → WordLooks s words count i false
+      unfolding sheetArea wireArea
+      looks-empty h = told-word false (λ y f.
+          let inside = word-here y f .1 in
+          short-word y f (omega (arith, inside, offset-is, size-is, length-drop (areaStart 2 (argumentCount s)) s)))
 
-      pub looks-byte : (r : Bool) → r ≡ eqb (getD s (a + o) 0) 45 → WordLooks s words count i r
-      unfolding looksWord
-      looks-byte r e = told-word r (λ y f.
-          let long = bytes-long y f in
-          rw (word-here y f .0)
-          (e ∙ ap (λ (b : ℕ). eqb b 45) (sym (first-byte y f)) ∙ looks-first (partBytes (sheetArea s) text) (omega (arith, size-is))))
+      pub looks-undashed : (getD s (a + o) 0 ≡ 45 → ⊥) → WordLooks s words count i false
+      looks-undashed n = told-word false (λ y f. go y f (leb 2 (getD words (7 * i + 6) 0)) refl)
+        where
+          go : (y : rules.Item) → itemFrom (sheetArea s) (recordAt words i) ≡ some y → (b : Bool) → leb 2 (getD words (7 * i + 6) 0) ≡ b → false ≡ looksWord y
+          go y f true e = sym (ne-eqb (getD s (a + o) 0) 45 n) ∙ long-word y f (leb-true 2 (getD words (7 * i + 6) 0) e)
+          go y f false e = short-word y f (leb-false 2 (getD words (7 * i + 6) 0) e)
+
+      pub looks-dashed : getD s (a + o) 0 ≡ 45 → (r : Bool) → r ≡ leb 2 (getD words (7 * i + 6) 0) → WordLooks s words count i r
+      looks-dashed d r q = told-word r (λ y f. q ∙ go y f (leb 2 (getD words (7 * i + 6) 0)) refl)
+        where
+          go : (y : rules.Item) → itemFrom (sheetArea s) (recordAt words i) ≡ some y → (b : Bool) → leb 2 (getD words (7 * i + 6) 0) ≡ b → b ≡ looksWord y
+          go y f true e = sym (eq-eqb (getD s (a + o) 0) 45 d) ∙ long-word y f (leb-true 2 (getD words (7 * i + 6) 0) e)
+          go y f false e = short-word y f (leb-false 2 (getD words (7 * i + 6) 0) e)
 
 -- ---- and all of its argument
 and-false : (b : Bool) → (b && false) ≡ false

@@ -9,8 +9,8 @@ use wire::wide;
 // The kind of a Word. A record has the offset and the length of its text in its last two words.
 const WORD: u32 = 4;
 
-// Whether record i is a Word that begins with a dash and is longer than `-`. It reads no more of the record than it needs: most items
-// are done with after a word or two.
+// Whether record i is a Word that begins with a dash and is longer than `-`. It reads no more of the record than it needs: most words
+// are done with after their first byte. The byte that an empty one has for its first is another word's, or none.
 fn looks_like_options(sheet: &[u8], area: usize, items: &[u32], i: usize, count: usize) -> bool
     requires { ⌜ HasLine (now sheet) (now items) count × (i < count) × (area ≡ areaStart 2 (argumentCount (now sheet))) ⌝ }
     ensures { λ r. ⌜ WordLooks (now (sheet .entry)) (now (items .entry)) count i r ⌝ }
@@ -19,10 +19,14 @@ fn looks_like_options(sheet: &[u8], area: usize, items: &[u32], i: usize, count:
     if items[at] != WORD {
         return false;
     }
-    if items[at + 6] < 2 {
+    let first = area + wide(items[at + 5]);
+    if sheet.len() <= first {
         return false;
     }
-    sheet[area + wide(items[at + 5])] == b'-'
+    if sheet[first] != b'-' {
+        return false;
+    }
+    2 <= items[at + 6]
 }
 
 // Whether item i is all of its argument too.

@@ -32,10 +32,10 @@ pub struct CommandAnswer {
 }
 
 // The same with its numbers apart from the marks.
-struct Commanded {
-    comparisons: u32,
-    entry: u32,
-    reached: Reached,
+pub struct Commanded {
+    pub comparisons: u32,
+    pub entry: u32,
+    pub reached: Reached,
 }
 
 fn told(comparisons: u32, entry: u32, reached: Reached) -> Commanded
@@ -123,7 +123,7 @@ fn run_checked(
 }
 
 // The run over marks that are 0. A table's refusals, 11 and then 1 to 4, come before those of the line.
-fn run_input(
+pub fn run_input(
     table: &[u8],
     sheet: &[u8],
     items: &mut [u32],

@@ -194,7 +194,7 @@ fn input_fault(form: &[u8], sheet: &[u8], items: usize, answers: usize, list: us
 }
 
 // The run over marks that are 0.
-fn run_input(
+pub fn run_input(
     form: &[u8],
     sheet: &[u8],
     items: &mut [u32],

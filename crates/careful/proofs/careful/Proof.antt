@@ -1,14 +1,22 @@
--- The run, and then each way on. Assumes nothing.
-use Rattle.careful.proofs.Answers.{answer-refused, line-asked, answer-clean, misread-names, misread-asked, answer-misread}
+-- The run, what its words look like, and the state put together. Assumes nothing.
+use Rattle.careful.proofs.Answers.{can-look, run-looked}
 use borrow.Author.Needs.{needs}
 use Rattle.careful.proofs.careful.Statement.{statement}
 use Rattle.careful.proofs.careful.Tie as tie
 
-run-requires : tie.Need-run-requires
-run-requires c κs = search needs
+unmarked-requires : tie.Need-unmarked-requires
+unmarked-requires c κs = search needs
 
-as-run-requires : tie.Need-as-run-requires
-as-run-requires c κs = search needs
+run-input-requires : tie.Need-run-input-requires
+run-input-requires c κs = search needs
+
+look-requires : tie.Need-look-requires
+look-requires c κs =
+    let by-run = c .before .before .before .before .before .before .before .before in
+    can-look _ _ _ _ _ _ _ _ _ _ (by-run .run-input .ensures)
+
+joined-requires : tie.Need-joined-requires
+joined-requires c κs = search needs
 
 same-length : tie.Need-same-length
 same-length c = search needs
@@ -20,104 +28,20 @@ same-length-3 : tie.Need-same-length-3
 same-length-3 c = search needs
 
 returns : tie.Need-returns
-returns c = search answer-refused
-
-wide-requires : tie.Need-wide-requires
-wide-requires c κs = search needs
-
-first-misread-requires : tie.Need-first-misread-requires
-first-misread-requires c κs = search line-asked
-
-as-run-requires-2 : tie.Need-as-run-requires-2
-as-run-requires-2 c κs = search needs
-
-same-length-4 : tie.Need-same-length-4
-same-length-4 c = search needs
-
-same-length-5 : tie.Need-same-length-5
-same-length-5 c = search needs
-
-same-length-6 : tie.Need-same-length-6
-same-length-6 c = search needs
-
-returns-2 : tie.Need-returns-2
-returns-2 c = search answer-clean
-
-fill-requires : tie.Need-fill-requires
-fill-requires c κs = search needs
-
-codes-of-requires : tie.Need-codes-of-requires
-codes-of-requires c κs = search misread-names
-
-slice-aggregate-unknown-letter : tie.Need-slice-aggregate-unknown-letter
-slice-aggregate-unknown-letter c = search needs
-
-unknown-letter-requires : tie.Need-unknown-letter-requires
-unknown-letter-requires c κs =
-    let by-codes = c .before .before in
-    let by-fill = by-codes .before .before .before in
-    let by-if2 = by-fill .before .before in
-    let by-first = by-if2 .before in
-    let by-wide = by-first .before .before in
-    let by-if1 = by-wide .before .before in
-    let by-run = by-if1 .before .before .before .before .before .before .before .before in
-    misread-asked _ _ _ _ _ _ _ _ _ (by-run .run .ensures) (by-if1 .if1 .left) _ (by-wide .wide .ensures) _ (by-first .first-misread .ensures) (by-if2 .if2 .left) _ (by-codes .codes-of .ensures)
-
-cast-t30 : tie.Need-cast-t30
-cast-t30 c = search needs
-
-add-t31 : tie.Need-add-t31
-add-t31 c = search needs
-
-letter-code-requires : tie.Need-letter-code-requires
-letter-code-requires c κs = search needs
-
-same-length-7 : tie.Need-same-length-7
-same-length-7 c = search needs
-
-same-length-8 : tie.Need-same-length-8
-same-length-8 c = search needs
-
-same-length-9 : tie.Need-same-length-9
-same-length-9 c = search needs
-
-returns-3 : tie.Need-returns-3
-returns-3 c =
-    let by-unknown = c .before in
-    let by-fill = by-unknown .before .before .before .before .before .before in
-    let by-if2 = by-fill .before .before in
-    let by-first = by-if2 .before in
-    let by-wide = by-first .before .before in
-    let by-if1 = by-wide .before .before in
-    let by-run = by-if1 .before .before .before .before .before .before .before .before in
-    answer-misread _ _ _ _ _ _ _ _ _ (by-run .run .ensures) (by-if1 .if1 .left) _ (by-wide .wide .ensures) _ (by-first .first-misread .ensures) (by-if2 .if2 .left)
-    _ (by-unknown .unknown-letter .ensures) _ (c .letter-code .ensures) _ (by-fill .fill .ensures)
+returns c =
+    let by-look = c .before .before .before .before in
+    let by-run = by-look .before .before .before .before .before .before .before .before .before in
+    run-looked _ _ _ _ _ _ _ (by-look .look .ensures) _ _ _ _ _ (by-run .run-input .ensures) _ (c .joined .ensures)
 
 pub careful-spec : {M : Type 1} → statement M
 careful-spec =
     tie.close
     (tie.spec
-    run-requires
-    as-run-requires
+    unmarked-requires
+    run-input-requires
+    look-requires
+    joined-requires
     same-length
     same-length-2
     same-length-3
-    returns
-    wide-requires
-    first-misread-requires
-    as-run-requires-2
-    same-length-4
-    same-length-5
-    same-length-6
-    returns-2
-    fill-requires
-    codes-of-requires
-    slice-aggregate-unknown-letter
-    unknown-letter-requires
-    cast-t30
-    add-t31
-    letter-code-requires
-    same-length-7
-    same-length-8
-    same-length-9
-    returns-3)
+    returns)
