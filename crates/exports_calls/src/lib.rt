@@ -7,10 +7,12 @@ ghost use Rattle.rules.specs.Calls.{callRemove, callPickWinner, callSaveConflic
 ghost use Rattle.rules.specs.Calls.{callConflict, callTakePositional, callOnlyOnce};
 ghost use Rattle.rules.specs.Calls.{callMatches, callTakeFlag, callTakeArg, callTakeCmd};
 ghost use Rattle.rules.specs.Calls.{callEval};
+ghost use Rattle.rules_preview.specs.Preview.{previewFlag, previewArg, previewPositional, previewCmd};
 ghost use Rattle.eval_error.specs.Refusals.{refusalOf, refusedOf};
 ghost use Rattle.call_answers.specs.Answers.{answerOf, stateAnswerOf, plainAnswer};
 ghost use Rattle.call_answers.specs.Answers.{yesCode as doneCode, pickCode, scopeCode, scopeOrNone, conflictCode, operandCode, placeOrNone, takenCode};
 ghost use Rattle.call_item.specs.Calls.{Gets};
+ghost use Rattle.call_preview.specs.Previews.{previewAnswerOf};
 ghost use Rattle.call_lent.specs.Joined.{joined};
 ghost use Rattle.call_find.specs.Records.{callFind};
 ghost use Rattle.call_node.specs.Node.{evaluatedAnswer};
@@ -18,6 +20,7 @@ use call_answers::Answer;
 use call_answers::StateAnswer;
 use call_find::ItemRecord;
 use call_item::Got;
+use call_preview::PreviewAnswer;
 use rules::Refused;
 use rules::State;
 use run_fields::RunAnswer;
@@ -171,6 +174,59 @@ pub extern "C" fn silverpoise_take_cmd(
     ensures { λ r. ⌜ stateAnswerOf doneCode (callTakeCmd (now (form .entry)) (now (sheet .entry)) (now (items .entry)) s «record») ≡ some r ⌝ }
 {
     call_form::take_cmd(form, sheet, items, s, record)
+}
+
+#[no_mangle]
+pub extern "C" fn silverpoise_preview_flag(
+    form: &[u8],
+    sheet: &[u8],
+    items: &[u32],
+    s: State,
+    node: usize,
+    field: usize,
+) -> PreviewAnswer
+    ensures { λ r. ⌜ previewAnswerOf doneCode (previewFlag (now (form .entry)) (now (sheet .entry)) (now (items .entry)) s node field) ≡ some r ⌝ }
+{
+    call_preview::preview_flag(form, sheet, items, s, node, field)
+}
+
+#[no_mangle]
+pub extern "C" fn silverpoise_preview_arg(
+    form: &[u8],
+    sheet: &[u8],
+    items: &[u32],
+    s: State,
+    node: usize,
+    field: usize,
+) -> PreviewAnswer
+    ensures { λ r. ⌜ previewAnswerOf takenCode (previewArg (now (form .entry)) (now (sheet .entry)) (now (items .entry)) s node field) ≡ some r ⌝ }
+{
+    call_preview::preview_arg(form, sheet, items, s, node, field)
+}
+
+#[no_mangle]
+pub extern "C" fn silverpoise_preview_positional_word(
+    sheet: &[u8],
+    items: &[u32],
+    s: State,
+    field: usize,
+) -> PreviewAnswer
+    ensures { λ r. ⌜ previewAnswerOf operandCode (previewPositional (now (sheet .entry)) (now (items .entry)) s field) ≡ some r ⌝ }
+{
+    call_preview::preview_positional_word(sheet, items, s, field)
+}
+
+#[no_mangle]
+pub extern "C" fn silverpoise_preview_cmd(
+    form: &[u8],
+    sheet: &[u8],
+    items: &[u32],
+    s: State,
+    record: usize,
+) -> PreviewAnswer
+    ensures { λ r. ⌜ previewAnswerOf doneCode (previewCmd (now (form .entry)) (now (sheet .entry)) (now (items .entry)) s «record») ≡ some r ⌝ }
+{
+    call_preview::preview_cmd(form, sheet, items, s, record)
 }
 
 #[no_mangle]
