@@ -994,6 +994,11 @@ impl Held {
         self.marked(marks::mark_of(field), |state| state.remove(place));
     }
 
+    /// The places that bpaf's own `present` says are not used.
+    pub fn present(&self) -> Vec<usize> {
+        (0..self.state.items.len()).filter(|k| self.state.present(*k) == Some(true)).collect()
+    }
+
     /// Whether `get` gives the item at the place.
     pub fn get(&self, place: usize) -> bool {
         let got = self.state.get(place);

@@ -10,3 +10,4 @@ pub mod marks;
 pub mod reasons;
 pub mod looks;
 pub mod idle;
+pub mod previews;

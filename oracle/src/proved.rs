@@ -52,6 +52,17 @@ pub struct StateAnswer {
     pub state: State,
 }
 
+/// `places` is how many there are, `lower` and `upper` are the two, or 0.
+#[repr(C)]
+#[derive(Clone, Copy, Debug, PartialEq, Eq)]
+pub struct PreviewAnswer {
+    pub answer: Answer,
+    pub places: u32,
+    pub lower: u32,
+    pub upper: u32,
+    pub state: State,
+}
+
 #[repr(C)]
 #[derive(Clone, Copy, Debug, PartialEq, Eq)]
 pub struct Got {
@@ -391,6 +402,46 @@ extern "C" {
         state: State,
         record: usize,
     ) -> StateAnswer;
+    fn silverpoise_preview_flag(
+        form: *const u8,
+        k: usize,
+        sheet: *const u8,
+        n: usize,
+        items: *const u32,
+        m: usize,
+        state: State,
+        node: usize,
+        field: usize,
+    ) -> PreviewAnswer;
+    fn silverpoise_preview_arg(
+        form: *const u8,
+        k: usize,
+        sheet: *const u8,
+        n: usize,
+        items: *const u32,
+        m: usize,
+        state: State,
+        node: usize,
+        field: usize,
+    ) -> PreviewAnswer;
+    fn silverpoise_preview_positional_word(
+        sheet: *const u8,
+        n: usize,
+        items: *const u32,
+        m: usize,
+        state: State,
+        field: usize,
+    ) -> PreviewAnswer;
+    fn silverpoise_preview_cmd(
+        form: *const u8,
+        k: usize,
+        sheet: *const u8,
+        n: usize,
+        items: *const u32,
+        m: usize,
+        state: State,
+        record: usize,
+    ) -> PreviewAnswer;
     fn silverpoise_remove_in_place(state: *mut State, place: usize, field: usize) -> Answer;
     fn silverpoise_take_flag_in_place(
         state: *mut State,
@@ -618,6 +669,28 @@ pub fn take_arg(lent: &Lent, node: usize, field: usize) -> StateAnswer {
 pub fn take_cmd(lent: &Lent, record: usize) -> StateAnswer {
     let (f, s, i) = (lent.form, lent.sheet, lent.items);
     unsafe { silverpoise_take_cmd(f.as_ptr(), f.len(), s.as_ptr(), s.len(), i.as_ptr(), i.len(), *lent.state, record) }
+}
+
+pub fn preview_flag(lent: &Lent, node: usize, field: usize) -> PreviewAnswer {
+    let (f, s, i) = (lent.form, lent.sheet, lent.items);
+    let state = *lent.state;
+    unsafe { silverpoise_preview_flag(f.as_ptr(), f.len(), s.as_ptr(), s.len(), i.as_ptr(), i.len(), state, node, field) }
+}
+
+pub fn preview_arg(lent: &Lent, node: usize, field: usize) -> PreviewAnswer {
+    let (f, s, i) = (lent.form, lent.sheet, lent.items);
+    let state = *lent.state;
+    unsafe { silverpoise_preview_arg(f.as_ptr(), f.len(), s.as_ptr(), s.len(), i.as_ptr(), i.len(), state, node, field) }
+}
+
+pub fn preview_positional_word(lent: &Lent, field: usize) -> PreviewAnswer {
+    let (s, i) = (lent.sheet, lent.items);
+    unsafe { silverpoise_preview_positional_word(s.as_ptr(), s.len(), i.as_ptr(), i.len(), *lent.state, field) }
+}
+
+pub fn preview_cmd(lent: &Lent, record: usize) -> PreviewAnswer {
+    let (f, s, i) = (lent.form, lent.sheet, lent.items);
+    unsafe { silverpoise_preview_cmd(f.as_ptr(), f.len(), s.as_ptr(), s.len(), i.as_ptr(), i.len(), *lent.state, record) }
 }
 
 pub fn remove_in_place(state: &mut State, place: usize, field: usize) -> Answer {

@@ -162,6 +162,20 @@ fn random_call(rng: &mut Rng, form: &Form, count: usize, second: State, beyond: 
     }
 }
 
+/// One of the four takes, mostly of a node of its kind.
+pub fn random_take(rng: &mut Rng, form: &Form, beyond: usize) -> Call {
+    let node = |rng: &mut Rng, kind: u16| {
+        let such: Vec<usize> = (0..form.nodes.len()).filter(|k| form.nodes[*k].kind == kind).collect();
+        if such.is_empty() || rng.chance(1, 8) { rng.below(form.nodes.len() + beyond) } else { *rng.pick(&such) }
+    };
+    match rng.below(4) {
+        0 => Call::TakeFlag(node(rng, FLAG), some_field(rng, form.fields.len())),
+        1 => Call::TakeArg(node(rng, ARGUMENT), some_field(rng, form.fields.len())),
+        2 => Call::TakePositional(some_field(rng, FIELDS)),
+        _ => Call::TakeCmd(rng.below(form.names.len() + beyond)),
+    }
+}
+
 /// The bytes of a form and of a sheet, its items and the state after the split.
 pub type Start = (Vec<u8>, Vec<u8>, Vec<u32>, State);
 
@@ -283,6 +297,14 @@ impl Walk {
     pub fn first_match(&self, node: usize) -> Option<usize> {
         let matches = |i: &usize| self.held.matches_arg(&self.form, node, *i) == Some(true);
         (0..self.records.len()).find(|i| self.held.get(*i) && matches(i))
+    }
+
+    /// A take on a copy of the state: what it said, and the places that were present before and are not after.
+    pub fn preview(&self, call: &Call) -> (Said, Vec<usize>) {
+        let mut held = self.held.clone();
+        let said = theirs(&mut held, &self.held, &self.form, &self.records, call);
+        let after = held.present();
+        (said, self.held.present().into_iter().filter(|k| !after.contains(k)).collect())
     }
 
     /// One node's `eval` on a copy of the state: its answer, what is missing, and the state that it left.
@@ -426,6 +448,20 @@ impl Forgery {
 
     fn call(&self, rng: &mut Rng, beyond: usize) -> Call {
         random_call(rng, &self.good, self.count, self.second, beyond)
+    }
+
+    pub fn take(&self, rng: &mut Rng) -> Call {
+        random_take(rng, &self.good, 3)
+    }
+
+    /// Some of the unused places are in conflict, each with a place that is there.
+    pub fn with_conflicts(mut self, rng: &mut Rng) -> Forgery {
+        for k in 0..self.count {
+            if self.state.marks[k] == 0 && rng.chance(1, 4) {
+                self.state.marks[k] = 2 + rng.below(self.count) as u16;
+            }
+        }
+        self
     }
 }
 

@@ -21,6 +21,7 @@ mod looked;
 mod marks;
 #[cfg(live)]
 mod missing;
+mod previews;
 mod replay;
 mod run;
 #[cfg(live)]
@@ -133,6 +134,7 @@ pub fn compare(layer: &str, seed: u64, count: Option<u64>) -> Option<Compared> {
         "careful-batches" => careful_batches::compare(seed, count.unwrap_or(100_000)),
         "careful-commands" => careful_commands::compare(seed, count.unwrap_or(1_000_000)),
         "idle" => idle::compare(seed, count.unwrap_or(1_000_000)),
+        "preview" => previews::compare(seed, count.unwrap_or(300_000)),
         "forged-tables" => tables::compare(seed, count.unwrap_or(200_000)),
         "why" => why::compare(seed, count.unwrap_or(1_000_000)),
         "careful" => careful::compare(seed, count.unwrap_or(1_000_000)),
