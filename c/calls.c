@@ -128,6 +128,12 @@ static bool leaves(SilverpoiseStateAnswer a, uint32_t number, uint32_t place, ui
          same(a.state, s);
 }
 
+// A preview beside the take itself on the same state, and its places.
+static bool shows(SilverpoisePreviewAnswer p, SilverpoiseStateAnswer a, uint32_t places, uint32_t lower, uint32_t upper) {
+  return leaves(a, p.number, p.place, p.found, p.first, p.second, p.state) && p.places == places && p.lower == lower &&
+         p.upper == upper;
+}
+
 static bool refused(SilverpoiseRefused r, uint32_t number, uint32_t place) { return r.number == number && r.place == place; }
 
 static bool told(SilverpoiseTold t, uint32_t number, uint32_t answer) {
@@ -938,6 +944,47 @@ static void form_calls(void) {
   CHECK(leaves(a, 0, 0, 1, 0, 0, taken));
 }
 
+// What a take would do, and the take.
+#define FLAG(s, node, field)                                  \
+  silverpoise_preview_flag(FORM, SHEET, ITEMS, s, node, field), \
+      silverpoise_take_flag(FORM, SHEET, ITEMS, s, node, field)
+#define ARG(s, node, field)                                  \
+  silverpoise_preview_arg(FORM, SHEET, ITEMS, s, node, field), \
+      silverpoise_take_arg(FORM, SHEET, ITEMS, s, node, field)
+#define OPERAND(s, field)                                   \
+  silverpoise_preview_positional_word(SHEET, ITEMS, s, field), \
+      silverpoise_take_positional_word(SHEET, ITEMS, s, field)
+#define CMD(s, record)                                  \
+  silverpoise_preview_cmd(FORM, SHEET, ITEMS, s, record), \
+      silverpoise_take_cmd(FORM, SHEET, ITEMS, s, record)
+
+static void previews(void) {
+  CHECK(shows(FLAG(S, 0, 0), 1, 0, 0) && shows(FLAG(S0, 0, 0), 0, 0, 0));
+  CHECK(shows(ARG(S, 2, 2), 2, 1, 2) && shows(ARG(S1, 2, 2), 0, 0, 0));
+  CHECK(shows(OPERAND(S, 15), 1, 2, 0));
+  // places in conflict are present: they are used, or they stay
+  SilverpoiseState lost = state(2, 3, 4, 3, 2);
+  CHECK(shows(ARG(lost, 2, 2), 2, 1, 2) && shows(OPERAND(lost, 0), 1, 2, 0) && shows(FLAG(lost, 0, 4), 1, 0, 0));
+  SilverpoisePreviewAnswer p = silverpoise_preview_arg(FORM, SHEET, ITEMS, lost, 2, 2);
+  CHECK(p.first == 2 && same(p.state, state(2, BY_W, BY_W, 1, 3)));
+  // a command that is not taken: no refusal, and `current` is cleared
+  CHECK(shows(CMD(S0, 2), 0, 0, 0));
+  p = silverpoise_preview_cmd(FORM, SHEET, ITEMS, S0, 2);
+  CHECK(p.number == 0 && p.found == 0 && same(p.state, state(BY_V, 0, 0, 2, 0)));
+  // refused as the takes are: no places, the state as it was given
+  CHECK(shows(ARG(S2, 2, 2), 0, 0, 0) && shows(ARG(S2, 2, 5), 0, 0, 0) && shows(OPERAND(S2, 0), 0, 0, 0));
+  p = silverpoise_preview_arg(FORM, SHEET, ITEMS, S2, 2, 2);
+  CHECK(p.number == 22 && p.place == 2 && same(p.state, S2));
+  p = silverpoise_preview_flag(FORM, SHEET, ITEMS, S, 0, 5);
+  CHECK(p.number == 28 && p.place == 0 && p.places == 0 && same(p.state, S));
+  p = silverpoise_preview_positional_word(SHEET, ITEMS, S2, 0);
+  CHECK(p.number == 20 && p.place == 0 && p.places == 0 && same(p.state, S2));
+  lost.count = 4;
+  CHECK(shows(FLAG(lost, 0, 0), 0, 0, 0) && shows(CMD(lost, 2), 0, 0, 0));
+  p = silverpoise_preview_cmd(FORM, SHEET, ITEMS, lost, 2);
+  CHECK(p.number == 29 && p.places == 0 && same(p.state, lost));
+}
+
 static void lent_calls(void) {
   SilverpoiseState *lent = (SilverpoiseState *)lend(&S, sizeof S);
   SilverpoiseItemRecord *records = (SilverpoiseItemRecord *)lend(items, 3 * sizeof *records);
@@ -998,6 +1045,7 @@ int main(void) {
   forged_marks();
   item_calls();
   form_calls();
+  previews();
   lent_calls();
 
   free(form);

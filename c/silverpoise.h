@@ -227,6 +227,15 @@ typedef struct {
   SilverpoiseState state;
 } SilverpoiseStateAnswer;
 
+// What a take would do: its own answer; how many places it would use, and the two, the lower one first; and the state that would
+// result. A place that there is not is 0. Refused, there are none, and the state is the one that was given.
+typedef struct {
+  uint32_t number, place;
+  uint32_t found, first, second;
+  uint32_t places, lower, upper;
+  SilverpoiseState state;
+} SilverpoisePreviewAnswer;
+
 typedef struct {
   uint32_t number, place;
   SilverpoiseState state;
@@ -572,6 +581,25 @@ SilverpoiseStateAnswer silverpoise_take_arg(const uint8_t *form, size_t form_cou
 SilverpoiseStateAnswer silverpoise_take_cmd(const uint8_t *form, size_t form_count, const uint8_t *sheet, size_t sheet_count,
                                             const uint32_t *items, size_t item_count, SilverpoiseState state, size_t record);
 
+// ---- What a take would do ----
+//
+// Each is given and answers what the take of the same name is and does, and is refused as that is. The places are exactly those
+// that are present in the given state and used in the one that would result: none; one; or two, of an argument its key and its
+// value. A place that lost a choice is present. Every other mark stays.
+SilverpoisePreviewAnswer silverpoise_preview_flag(const uint8_t *form, size_t form_count, const uint8_t *sheet,
+                                                  size_t sheet_count, const uint32_t *items, size_t item_count,
+                                                  SilverpoiseState state, size_t node, size_t field);
+SilverpoisePreviewAnswer silverpoise_preview_arg(const uint8_t *form, size_t form_count, const uint8_t *sheet,
+                                                 size_t sheet_count, const uint32_t *items, size_t item_count,
+                                                 SilverpoiseState state, size_t node, size_t field);
+SilverpoisePreviewAnswer silverpoise_preview_positional_word(const uint8_t *sheet, size_t sheet_count, const uint32_t *items,
+                                                             size_t item_count, SilverpoiseState state, size_t field);
+
+// A command that is not taken has number 0, found 0 and no places, and `current` of the state is none, as after the take.
+SilverpoisePreviewAnswer silverpoise_preview_cmd(const uint8_t *form, size_t form_count, const uint8_t *sheet,
+                                                 size_t sheet_count, const uint32_t *items, size_t item_count,
+                                                 SilverpoiseState state, size_t record);
+
 // ---- A state that is lent, and items as structs ----
 
 // As silverpoise_remove and silverpoise_take_flag. Refused, the lent state is as it was.
@@ -620,6 +648,9 @@ SILVERPOISE_ASSERT(offsetof(SilverpoiseIdleAnswer, nodes) == 8, "nodes of Silver
 SILVERPOISE_ASSERT(sizeof(SilverpoiseAnswer) == 20, "SilverpoiseAnswer");
 SILVERPOISE_ASSERT(sizeof(SilverpoiseStateAnswer) == 552, "SilverpoiseStateAnswer");
 SILVERPOISE_ASSERT(offsetof(SilverpoiseStateAnswer, state) == 20, "state of SilverpoiseStateAnswer");
+SILVERPOISE_ASSERT(sizeof(SilverpoisePreviewAnswer) == 564, "SilverpoisePreviewAnswer");
+SILVERPOISE_ASSERT(offsetof(SilverpoisePreviewAnswer, places) == 20, "places of SilverpoisePreviewAnswer");
+SILVERPOISE_ASSERT(offsetof(SilverpoisePreviewAnswer, state) == 32, "state of SilverpoisePreviewAnswer");
 SILVERPOISE_ASSERT(sizeof(SilverpoiseSplitAnswer) == 540, "SilverpoiseSplitAnswer");
 SILVERPOISE_ASSERT(offsetof(SilverpoiseSplitAnswer, state) == 8, "state of SilverpoiseSplitAnswer");
 SILVERPOISE_ASSERT(sizeof(SilverpoiseRunAnswer) == 548, "SilverpoiseRunAnswer");

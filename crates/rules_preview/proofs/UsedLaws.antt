@@ -24,7 +24,7 @@ from-least j k [] us h = tt
 from-least j k (m ∷ ms) [] h = tt
 from-least j k (m ∷ ms) (u ∷ us) h =
     let rest = from-least j (suc k) ms us (omega arith) in
-    if-elim (All (λ i. j ≤ i)) (present m && parsed u) _ _ (λ _. (h, rest)) (λ _. rest)
+    if-elim (All (λ i. j ≤ i)) _ _ _ (λ _. (h, rest)) (λ _. rest)
 
 from-rising : (k : ℕ) (ms us : List ℕ) → Rising (usedFrom k ms us)
 unfolding usedFrom
@@ -32,7 +32,7 @@ from-rising k [] us = tt
 from-rising k (m ∷ ms) [] = tt
 from-rising k (m ∷ ms) (u ∷ us) =
     let rest = from-rising (suc k) ms us in
-    if-elim Rising (present m && parsed u) _ _ (λ _. (from-least (suc k) (suc k) ms us (omega arith), rest)) (λ _. rest)
+    if-elim Rising _ _ _ (λ _. (from-least (suc k) (suc k) ms us (omega arith), rest)) (λ _. rest)
 
 pub between-rising : (ms us : List ℕ) → Rising (usedBetween ms us)
 unfolding usedBetween
@@ -64,10 +64,10 @@ from-exactly k (m ∷ ms) [] i = and-false (presentAt (m ∷ ms) i)
     and-false false = refl
 from-exactly k (m ∷ ms) (u ∷ us) zero =
     let z : k + 0 ≡ k = omega arith in
-    rw z (from-here (present m && parsed u) k (usedFrom (suc k) ms us) (below-none k (usedFrom (suc k) ms us) (from-least (suc k) (suc k) ms us (omega arith))))
+    rw z (from-here _ k (usedFrom (suc k) ms us) (below-none k (usedFrom (suc k) ms us) (from-least (suc k) (suc k) ms us (omega arith))))
 from-exactly k (m ∷ ms) (u ∷ us) (suc i) =
     let z : k + suc i ≡ suc k + i = omega arith in
-    from-later (present m && parsed u) k i (usedFrom (suc k) ms us) ∙ rw z (from-exactly (suc k) ms us i)
+    from-later _ k i (usedFrom (suc k) ms us) ∙ rw z (from-exactly (suc k) ms us i)
 
 pub between-exactly : (ms us : List ℕ) (i : ℕ) → contains (usedBetween ms us) i ≡ (presentAt ms i && usedAt us i)
 unfolding usedBetween

@@ -162,16 +162,26 @@ fn random_call(rng: &mut Rng, form: &Form, count: usize, second: State, beyond: 
     }
 }
 
-/// One of the four takes, mostly of a node of its kind.
+/// One of the four takes: mostly one that the form has a node or a name for, else with any number, or a little beyond.
 pub fn random_take(rng: &mut Rng, form: &Form, beyond: usize) -> Call {
-    let node = |rng: &mut Rng, kind: u16| {
-        let such: Vec<usize> = (0..form.nodes.len()).filter(|k| form.nodes[*k].kind == kind).collect();
-        if such.is_empty() || rng.chance(1, 8) { rng.below(form.nodes.len() + beyond) } else { *rng.pick(&such) }
-    };
-    match rng.below(4) {
-        0 => Call::TakeFlag(node(rng, FLAG), some_field(rng, form.fields.len())),
-        1 => Call::TakeArg(node(rng, ARGUMENT), some_field(rng, form.fields.len())),
-        2 => Call::TakePositional(some_field(rng, FIELDS)),
+    let (field, any) = (some_field(rng, form.fields.len()), some_field(rng, FIELDS));
+    let mut takes = vec![Call::TakePositional(any)];
+    for (k, node) in form.nodes.iter().enumerate() {
+        match node.kind {
+            FLAG => takes.push(Call::TakeFlag(k, field)),
+            ARGUMENT => takes.extend([Call::TakeArg(k, field), Call::TakeArg(k, field)]),
+            _ => {}
+        }
+    }
+    let commands = (0..form.names.len()).filter(|k| form.names[*k].ty <= LONG);
+    takes.extend(commands.map(Call::TakeCmd));
+    if rng.chance(7, 8) {
+        return rng.pick(&takes).clone();
+    }
+    let node = rng.below(form.nodes.len() + beyond);
+    match rng.below(3) {
+        0 => Call::TakeFlag(node, field),
+        1 => Call::TakeArg(node, field),
         _ => Call::TakeCmd(rng.below(form.names.len() + beyond)),
     }
 }

@@ -50,7 +50,7 @@ impl Met {
             goal("refused", self.refused, 10),
             goal("of a command that is not taken, with a current place to clear", self.cleared, 100),
             goal("with conflicts among the marks", self.conflicts, 10),
-            goal("that would use a place in conflict", self.conflicts_used, 100),
+            goal("that would use a place in conflict", self.conflicts_used, 200),
             Goal { what: "beside bpaf's own take", met: self.bpaf, least: live },
         ]
     }
@@ -121,7 +121,7 @@ fn on_walk(rng: &mut Rng, compared: &mut Compared, met: &mut Met) {
     }
 }
 
-/// So many previews; where bpaf is there, two of three are beside it too.
+/// So many previews; where bpaf is there, half of them and more are beside it too, but for those that it cannot be told.
 pub fn compare(seed: u64, count: u64) -> Compared {
     let mut rng = Rng::new(seed);
     let (mut compared, mut met) = (Compared::default(), Met::default());
@@ -130,6 +130,6 @@ pub fn compare(seed: u64, count: u64) -> Compared {
         #[cfg(live)]
         on_walk(&mut rng, &mut compared, &mut met);
     }
-    compared.goals = met.goals(count, if cfg!(live) { count / 3 } else { 0 });
+    compared.goals = met.goals(count, if cfg!(live) { count / 4 } else { 0 });
     compared
 }
