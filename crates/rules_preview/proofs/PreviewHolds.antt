@@ -97,9 +97,9 @@ module _ {A : Type 0} (Q : A → List ℕ → State → Type 0) (x : Raw) where
         shown = previewed x c;
         answered = refl;
         taken = refl;
+        exactly = between-exactly (x .marks) (c .state .marks);
         rising = between-rising (x .marks) (c .state .marks);
         few = rw (did-places Q x t did) (did-few Q x t did);
-        exactly = between-exactly (x .marks) (c .state .marks);
         others = λ i h. did-others Q x t did i (rw (did-places Q x t did) at h);
         refused = λ h. absurd (h refl);
       }
@@ -109,9 +109,9 @@ module _ {A : Type 0} (Q : A → List ℕ → State → Type 0) (x : Raw) where
         shown = previewed x c;
         answered = refl;
         taken = refl;
+        exactly = between-exactly (x .marks) (x .marks);
         rising = between-rising (x .marks) (x .marks);
         few = rw (between-same (x .marks)) (omega arith);
-        exactly = between-exactly (x .marks) (x .marks);
         others = λ i h. refl;
         refused = λ h. (refl, between-same (x .marks), refl);
       }

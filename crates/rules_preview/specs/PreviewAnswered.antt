@@ -26,10 +26,10 @@ pub record Shows {A : Type 0} (x : Raw) (take : Outcome (Called A)) (preview : O
   pub shown : Previewed A
   pub answered : preview ≡ ok shown
   pub taken : take ≡ ok (shown .taken)
-  pub rising : Rising (shown .places)
-  pub few : length (shown .places) ≤ 2
   -- a place is among them exactly if it is present before and used after
   pub exactly : (i : ℕ) → contains (shown .places) i ≡ (presentAt (x .marks) i && usedAt (shown .taken .state .marks) i)
+  pub rising : Rising (shown .places)
+  pub few : length (shown .places) ≤ 2
   -- every other mark stays, also those past the count
   pub others : (i : ℕ) → contains (shown .places) i ≡ false → getD (shown .taken .state .marks) i 0 ≡ getD (x .marks) i 0
   -- refused, there are none, and the state is the one that was given
