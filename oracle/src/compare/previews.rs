@@ -48,7 +48,7 @@ impl Met {
             goal("of one place", self.one, 10),
             goal("answered, of no place", self.none, 10),
             goal("refused", self.refused, 10),
-            goal("of a command that is not taken, with a current place to clear", self.cleared, 100),
+            goal("of a command that is not taken, with a current place to clear", self.cleared, 200),
             goal("with conflicts among the marks", self.conflicts, 10),
             goal("that would use a place in conflict", self.conflicts_used, 200),
             Goal { what: "beside bpaf's own take", met: self.bpaf, least: live },
