@@ -3,14 +3,14 @@ use mathlib.Core.Bool.{Bool, true, false, not, _&&_}
 use mathlib.Core.List.{List, [], _∷_, flatten}
 use mathlib.Core.Logic.{inl}
 use mathlib.Core.Option.{some, none, Option·some-injective}
-use mathlib.Core.Path.{_≡_, refl, sym, ap, _∙_}
-use Prim.Native.Nat.{ℕ, zero, suc, _+_, _-_, _*_, _≤_, _<_}
+use mathlib.Core.Path.{_≡_, refl, sym, ap, subst, _∙_}
+use Prim.Native.Nat.{ℕ, zero, suc, _+_, _-_, _*_, _/_, _≤_, _<_}
 use native.Mathlib.Omega.{arith}
-use lib.Dec.{eqb, leb, lit<}
+use lib.Dec.{eqb, lit<}
 use lib.ListN.{length, getD, drop, length-drop}
 use lib.Seq.{getD-take, getD-drop, length-take-le}
 use native.Mathlib.Nat.{add-zero}
-use borrow.Author.Tests.{not-true, not-false, eq-eqb, ne-eqb, eqb-true, eqb-false, leb-true, leb-false}
+use borrow.Author.Tests.{not-true, not-false, eq-eqb, ne-eqb, eqb-true, eqb-false}
 use Rattle.utf8.specs.Utf8.{if_then_else_}
 use Rattle.wire.specs.Wire.{areaStart, area as wireArea}
 use Rattle.wire.specs.Laws.{good-table, start-most}
@@ -33,7 +33,7 @@ use Rattle.split_arg.specs.Items.{recordAt, partAt, itemOf}
 use Rattle.take_search.specs.Items.{Table, partBytes}
 use Rattle.take_search.proofs.Items.{is-short, is-long, is-arg-word, is-word, is-pos-word}
 use Rattle.why_letter.specs.Withdrawn.{RestTold}
-use Rattle.careful_words.specs.Looking.{looksWord, LineIs, HasLine, WordLooks, LooksAt, Finds}
+use Rattle.careful_words.specs.Looking.{looksWord, LineIs, HasLine, BeginsRecord, WordLooks, LooksAt, Finds}
 
 -- ---- a text
 pub looks-short : (os : List ℕ) → length os < 2 → false ≡ looksLikeOptions os
@@ -72,12 +72,12 @@ module _ (s words : List ℕ) (from count : ℕ) where
     pub behind : from ≤ i
     pub none : (l : Letters) (x : Split) → LineIs s words count l x → (j : ℕ) → from ≤ j → j < i → isMisread (arguments s) (x .groups) j ≡ false
 
-  pub clean-first : Clean from
+  clean-first : Clean from
   clean-first = record { behind = omega arith; none = λ l x g j f h. absurd (omega arith) }
 
   module _ (i : ℕ) (c : Clean i) where
-    module _ (h : i < count) (r : Bool) (t : LooksAt s words count i r) where
-      pub clean-next : r ≡ false → Clean (i + 1)
+    module _ (h : i < count) (r : Bool) (t : LooksAt s words count (7 * i) r) where
+      clean-next : r ≡ false → Clean (i + 1)
       clean-next f = record {
         behind = omega (arith, c .behind);
         none = λ l x g j a b. go l x g j a b (eqb j i) refl;
@@ -85,10 +85,10 @@ module _ (s words : List ℕ) (from count : ℕ) where
         where
           go : (l : Letters) (x : Split) → LineIs s words count l x → (j : ℕ) → from ≤ j → j < i + 1 → (e : Bool) → eqb j i ≡ e
               → isMisread (arguments s) (x .groups) j ≡ false
-          go l x g j a b true e = let z : j ≡ i = eqb-true j i e in ap (isMisread (arguments s) (x .groups)) z ∙ sym (t .same l x g) ∙ f
+          go l x g j a b true e = let z : j ≡ i = eqb-true j i e in ap (isMisread (arguments s) (x .groups)) z ∙ sym (t .same i refl l x g) ∙ f
           go l x g j a b false e = let d = eqb-false j i e in c .none l x g j a (omega arith)
 
-      pub found-here : r ≡ true → Finds s words from count i
+      found-here : r ≡ true → Finds s words from count i
       unfolding firstMisread if_then_else_ itemsOf
       found-here e = record {
         within = omega arith;
@@ -96,10 +96,10 @@ module _ (s words : List ℕ) (from count : ℕ) where
             let n : length (flatten (x .groups)) ≡ count = g .long in
             rw (ne-eqb i count (λ z. omega arith))
             (one-fault (isMisread (arguments s) (x .groups)) (length (flatten (x .groups)) - from) from i (c .behind) (omega (arith, n, c .behind))
-            (sym (t .same l x g) ∙ e) (λ j a b. c .none l x g j a b));
+            (sym (t .same i refl l x g) ∙ e) (λ j a b. c .none l x g j a b));
       }
 
-    pub found-none : count ≤ i → Finds s words from count count
+    found-none : count ≤ i → Finds s words from count count
     unfolding firstMisread if_then_else_ itemsOf
     found-none h = record {
       within = omega arith;
@@ -108,6 +108,38 @@ module _ (s words : List ℕ) (from count : ℕ) where
           rw (eq-eqb count count refl)
           (none-fault (isMisread (arguments s) (x .groups)) (length (flatten (x .groups)) - from) from (λ j a b. c .none l x g j a (omega (arith, n))));
     }
+
+  -- the same, up to the record that begins at a word
+  pub record CleanTo (at : ℕ) : Type 0 where
+    pub place : ℕ
+    pub here : at ≡ 7 * place
+    pub clean : Clean place
+
+  pub clean-from : (at : ℕ) → at ≡ 7 * from → CleanTo at
+  clean-from at e = record { place = from; here = e; clean = clean-first }
+
+  module _ (at : ℕ) (c : CleanTo at) (end : ℕ) (f : end ≡ 7 * count) where
+    pub is-record : at < end → BeginsRecord count at
+    is-record h = record { place = c .place; here = c .here; below = omega (arith, c .here) }
+
+    module _ (h : at < end) (r : Bool) (t : LooksAt s words count at r) where
+      here : LooksAt s words count (7 * c .place) r
+      here = subst (λ (k : ℕ). LooksAt s words count k r) (c .here) t
+
+      pub clean-on : r ≡ false → CleanTo (at + 7)
+      clean-on e = record {
+        place = c .place + 1;
+        here = omega (arith, c .here);
+        clean = clean-next (c .place) (c .clean) (omega (arith, c .here)) r here e;
+      }
+
+      pub found-at : r ≡ true → (p : ℕ) → p ≡ at / 7 → Finds s words from count p
+      found-at e p q =
+          let same : p ≡ c .place = omega (arith, c .here) in
+          rw same (found-here (c .place) (c .clean) (omega (arith, c .here)) r here e)
+
+    pub found-end : end ≤ at → Finds s words from count count
+    found-end h = found-none (c .place) (c .clean) (omega (arith, c .here))
 
 -- ---- an item
 -- word k of record i
@@ -147,87 +179,74 @@ no-word area r y f n = go (itemOf r) refl
     go (Word t) e = absurd (n (word-kind r t e))
     go (PosWord t) e = rw (is-pos-word area r y f (itemOf r) refl t e .0)
 
-module _ (s words : List ℕ) (count i : ℕ) where
+module _ (s words : List ℕ) (count at : ℕ) where
   -- what is told of the item's record
   told-word : (r : Bool)
-      → ((y : rules.Item) → itemFrom (sheetArea s) (recordAt words i) ≡ some y → r ≡ looksWord y)
-      → WordLooks s words count i r
-  told-word r h = record { same = λ l x g y e. h y (g .table .at i y e) }
+      → ((i : ℕ) → at ≡ 7 * i → (y : rules.Item) → itemFrom (sheetArea s) (recordAt words i) ≡ some y → r ≡ looksWord y)
+      → WordLooks s words count at r
+  told-word r h = record { same = λ i w l x g y e. h i w y (g .table .at i y e) }
 
-  pub looks-other : (getD words (7 * i) 0 ≡ 4 → ⊥) → WordLooks s words count i false
-  looks-other n = told-word false (λ y f. sym (no-word (sheetArea s) (recordAt words i) y f (λ e. n (sym (kind-at words i) ∙ e))))
+  pub looks-other : (getD words at 0 ≡ 4 → ⊥) → WordLooks s words count at false
+  looks-other n = told-word false (λ i w y f.
+      sym (no-word (sheetArea s) (recordAt words i) y f (λ e. n (ap (λ (k : ℕ). getD words k 0) w ∙ sym (kind-at words i) ∙ e))))
 
-  module _ (k : getD words (7 * i) 0 ≡ 4) where
-    abbrev text : Part
-    text = partAt (recordAt words i) 5
+  module _ (k : getD words at 0 ≡ 4) where
+    module _ (i : ℕ) (w : at ≡ 7 * i) where
+      abbrev text : Part
+      text = partAt (recordAt words i) 5
 
-    word-here : (y : rules.Item) → itemFrom (sheetArea s) (recordAt words i) ≡ some y
-        → (y ≡ rules.Word (partBytes (sheetArea s) text)) × (text .offset + text .length ≤ length (sheetArea s))
-    word-here y f = is-word (sheetArea s) (recordAt words i) y f (itemOf (recordAt words i)) refl text (is-the-word (recordAt words i) (kind-at words i ∙ k))
+      word-here : (y : rules.Item) → itemFrom (sheetArea s) (recordAt words i) ≡ some y
+          → (y ≡ rules.Word (partBytes (sheetArea s) text)) × (text .offset + text .length ≤ length (sheetArea s))
+      word-here y f =
+          is-word (sheetArea s) (recordAt words i) y f (itemOf (recordAt words i)) refl text
+          (is-the-word (recordAt words i) (kind-at words i ∙ sym (ap (λ (j : ℕ). getD words j 0) w) ∙ k))
 
-    size-is : text .length ≡ getD words (7 * i + 6) 0
-    size-is = word-at words i 6 (lit< tt)
+      size-is : text .length ≡ getD words (at + 6) 0
+      size-is = rw w (word-at words i 6 (lit< tt))
 
-    offset-is : text .offset ≡ getD words (7 * i + 5) 0
-    offset-is = word-at words i 5 (lit< tt)
+      offset-is : text .offset ≡ getD words (at + 5) 0
+      offset-is = rw w (word-at words i 5 (lit< tt))
 
-    bytes-long : (y : rules.Item) → itemFrom (sheetArea s) (recordAt words i) ≡ some y → length (partBytes (sheetArea s) text) ≡ text .length
-    unfolding partBytes
-    bytes-long y f =
-        let inside = word-here y f .1 in
-        length-take-le (text .length) (drop (text .offset) (sheetArea s)) (omega (arith, length-drop (text .offset) (sheetArea s)))
-
-    short-word : (y : rules.Item) → itemFrom (sheetArea s) (recordAt words i) ≡ some y → getD words (7 * i + 6) 0 < 2 → false ≡ looksWord y
-    unfolding looksWord
-    short-word y f h =
-        let long = bytes-long y f in
-        rw (word-here y f .0) (looks-short (partBytes (sheetArea s) text) (omega (arith, size-is)))
-
-    module _ (a : ℕ) (ea : a ≡ areaStart 2 (argumentCount s)) (o : ℕ) (eo : o ≡ getD words (7 * i + 5) 0) where
-      first-byte : (y : rules.Item) → itemFrom (sheetArea s) (recordAt words i) ≡ some y → 2 ≤ getD words (7 * i + 6) 0
-          → getD (partBytes (sheetArea s) text) 0 0 ≡ getD s (a + o) 0
-      unfolding partBytes sheetArea wireArea
-      first-byte y f two =
-          getD-take (text .length) (drop (text .offset) (sheetArea s)) 0 0 (omega (arith, size-is))
-          ∙ getD-drop (text .offset) (sheetArea s) 0 0
-          ∙ getD-drop (areaStart 2 (argumentCount s)) s (text .offset + 0) 0
-          ∙ ap (λ (k : ℕ). getD s k 0) (let z : areaStart 2 (argumentCount s) + (text .offset + 0) ≡ a + o = omega (arith, offset-is) in z)
-
-      long-word : (y : rules.Item) → itemFrom (sheetArea s) (recordAt words i) ≡ some y → 2 ≤ getD words (7 * i + 6) 0 → eqb (getD s (a + o) 0) 45 ≡ looksWord y
-      unfolding looksWord
-      long-word y f two =
-          let long = bytes-long y f in
-          rw (word-here y f .0)
-          (ap (λ (b : ℕ). eqb b 45) (sym (first-byte y f two)) ∙ looks-first (partBytes (sheetArea s) text) (omega (arith, size-is)))
-
-      pub byte-fits : HasLine s words count → i < count → length s < 18446744073709551616 → a + o < 18446744073709551616
-      unfolding sheetArea wireArea
-      byte-fits g h l =
-          let (y, e) = lookup-some (itemsOf (g .given)) i (omega (arith, g .line .long)) in
-          let inside = word-here y (g .line .table .at i y e) .1 in
-          let start = good-table 2 (argumentCount s) s (good-sheet s (g .line .made) .table) .long in
-          omega (arith, inside, offset-is, length-drop (areaStart 2 (argumentCount s)) s, start)
-
-      -- there is no such byte: the text is empty
-      pub looks-empty : length s ≤ a + o → WordLooks s words count i false
-      unfolding sheetArea wireArea
-      looks-empty h = told-word false (λ y f.
+      bytes-long : (y : rules.Item) → itemFrom (sheetArea s) (recordAt words i) ≡ some y → length (partBytes (sheetArea s) text) ≡ text .length
+      unfolding partBytes
+      bytes-long y f =
           let inside = word-here y f .1 in
-          short-word y f (omega (arith, inside, offset-is, size-is, length-drop (areaStart 2 (argumentCount s)) s)))
+          length-take-le (text .length) (drop (text .offset) (sheetArea s)) (omega (arith, length-drop (text .offset) (sheetArea s)))
 
-      pub looks-undashed : (getD s (a + o) 0 ≡ 45 → ⊥) → WordLooks s words count i false
-      looks-undashed n = told-word false (λ y f. go y f (leb 2 (getD words (7 * i + 6) 0)) refl)
-        where
-          go : (y : rules.Item) → itemFrom (sheetArea s) (recordAt words i) ≡ some y → (b : Bool) → leb 2 (getD words (7 * i + 6) 0) ≡ b → false ≡ looksWord y
-          go y f true e = sym (ne-eqb (getD s (a + o) 0) 45 n) ∙ long-word y f (leb-true 2 (getD words (7 * i + 6) 0) e)
-          go y f false e = short-word y f (leb-false 2 (getD words (7 * i + 6) 0) e)
+    pub looks-short-word : getD words (at + 6) 0 < 2 → WordLooks s words count at false
+    unfolding looksWord
+    looks-short-word h = told-word false (λ i w y f.
+        let long = bytes-long i w y f in
+        rw (word-here i w y f .0) (looks-short (partBytes (sheetArea s) (text i w)) (omega (arith, size-is i w))))
 
-      pub looks-dashed : getD s (a + o) 0 ≡ 45 → (r : Bool) → r ≡ leb 2 (getD words (7 * i + 6) 0) → WordLooks s words count i r
-      looks-dashed d r q = told-word r (λ y f. q ∙ go y f (leb 2 (getD words (7 * i + 6) 0)) refl)
-        where
-          go : (y : rules.Item) → itemFrom (sheetArea s) (recordAt words i) ≡ some y → (b : Bool) → leb 2 (getD words (7 * i + 6) 0) ≡ b → b ≡ looksWord y
-          go y f true e = sym (eq-eqb (getD s (a + o) 0) 45 d) ∙ long-word y f (leb-true 2 (getD words (7 * i + 6) 0) e)
-          go y f false e = short-word y f (leb-false 2 (getD words (7 * i + 6) 0) e)
+    module _ (two : 2 ≤ getD words (at + 6) 0) (a : ℕ) (ea : a ≡ areaStart 2 (argumentCount s)) (o : ℕ) (eo : o ≡ getD words (at + 5) 0) where
+      first-byte : (i : ℕ) (w : at ≡ 7 * i) → getD (partBytes (sheetArea s) (text i w)) 0 0 ≡ getD s (a + o) 0
+      unfolding partBytes sheetArea wireArea
+      first-byte i w =
+          getD-take (text i w .length) (drop (text i w .offset) (sheetArea s)) 0 0 (omega (arith, size-is i w))
+          ∙ getD-drop (text i w .offset) (sheetArea s) 0 0
+          ∙ getD-drop (areaStart 2 (argumentCount s)) s (text i w .offset + 0) 0
+          ∙ ap (λ (k : ℕ). getD s k 0) (let z : areaStart 2 (argumentCount s) + (text i w .offset + 0) ≡ a + o = omega (arith, offset-is i w) in z)
+
+      pub byte-there : HasLine s words count → BeginsRecord count at → a + o < length s
+      unfolding sheetArea wireArea
+      byte-there g h =
+          let i = h .place in
+          let w = h .here in
+          let (y, e) = lookup-some (itemsOf (g .given)) i (omega (arith, h .below, g .line .long)) in
+          let inside = word-here i w y (g .line .table .at i y e) .1 in
+          let start = good-table 2 (argumentCount s) s (good-sheet s (g .line .made) .table) .long in
+          omega (arith, inside, offset-is i w, size-is i w, length-drop (areaStart 2 (argumentCount s)) s, start)
+
+      pub byte-fits : HasLine s words count → BeginsRecord count at → length s < 18446744073709551616 → a + o < 18446744073709551616
+      byte-fits g h l = omega (arith, byte-there g h)
+
+      pub looks-byte : (r : Bool) → r ≡ eqb (getD s (a + o) 0) 45 → WordLooks s words count at r
+      unfolding looksWord
+      looks-byte r e = told-word r (λ i w y f.
+          let long = bytes-long i w y f in
+          rw (word-here i w y f .0)
+          (e ∙ ap (λ (b : ℕ). eqb b 45) (sym (first-byte i w)) ∙ looks-first (partBytes (sheetArea s) (text i w)) (omega (arith, size-is i w))))
 
 -- ---- and all of its argument
 and-false : (b : Bool) → (b && false) ≡ false
@@ -246,24 +265,28 @@ reads-word b (rules.ArgWord t) = sym (and-false (not b))
 reads-word b (rules.Word t) = refl
 reads-word b (rules.PosWord t) = sym (and-false (not b))
 
-module _ (s words : List ℕ) (count i : ℕ) (below : i < count) (r : Bool) (h : WordLooks s words count i r) where
+module _ (s words : List ℕ) (count at : ℕ) (begins : BeginsRecord count at) (r : Bool) (h : WordLooks s words count at r) where
   -- what is told of the place, by the item that stands there
-  told : (v : Bool) → ((x : Split) → Table (sheetArea s) words (itemsOf x) → i < length (itemsOf x) → v ≡ (not (behindAdjacent (itemsOf x) i) && r)) → LooksAt s words count i v
+  told : (v : Bool)
+      → ((i : ℕ) → at ≡ 7 * i → (x : Split) → Table (sheetArea s) words (itemsOf x) → i < length (itemsOf x) → v ≡ (not (behindAdjacent (itemsOf x) i) && r))
+      → LooksAt s words count at v
   told v f = record {
-    same = λ l x g.
-        let inside : i < length (itemsOf x) = omega (arith, g .long) in
+    same = λ i w l x g.
+        let inside : i < length (itemsOf x) = omega (arith, g .long, begins .below, begins .here) in
         let (y, e) = lookup-some (itemsOf x) i inside in
-        f x (g .table) inside
-        ∙ ap (λ (b : Bool). not (behindAdjacent (itemsOf x) i) && b) (h .same l x g y e)
+        f i w x (g .table) inside
+        ∙ ap (λ (b : Bool). not (behindAdjacent (itemsOf x) i) && b) (h .same i w l x g y e)
         ∙ sym (misread-is l (arguments s) x i y (g .splits) (g .clear) e ∙ reads-word (behindAdjacent (itemsOf x) i) y);
   }
 
-  pub looks-plain : not r ≡ true → LooksAt s words count i false
-  looks-plain n = told false (λ x t b. rw (not-true r n) (sym (and-false (not (behindAdjacent (itemsOf x) i)))))
+  pub looks-plain : not r ≡ true → LooksAt s words count at false
+  looks-plain n = told false (λ i w x t b. rw (not-true r n) (sym (and-false (not (behindAdjacent (itemsOf x) i)))))
 
-  pub looks-word : not r ≡ false → (z : Bool) → RestTold words i z → LooksAt s words count i (not z)
-  looks-word n z k = told (not z) (λ x t b.
-      rw (not-false r n) (ap not (k .same (sheetArea s) (itemsOf x) t b) ∙ sym (and-true-is (not (behindAdjacent (itemsOf x) i)))))
+  pub looks-word : not r ≡ false → (j : ℕ) → j ≡ at / 7 → (z : Bool) → RestTold words j z → LooksAt s words count at (not z)
+  looks-word n j q z k = told (not z) (λ i w x t b.
+      let same : j ≡ i = omega (arith, w) in
+      let rest : RestTold words i z = subst (λ (j : ℕ). RestTold words j z) same k in
+      rw (not-false r n) (ap not (rest .same (sheetArea s) (itemsOf x) t b) ∙ sym (and-true-is (not (behindAdjacent (itemsOf x) i)))))
 
 pub line-made : (s words : List ℕ) (count : ℕ) → HasLine s words count → sheetFault s ≡ 0
 line-made s words count g = g .line .made
@@ -274,11 +297,14 @@ line-start s words count n g e = omega (arith, start-most 2 n (inl refl), good-s
 pub start-is : (s : List ℕ) (n a : ℕ) → n ≡ argumentCount s → a ≡ areaStart 2 n → a ≡ areaStart 2 (argumentCount s)
 start-is s n a e d = d ∙ ap (areaStart 2) e
 
-pub line-room : (s words : List ℕ) (count i : ℕ) → HasLine s words count → i < count → 7 * i + 7 ≤ length words
-line-room s words count i g h = omega (arith, g .line .table .room, g .line .long)
+pub record-room : (s words : List ℕ) (count at : ℕ) → HasLine s words count → BeginsRecord count at → at + 7 ≤ length words
+record-room s words count at g h = omega (arith, g .line .table .room, g .line .long, h .here, h .below)
 
-pub line-before : (s words : List ℕ) (count i : ℕ) → HasLine s words count → i < count → 7 * i ≤ length words
-line-before s words count i g h = omega (arith, g .line .table .room, g .line .long)
+pub record-before : (s words : List ℕ) (count at j : ℕ) → HasLine s words count → BeginsRecord count at → j ≡ at / 7 → 7 * j ≤ length words
+record-before s words count at j g h e = omega (arith, g .line .table .room, g .line .long, h .here, h .below)
+
+pub ends-fit : (s words : List ℕ) (count : ℕ) → HasLine s words count → 7 * count < 18446744073709551616
+ends-fit s words count g = omega (arith, g .line .few)
 
 -- the place that a search tells is one
 module _ (p : ℕ → Bool) where

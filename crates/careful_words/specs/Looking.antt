@@ -3,7 +3,7 @@ use mathlib.Core.Bool.{Bool, false}
 use mathlib.Core.List.{List}
 use mathlib.Core.Option.{some, none}
 use mathlib.Core.Path.{_≡_}
-use Prim.Native.Nat.{ℕ, _≤_}
+use Prim.Native.Nat.{ℕ, _*_, _≤_, _<_}
 use lib.Dec.{eqb}
 use lib.ListN.{length, getElem?}
 use Rattle.utf8.specs.Utf8.{if_then_else_}
@@ -36,13 +36,19 @@ pub record HasLine (s words : List ℕ) (count : ℕ) : Type 0 where
   pub given : Split
   pub line : LineIs s words count letters given
 
--- whether the item at place i is a Word that looks like options
-pub record WordLooks (s words : List ℕ) (count i : ℕ) (r : Bool) : Type 0 where
-  pub same : (l : Letters) (x : Split) → LineIs s words count l x → (y : Item) → getElem? (itemsOf x) i ≡ some y → r ≡ looksWord y
+-- the first word of one of the records
+pub record BeginsRecord (count at : ℕ) : Type 0 where
+  pub place : ℕ
+  pub here : at ≡ 7 * place
+  pub below : place < count
 
--- whether place i is misread
-pub record LooksAt (s words : List ℕ) (count i : ℕ) (r : Bool) : Type 0 where
-  pub same : (l : Letters) (x : Split) → LineIs s words count l x → r ≡ isMisread (arguments s) (x .groups) i
+-- whether the item whose record begins at a word is a Word that looks like options
+pub record WordLooks (s words : List ℕ) (count at : ℕ) (r : Bool) : Type 0 where
+  pub same : (i : ℕ) → at ≡ 7 * i → (l : Letters) (x : Split) → LineIs s words count l x → (y : Item) → getElem? (itemsOf x) i ≡ some y → r ≡ looksWord y
+
+-- whether its place is misread
+pub record LooksAt (s words : List ℕ) (count at : ℕ) (r : Bool) : Type 0 where
+  pub same : (i : ℕ) → at ≡ 7 * i → (l : Letters) (x : Split) → LineIs s words count l x → r ≡ isMisread (arguments s) (x .groups) i
 
 -- the lowest place that is, from a place on, or the count
 pub record Finds (s words : List ℕ) (from count r : ℕ) : Type 0 where

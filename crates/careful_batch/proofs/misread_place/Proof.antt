@@ -8,7 +8,7 @@ item-count-requires : tie.Need-item-count-requires
 item-count-requires c κs = search run-kinds
 
 first-misread-requires : tie.Need-first-misread-requires
-first-misread-requires c κs = search line-asked
+first-misread-requires c κs = (search line-asked, search needs)
 
 returns : tie.Need-returns
 returns c = search none-misread

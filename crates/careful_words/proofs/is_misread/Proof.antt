@@ -1,5 +1,5 @@
 -- By the item and the one before it. Assumes nothing.
-use Rattle.careful_words.proofs.Laws.{line-before, looks-plain, looks-word}
+use Rattle.careful_words.proofs.Laws.{looks-plain, looks-word}
 use borrow.Author.Needs.{needs}
 use Rattle.careful_words.proofs.is_misread.Statement.{statement}
 use Rattle.careful_words.proofs.is_misread.Tie as tie
@@ -11,7 +11,7 @@ returns : tie.Need-returns
 returns c = search looks-plain
 
 is-rest-requires : tie.Need-is-rest-requires
-is-rest-requires c κs = search line-before
+is-rest-requires c κs = search needs
 
 returns-2 : tie.Need-returns-2
 returns-2 c = search looks-word
