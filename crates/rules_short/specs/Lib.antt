@@ -1,0 +1,4 @@
+-- Short sheets, their order, and the step
+pub mod Short
+-- What the theorems say
+pub mod ShortAnswered
