@@ -1006,6 +1006,43 @@ static void lent_calls(void) {
   free(records);
 }
 
+static const uint8_t EMPTY[] = {U16(0), U16(0)}, ONE_EMPTY[] = {U16(1), U16(0), U16(0)};
+static const uint8_t CARRIED[] = {U16(2), U16(0), U16(1), U16(3), '=', '-', '-'};
+static const uint8_t BEHIND_IT[] = {U16(2), U16(0), U16(1), U16(3), '-', '=', '='};
+static const uint8_t LAST_BYTES[] = {U16(2), U16(0), U16(0), U16(4), '-', '-', '-', '-'};
+static const uint8_t MORE_BYTES[] = {U16(2), U16(0), U16(1), U16(1), '='};
+#define DASHES '-', '-', '-', '-'
+static const uint8_t NOT_LAST[] = {U16(3), U16(0), U16(4), U16(8), U16(12), DASHES, DASHES, '-', '-', '-', '='};
+static const uint8_t LAST_OF_ALL[] = {U16(3), U16(0), U16(4), U16(8), U16(12), DASHES, DASHES, DASHES};
+
+// A step over `=-` into an output that is full of 0xff: the number, whether the sheet was the last, and what is written.
+static bool steps(const char *alphabet, const uint8_t *from, size_t from_count, size_t room, uint32_t number, uint32_t last,
+                  const uint8_t *to, size_t to_count) {
+  uint8_t *letters = (uint8_t *)lend(alphabet, strlen(alphabet)), *given = (uint8_t *)lend(from, from_count);
+  uint8_t *out = (uint8_t *)lend(NULL, room);
+  if (room > 0) memset(out, 0xff, room);
+  SilverpoiseNextSheet r = silverpoise_next_sheet(letters, strlen(alphabet), given, from_count, out, room);
+  bool good = r.number == number && r.place == 0 && r.last == last && r.length == to_count;
+  for (size_t i = 0; i < room; i++) good = good && out[i] == (i < to_count ? to[i] : 0);
+  free(letters);
+  free(given);
+  free(out);
+  return good;
+}
+
+static void short_sheets(void) {
+  CHECK(steps("=-", EMPTY, sizeof EMPTY, 22, 0, 0, ONE_EMPTY, sizeof ONE_EMPTY));
+  CHECK(steps("=-", CARRIED, sizeof CARRIED, 22, 0, 0, BEHIND_IT, sizeof BEHIND_IT)); // by place, not by value
+  CHECK(steps("=-", LAST_BYTES, sizeof LAST_BYTES, 300, 0, 0, MORE_BYTES, sizeof MORE_BYTES));
+  CHECK(steps("=-", LAST_OF_ALL, sizeof LAST_OF_ALL, 23, 0, 1, NULL, 0));
+  CHECK(steps("-=", LAST_OF_ALL, sizeof LAST_OF_ALL, 22, 0, 0, NOT_LAST, sizeof NOT_LAST));
+  CHECK(steps("==", EMPTY, 0, 0, 16, 0, NULL, 0)); // 16 before 17 and 19
+  CHECK(steps("", EMPTY, sizeof EMPTY, 30, 16, 0, NULL, 0));
+  CHECK(steps("vw", CARRIED, sizeof CARRIED, 0, 17, 0, NULL, 0)); // 17 before 19
+  CHECK(steps("=-", CARRIED, sizeof CARRIED - 1, 30, 17, 0, NULL, 0));
+  CHECK(steps("=-", LAST_OF_ALL, sizeof LAST_OF_ALL, 21, 19, 0, NULL, 0)); // 19 before the last
+}
+
 int main(void) {
   form = (uint8_t *)lend(FORM_BYTES, sizeof FORM_BYTES);
   sheet = (uint8_t *)lend(SHEET_BYTES, sizeof SHEET_BYTES);
@@ -1046,6 +1083,7 @@ int main(void) {
   item_calls();
   form_calls();
   previews();
+  short_sheets();
   lent_calls();
 
   free(form);

@@ -345,8 +345,28 @@ static void missing(void) {
   CHECK(third[0] == 0 && third[1] == 0 && third[2] == 0);
 }
 
+// A sheet of so many arguments of so many bytes each, over an alphabet of so many letters, into an output of so many bytes.
+static uint32_t short_number(size_t arguments, size_t bytes, size_t letters, size_t room) {
+  uint8_t *to = put_u16(sheet, arguments), out[SILVERPOISE_MAX_SHORT_SHEET];
+  for (size_t i = 0; i <= arguments; i++) to = put_u16(to, i * bytes);
+  memset(to, 'a', arguments * bytes);
+  return silverpoise_next_sheet((const uint8_t *)"abcdefghi", letters, sheet, (size_t)(to - sheet) + arguments * bytes, out, room).number;
+}
+
+static void short_limits(void) {
+  enum { ARGUMENTS = SILVERPOISE_MAX_SHORT_ARGUMENTS, BYTES = SILVERPOISE_MAX_SHORT_ARGUMENT };
+  enum { LETTERS = SILVERPOISE_MAX_LETTERS, ROOM = SILVERPOISE_MAX_SHORT_SHEET };
+  CHECK(short_number(ARGUMENTS, BYTES, LETTERS, ROOM) == SILVERPOISE_ACCEPTED);
+  CHECK(2 + 2 * (ARGUMENTS + 1) + ARGUMENTS * BYTES == ROOM);
+  CHECK(short_number(ARGUMENTS, BYTES, LETTERS + 1, ROOM) == SILVERPOISE_REFUSED_ALPHABET);
+  CHECK(short_number(ARGUMENTS + 1, BYTES, LETTERS, ROOM) == SILVERPOISE_REFUSED_LONG);
+  CHECK(short_number(ARGUMENTS, BYTES + 1, LETTERS, ROOM) == SILVERPOISE_REFUSED_LONG);
+  CHECK(short_number(ARGUMENTS, BYTES, LETTERS, ROOM - 1) == SILVERPOISE_REFUSED_OUTPUT);
+}
+
 int main(void) {
   limits();
+  short_limits();
   limits_of_entries();
   refusals_of_input();
   refusals_of_runs();

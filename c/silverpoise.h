@@ -55,7 +55,13 @@ enum {
 
   // a batch (13)
   SILVERPOISE_MAX_SHEETS = 32,
-  SILVERPOISE_BATCH_RECORD_WORDS = 4 // the record of sheet k begins at word 4 * k of the record slice
+  SILVERPOISE_BATCH_RECORD_WORDS = 4, // the record of sheet k begins at word 4 * k of the record slice
+
+  // a short sheet (16), and its alphabet
+  SILVERPOISE_MAX_SHORT_ARGUMENTS = 3,
+  SILVERPOISE_MAX_SHORT_ARGUMENT = 4, // bytes of one argument
+  SILVERPOISE_MAX_SHORT_SHEET = 22,   // bytes of the longest short sheet
+  SILVERPOISE_MAX_LETTERS = 8         // bytes of an alphabet
 };
 
 // ---- Refusals (9) ----
@@ -77,6 +83,11 @@ enum SilverpoiseRefusal {
   SILVERPOISE_REFUSED_TABLE = 11,    // a command table: its count, its offsets, or the names of an entry
   SILVERPOISE_REFUSED_LIST = 14,     // the list slice is too short
   SILVERPOISE_REFUSED_BATCH = 15,    // a batch: its count, its offsets, or a slice without room for each of its sheets
+
+  // because of what silverpoise_next_sheet is given, tested in this order
+  SILVERPOISE_REFUSED_ALPHABET = 16, // an alphabet that is empty, has more than eight bytes, or a byte twice
+  SILVERPOISE_REFUSED_LONG = 17,     // a sheet that is not a short one over the alphabet, damaged or not
+  SILVERPOISE_REFUSED_OUTPUT = 19,   // an output of less than 22 bytes
 
   // because of the state
   SILVERPOISE_REFUSED_MISSING = 20,        // a required flag, an argument or a positional is not there: see the list
@@ -320,6 +331,13 @@ typedef struct {
   uint32_t number, place;
   uint32_t source, offset, length;
 } SilverpoiseTextPart;
+
+// A step through all short sheets: whether the sheet that was given is the last (1) or not (0), and the length of the sheet that was
+// written. Refused, or after the last, it is 0. There is never a place.
+typedef struct {
+  uint32_t number, place;
+  uint32_t last, length;
+} SilverpoiseNextSheet;
 
 // The words of an item record; all 0 for none and where refused.
 typedef struct {
@@ -625,6 +643,15 @@ bool silverpoise_wrong_input(uint32_t number);
 // Which of two refusals is left: the second if the first can be caught, else the first. Two 20s give 20 with no place.
 SilverpoiseRefused silverpoise_combine_with(SilverpoiseRefused first, SilverpoiseRefused second);
 
+// ---- All short sheets (16) ----
+
+// The short sheet behind `sheet`: of those of up to three arguments of up to four bytes each, all of the alphabet, by the number of
+// arguments, then by their lengths from the left, then by their bytes in the order of the alphabet. It is written to `out`, with zeros
+// behind it to the end. The first one is the empty sheet, U16(0), U16(0); from it the steps reach every other once. After the last one
+// `last` is 1 and `out` all 0. Refused: 16, 17, 19, in this order; `out` is then all 0.
+SilverpoiseNextSheet silverpoise_next_sheet(const uint8_t *alphabet, size_t alphabet_count, const uint8_t *sheet,
+                                            size_t sheet_count, uint8_t *out, size_t out_count);
+
 // ---- The layout that the library was compiled with ----
 
 #if defined(__cplusplus) && __cplusplus >= 201103L
@@ -670,6 +697,8 @@ SILVERPOISE_ASSERT(sizeof(SilverpoiseTableRefused) == 12, "SilverpoiseTableRefus
 SILVERPOISE_ASSERT(sizeof(SilverpoiseFormPart) == 24, "SilverpoiseFormPart");
 SILVERPOISE_ASSERT(offsetof(SilverpoiseFormPart, offset) == 8, "offset of SilverpoiseFormPart");
 SILVERPOISE_ASSERT(sizeof(SilverpoiseTextPart) == 20, "SilverpoiseTextPart");
+SILVERPOISE_ASSERT(sizeof(SilverpoiseNextSheet) == 16, "SilverpoiseNextSheet");
+SILVERPOISE_ASSERT(offsetof(SilverpoiseNextSheet, length) == 12, "length of SilverpoiseNextSheet");
 SILVERPOISE_ASSERT(sizeof(SilverpoiseGot) == 36, "SilverpoiseGot");
 SILVERPOISE_ASSERT(sizeof(SilverpoiseDecoding) == 12, "SilverpoiseDecoding");
 SILVERPOISE_ASSERT(offsetof(SilverpoiseDecoding, character) == 4, "character of SilverpoiseDecoding");

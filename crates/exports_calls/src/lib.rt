@@ -1,7 +1,8 @@
-// The library for C and Rust: single calls on states, items, nodes and refusals. A slice is passed as two arguments, the pointer and
-// the count.
+// The library for C and Rust: single calls on states, items, nodes and refusals, and the step through all short sheets. A slice is
+// passed as two arguments, the pointer and the count.
 ghost use mathlib.Core.Path.{_≡_};
 ghost use mathlib.Core.Option.{some, none};
+ghost use lib.ListN.{length};
 ghost use Rattle.rules.specs.Outcome.{refuse, canCatch, wrongInput, combineWith};
 ghost use Rattle.rules.specs.Calls.{callRemove, callPickWinner, callSaveConflicts, callSetScope, callAdjacentScope, callAvailableFrom};
 ghost use Rattle.rules.specs.Calls.{callConflict, callTakePositional, callOnlyOnce};
@@ -16,6 +17,8 @@ ghost use Rattle.call_preview.specs.Previews.{previewAnswerOf};
 ghost use Rattle.call_lent.specs.Joined.{joined};
 ghost use Rattle.call_find.specs.Records.{callFind};
 ghost use Rattle.call_node.specs.Node.{evaluatedAnswer};
+ghost use Rattle.rules_short.specs.Short.{nextSheet};
+ghost use Rattle.short_sheets.specs.Answers.{Reports};
 use call_answers::Answer;
 use call_answers::StateAnswer;
 use call_find::ItemRecord;
@@ -24,6 +27,7 @@ use call_preview::PreviewAnswer;
 use rules::Refused;
 use rules::State;
 use run_fields::RunAnswer;
+use short_sheets::NextSheet;
 
 #[no_mangle]
 pub extern "C" fn silverpoise_remove(s: State, place: usize, field: usize) -> StateAnswer
@@ -276,4 +280,12 @@ pub extern "C" fn silverpoise_find(
     ensures { λ r. ⌜ plainAnswer placeOrNone (callFind (now (form .entry)) (now (sheet .entry)) (now (items .entry)) s node) ≡ some r ⌝ }
 {
     call_find::find(form, sheet, items, s, node)
+}
+
+// The short sheet behind this one, for whoever wants to see them all.
+#[no_mangle]
+pub extern "C" fn silverpoise_next_sheet(alphabet: &[u8], sheet: &[u8], out: &mut [u8]) -> NextSheet
+    ensures { λ r. ⌜ Reports (nextSheet (now (alphabet .entry)) (now (sheet .entry)) (length (now (out .entry)))) r (now (out .exit)) ⌝ }
+{
+    short_sheets::next_sheet(alphabet, sheet, out)
 }
