@@ -11,3 +11,4 @@ pub mod reasons;
 pub mod looks;
 pub mod idle;
 pub mod previews;
+pub mod shorts;

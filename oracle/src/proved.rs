@@ -155,6 +155,16 @@ pub struct IdleAnswer {
     pub nodes: u64,
 }
 
+/// `last` is 1 where the sheet that was given is the last, else 0; `length` is that of the sheet that was written.
+#[repr(C)]
+#[derive(Clone, Copy, Debug, PartialEq, Eq)]
+pub struct NextSheet {
+    pub number: u32,
+    pub place: u32,
+    pub last: u32,
+    pub length: u32,
+}
+
 /// `offset` counts from the table's first byte.
 #[repr(C)]
 #[derive(Clone, Copy, Debug, PartialEq, Eq)]
@@ -467,6 +477,7 @@ extern "C" {
     fn silverpoise_can_catch(number: u32) -> bool;
     fn silverpoise_wrong_input(number: u32) -> bool;
     fn silverpoise_combine_with(first: Refused, second: Refused) -> Refused;
+    fn silverpoise_next_sheet(alphabet: *const u8, k: usize, sheet: *const u8, n: usize, out: *mut u8, m: usize) -> NextSheet;
 }
 
 // Each call is proved to touch nothing outside the slices that it is lent, whatever is in them.
@@ -721,4 +732,9 @@ pub fn wrong_input(number: u32) -> bool {
 
 pub fn combine_with(first: Refused, second: Refused) -> Refused {
     unsafe { silverpoise_combine_with(first, second) }
+}
+
+pub fn next_sheet(alphabet: &[u8], sheet: &[u8], out: &mut [u8]) -> NextSheet {
+    let (a, s) = ((alphabet.as_ptr(), alphabet.len()), (sheet.as_ptr(), sheet.len()));
+    unsafe { silverpoise_next_sheet(a.0, a.1, s.0, s.1, out.as_mut_ptr(), out.len()) }
 }

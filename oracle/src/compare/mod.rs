@@ -24,6 +24,7 @@ mod missing;
 mod previews;
 mod replay;
 mod run;
+mod short_sheets;
 #[cfg(live)]
 mod slices;
 mod split;
@@ -135,6 +136,7 @@ pub fn compare(layer: &str, seed: u64, count: Option<u64>) -> Option<Compared> {
         "careful-commands" => careful_commands::compare(seed, count.unwrap_or(1_000_000)),
         "idle" => idle::compare(seed, count.unwrap_or(1_000_000)),
         "preview" => previews::compare(seed, count.unwrap_or(300_000)),
+        "short-sheets" => short_sheets::compare(seed, count),
         "forged-tables" => tables::compare(seed, count.unwrap_or(200_000)),
         "why" => why::compare(seed, count.unwrap_or(1_000_000)),
         "careful" => careful::compare(seed, count.unwrap_or(1_000_000)),
