@@ -7,6 +7,7 @@ use line::batches;
 use crate::{
     benchmarks::{arguments, wear, Benchmark},
     clock, counts,
+    ours::RECORD_WORDS,
     table::{self, thousands, Cost},
 };
 
@@ -33,10 +34,11 @@ pub fn run(form: &[u8], batch: &[u8], lent: &mut batches::Slices) -> u32 {
     proved::run_batch(form, batch, records, items, answers, list).number
 }
 
-/// Every word that a batch has to clear: all but the records, part by part.
-fn clear(sheets: usize, lent: &mut batches::Slices) {
-    for k in 0..sheets {
-        (1..4).for_each(|j| black_box(&mut lent[j][batches::part(j, k)]).fill(0));
+/// Every word that a batch has to clear where its sheets have so many items: all but the records, part by part.
+fn clear(items: &[usize], lent: &mut batches::Slices) {
+    for (k, items) in items.iter().enumerate() {
+        black_box(&mut lent[1][batches::part(1, k)][RECORD_WORDS * items..]).fill(0);
+        (2..4).for_each(|j| black_box(&mut lent[j][batches::part(j, k)]).fill(0));
     }
 }
 
@@ -56,11 +58,11 @@ fn assert_same(benchmark: &Benchmark) {
 /// Hands the sides to `use_sides`: single calls and their clearing, one batch and its clearing, and bpaf.
 fn with_sides<T>(benchmark: &Benchmark, use_sides: impl FnOnce([&mut dyn FnMut(); 5]) -> T) -> T {
     let (form, batch) = (&benchmark.form[..], batches::write(&benchmark.sheets));
-    let (mut lent, mut cleared) = (lend(benchmark), lend(benchmark));
+    let (mut lent, mut cleared, items) = (lend(benchmark), lend(benchmark), benchmark.items());
     let mut at_once = || {
         black_box(run(black_box(form), black_box(&batch), &mut lent));
     };
-    let mut clearing = || clear(benchmark.sheets.len(), &mut cleared);
+    let mut clearing = || clear(&items, &mut cleared);
     table::with_sides(benchmark, |[singly, cleared_singly, bpaf]| {
         use_sides([singly, cleared_singly, &mut at_once, &mut clearing, bpaf])
     })

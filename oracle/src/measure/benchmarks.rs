@@ -86,6 +86,12 @@ impl Benchmark {
         Slices::of(self.slices)
     }
 
+    /// How many items the run of each line leaves.
+    pub fn items(&self) -> Vec<usize> {
+        let mut lent = self.lend();
+        self.sheets.iter().map(|sheet| lent.run(&self.form, sheet).state.count as usize).collect()
+    }
+
     /// Stops unless both sides answer alike, with the number that the list says.
     pub fn assert_same(&self) {
         let mut slices = self.lend();

@@ -40,6 +40,7 @@ fn other_run(form: &[u8], sheet: &[u8], lent: &mut Slices) -> RunAnswer {
 /// The best nanoseconds a line: this build, the other, and clearing alone.
 fn best(benchmark: &Benchmark, budget: Duration) -> [f64; 3] {
     let (mut ours, mut theirs, mut cleared) = (benchmark.lend(), benchmark.lend(), benchmark.lend());
+    let items = benchmark.items();
     let form = &benchmark.form[..];
     let times = clock::best(
         budget,
@@ -54,7 +55,7 @@ fn best(benchmark: &Benchmark, budget: Duration) -> [f64; 3] {
                     black_box(other_run(black_box(form), black_box(sheet), &mut theirs));
                 }
             },
-            &mut || benchmark.sheets.iter().for_each(|_| cleared.clear()),
+            &mut || items.iter().for_each(|items| cleared.clear(*items)),
         ],
     );
     times.map(|time| time / benchmark.sheets.len() as f64)

@@ -43,7 +43,7 @@ const LINES: &str = "
 Nanoseconds, both sides in one process with plain release flags: the best of many short batches, the sides in turn. Ours is the
 whole entry point `run`. bpaf's is `construct`, each field's `eval` and `items_iter` on parsers written as its users write them.
 Before a line is timed, both must give the same values, or the same refusal with its place. `times` is bpaf's time over ours.
-Instructions are callgrind's. It counts the clearing of 40,896 bytes one by one (`rep stosb`), so clearing is left out there.
+Instructions are callgrind's. It counts clearing byte by byte (`rep stosb`, 40,896 bytes less 28 for each item), so clearing is left out there.
 ";
 
 const OTHERS: &str = "

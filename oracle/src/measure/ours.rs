@@ -5,6 +5,9 @@ use std::hint::black_box;
 use line::forged::{ANSWER_WORDS, ITEM_WORDS, LIST_WORDS};
 use proved::{RunAnswer, SplitAnswer};
 
+/// An item is written as so many words.
+pub const RECORD_WORDS: usize = 7;
+
 /// What a run is lent to write into.
 pub struct Slices {
     pub items: Vec<u32>,
@@ -32,9 +35,9 @@ impl Slices {
         proved::split(form, sheet, &mut self.items)
     }
 
-    /// The floor of a run: every word of the three slices becomes 0, whatever the answer.
-    pub fn clear(&mut self) {
-        black_box(&mut self.items[..]).fill(0);
+    /// The floor of a run that leaves so many items: every word of the three slices but their records becomes 0.
+    pub fn clear(&mut self, items: usize) {
+        black_box(&mut self.items[RECORD_WORDS * items..]).fill(0);
         black_box(&mut self.answers[..]).fill(0);
         black_box(&mut self.list[..]).fill(0);
     }

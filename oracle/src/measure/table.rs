@@ -41,14 +41,14 @@ pub fn thousands(number: impl Display) -> String {
 
 /// Hands the three sides of a benchmark to `use_sides`: the run, clearing, and bpaf, over all of its lines.
 pub fn with_sides<T>(benchmark: &Benchmark, use_sides: impl FnOnce([&mut dyn FnMut(); 3]) -> T) -> T {
-    let (mut slices, mut cleared) = (benchmark.lend(), benchmark.lend());
+    let (mut slices, mut cleared, items) = (benchmark.lend(), benchmark.lend(), benchmark.items());
     let form = &benchmark.form[..];
     let mut ours = || {
         for sheet in &benchmark.sheets {
             black_box(slices.run(black_box(form), black_box(sheet)));
         }
     };
-    let mut clearing = || benchmark.sheets.iter().for_each(|_| cleared.clear());
+    let mut clearing = || items.iter().for_each(|items| cleared.clear(*items));
     let mut bpaf = || {
         let Some(fields) = &benchmark.fields else { return };
         for line in &benchmark.lines {
@@ -174,7 +174,7 @@ fn miss(group: &Group, benchmark: &Benchmark, time: &Cost) -> Option<String> {
 /// What is inside of either side's time on one line, and what that takes by itself.
 fn print_parts() {
     let benchmark = Benchmark::new(wear(), "-1 lock");
-    let (mut slices, mut cleared) = (benchmark.lend(), benchmark.lend());
+    let (mut slices, mut cleared, items) = (benchmark.lend(), benchmark.lend(), benchmark.items());
     let mut sheet = Vec::new();
     let line = &benchmark.lines[0];
     let [check, clearing, split, build, encode] = clock::best(
@@ -183,7 +183,7 @@ fn print_parts() {
             &mut || {
                 black_box(proved::form_check(black_box(&benchmark.form)));
             },
-            &mut || cleared.clear(),
+            &mut || cleared.clear(items[0]),
             &mut || {
                 black_box(slices.split(black_box(&benchmark.form), black_box(&benchmark.sheets[0])));
             },
