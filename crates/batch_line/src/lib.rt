@@ -1,4 +1,5 @@
 // The run of one sheet with a form of which all that does not depend on the sheet is known.
+#![tactic(auto)]
 ghost use Rattle.std.specs.Prelude.{◌≡◌, List, ℕ, length};
 ghost use Rattle.rules.specs.Accept.{check_form};
 ghost use Rattle.rules.specs.Run as Run;

@@ -1,4 +1,5 @@
 // A batch: one form, many sheets. The form is checked once, and what splitting and the fields ask of it is worked out once.
+#![tactic(auto)]
 ghost use Rattle.std.specs.Prelude.{◌≡◌, List, ℕ, length};
 ghost use Rattle.std.proofs.Math.Option.{some};
 ghost use Rattle.rules.specs.Accept.{Accepted, accepted, check_form};

@@ -1,4 +1,5 @@
 // Reads a form and a sheet, joined, from standard input, and prints what their run answers.
+#![tactic(auto)]
 ghost use Rattle.std.specs.Prelude.{◌≡◌, ◌≤◌, length, take};
 ghost use Rattle.io.specs.Counts.{IsPrefixLen};
 ghost use Rattle.rules.specs.Outcome.{ok};

@@ -1,4 +1,5 @@
 // What a single call hands back: how it ended, and its answer in three numbers. Refused, the three are 0.
+#![tactic(auto)]
 ghost use Rattle.std.specs.Prelude.{◌≡◌, ◌≤◌};
 ghost use Rattle.utf8.specs.Utf8.{decode_at};
 ghost use Rattle.call_answers.specs.Answers.{coded, yes_no, answer_with, state_with, decoding};
@@ -24,7 +25,7 @@ pub const BAD_ITEM: u32 = 30;
 
 // From a call that leaves the state as it was. A place is itself plus 1, or 0 for none.
 #[repr(C)]
-#[derive(Drop)]
+#[derive(Clone, Copy)]
 pub struct Answer {
     pub number: u32,
     pub place: u32,
@@ -35,7 +36,7 @@ pub struct Answer {
 
 // From a call that changes the state. Refused, the state is the one that was given.
 #[repr(C)]
-#[derive(Drop)]
+#[derive(Clone, Copy)]
 pub struct StateAnswer {
     pub number: u32,
     pub place: u32,
@@ -47,7 +48,7 @@ pub struct StateAnswer {
 
 // The character at a place. Where there is none, found is false and the numbers are 0.
 #[repr(C)]
-#[derive(Drop)]
+#[derive(Clone, Copy)]
 pub struct Decoding {
     pub found: bool,
     pub character: u32,

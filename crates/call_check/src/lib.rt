@@ -1,4 +1,5 @@
 // The entry points. None asks anything of its input: what is not well made is refused under its number.
+#![tactic(auto)]
 ghost use Rattle.std.specs.Prelude.{◌≡◌, length};
 ghost use Rattle.std.proofs.Math.Option.{some};
 ghost use Rattle.rules.specs.Outcome.{ok};
@@ -15,7 +16,7 @@ use split_args::Ended;
 
 // An answer that is a number: refused, it is 0 and the refusal stands beside it. A place is itself plus 1, or 0 for none.
 #[repr(C)]
-#[derive(Drop)]
+#[derive(Clone, Copy)]
 pub struct Told {
     pub number: u32,
     pub place: u32,
@@ -24,7 +25,7 @@ pub struct Told {
 
 // How splitting ended, and the state that the items start in.
 #[repr(C)]
-#[derive(Drop)]
+#[derive(Clone, Copy)]
 pub struct SplitAnswer {
     pub number: u32,
     pub place: u32,

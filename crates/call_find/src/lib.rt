@@ -1,6 +1,7 @@
 // A search over a lent slice of item records: the first present item in scope that has one of the names of a flag or an
 // argument. It asks nothing of its input: what is not well made is refused under its number, a state that is not good for the
 // form's number of fields with 29, and then 28 where the form has no such node.
+#![tactic(auto)]
 ghost use Rattle.std.specs.Prelude.{◌≡◌, ◌+◌, ◌≤◌, ◌<◌};
 ghost use Rattle.std.proofs.Math.Option.{some};
 ghost use Rattle.call_answers.specs.Answers.{place_or_none, plain_answer};
@@ -15,7 +16,7 @@ use wire::wide;
 
 // An item as the seven words of its record.
 #[repr(C)]
-#[derive(Drop)]
+#[derive(Clone, Copy)]
 pub struct ItemRecord {
     pub kind: u32,
     pub adjacent: u32,
@@ -27,7 +28,7 @@ pub struct ItemRecord {
 }
 
 // What the records are searched for, or a refusal that comes before them: number 0 is none.
-#[derive(Drop)]
+#[derive(Clone, Copy)]
 struct Search {
     number: u32,
     place: u32,
@@ -39,7 +40,7 @@ struct Search {
 
 // The records so far: how many there are up to the last that is not all 0, and the first of them that is looked for: its
 // place plus 2, or 0 for none yet, or 1 where one of them is no item.
-#[derive(Drop)]
+#[derive(Clone, Copy)]
 struct Seen {
     found: usize,
     count: usize,

@@ -1,6 +1,7 @@
 // The entry points with a form, items and a state. None asks anything of its input: what is not well made is refused under its
 // number, a state that is not good for the form's number of fields with 29, and then 28 where the form has no such node, name or
 // field, or the items no such place.
+#![tactic(auto)]
 ghost use Rattle.std.specs.Prelude.{◌≡◌, true, ℕ, ◌+◌, ◌≤◌};
 ghost use Rattle.std.proofs.Math.Option.{some};
 ghost use Rattle.rules.specs.Base.{is_some};
@@ -29,7 +30,7 @@ use take_search::Names;
 use wire::wide;
 
 // What a node looks for. Kind 1 is a flag, 2 an argument, 0 neither.
-#[derive(Drop)]
+#[derive(Clone, Copy)]
 pub struct Key {
     pub kind: u32,
     pub names: Names,

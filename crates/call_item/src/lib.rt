@@ -1,5 +1,6 @@
 // The entry points on items, a state and a place. None asks anything of its input: what is not well made is refused under its
 // number, a state that is not good, where there may be 16 fields, with 29, then a place or field that is not there with 28.
+#![tactic(auto)]
 ghost use Rattle.std.specs.Prelude.{◌≡◌, ◌+◌, ◌*◌, ◌≤◌, length};
 ghost use Rattle.std.proofs.Math.Option.{some};
 ghost use Rattle.rules.specs.Calls.{call_conflict, call_take_positional, call_only_once};
@@ -18,7 +19,7 @@ use wire::wide;
 
 // The record of the item that was found, or all 0.
 #[repr(C)]
-#[derive(Drop)]
+#[derive(Clone, Copy)]
 pub struct Got {
     pub number: u32,
     pub place: u32,

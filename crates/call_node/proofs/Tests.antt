@@ -104,19 +104,19 @@ module _ (b s words o l : List ℕ) (x : Raw) (k : ℕ) where
 
         module _ (room : 8240 ≤ length o) (listable : 192 ≤ length l) (c : table.Checked) (says : Checks (sheet_area s) words c) where
           -- 30
-          pub items_refused : not c.well-formed ≡ true → (q : Refused) → q ≡ record { number = 30; place = 0 } → Admits b s words o l x k q
+          pub items_refused : not c.good ≡ true → (q : Refused) → q ≡ record { number = 30; place = 0 } → Admits b s words o l x k q
           unfolding eval_in form_in sheet_in slice_in room_in list_room_in ◌>>=◌ if◌then◌else◌
           items_refused h q g =
               let (a, y) = check_accepted b r e z in
               refusing 30 q g (λ i. omega arith)
-              (rw (y, form_in, eq-eqb (sheet_fault s) 0 (sym ef ∙ zf), le-leb 1792 (length words) long, le-leb 8240 (length o) room, le-leb 192 (length l) listable, says.bad (not-true c.well-formed h)))
+              (rw (y, form_in, eq-eqb (sheet_fault s) 0 (sym ef ∙ zf), le-leb 1792 (length words) long, le-leb 8240 (length o) room, le-leb 192 (length l) listable, says.bad (not-true c.good h)))
 
           module _
-              (well : not c.well-formed ≡ false) (u : ℕ) (eu : u ≡ field_count b) (t : Bool)
+              (well : not c.good ≡ false) (u : ℕ) (eu : u ≡ field_count b) (t : Bool)
               (said : state_in u c.count x ≡ (if t then ok (from_raw x) else refused (refuse 29 none)))
             where
               holds : Holds (sheet_area s) words c.count
-              holds = says.good (not-false c.well-formed well)
+              holds = says.good (not-false c.good well)
 
               -- 29
               pub state_refused : not t ≡ true → (q : Refused) → q ≡ record { number = 29; place = 0 } → Admits b s words o l x k q

@@ -1,5 +1,6 @@
 // What a take would do. Each preview makes the take on the state that it has by value, and finds the places that were used by
 // comparing the marks before and after: at most two. It is refused as the take is, with no places.
+#![tactic(auto)]
 ghost use Rattle.std.specs.Prelude.{◌≡◌, ◌&&◌, ◌≤◌, ◌<◌, length, get_or, drop};
 ghost use Rattle.std.proofs.Math.Option.{some};
 ghost use Rattle.rules.specs.State.{parsed, present};
@@ -16,7 +17,7 @@ use state_marks::{is_parsed, is_present};
 const MARKS: usize = 256;
 
 // How many places a take would use, and the two: each as itself, or 0 where there is none.
-#[derive(Drop)]
+#[derive(Clone, Copy)]
 pub struct Places {
     pub count: u32,
     pub lower: u32,
@@ -25,7 +26,7 @@ pub struct Places {
 
 // The answer of the take, the places in the same way, and the state that would result.
 #[repr(C)]
-#[derive(Drop)]
+#[derive(Clone, Copy)]
 pub struct PreviewAnswer {
     pub number: u32,
     pub place: u32,

@@ -157,7 +157,7 @@ module _ (s words : List ℕ) where
 
         pub gives_good : not r.good ≡ false → Gives s words (record { number = 0; count = r.count })
         gives_good h = record {
-          good = λ _. record { made = sym ef ∙ e; room = long; holds = c.well-formed (not-false r.good h) };
+          good = λ _. record { made = sym ef ∙ e; room = long; holds = c.good (not-false r.good h) };
           bad = λ z. absurd (z refl);
           nothing = λ z. absurd (z refl);
         }

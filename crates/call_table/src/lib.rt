@@ -1,4 +1,5 @@
 // The items that a lent slice holds (refusal 30), and the input that every call on items is given.
+#![tactic(auto)]
 ghost use Rattle.std.specs.Prelude.{◌≡◌, ◌&&◌, List, [], ◌∷◌, ℕ, ◌+◌, ◌*◌, ◌/◌, ◌≤◌, leb, length, get_or, drop};
 ghost use Rattle.rules.specs.Base.{is_some};
 ghost use Rattle.rules.specs.Tree.{zeros};
@@ -13,14 +14,14 @@ use split_arg::ITEM_WORDS;
 use wire::wide;
 
 // Whether each record is well made, and then how many items there are.
-#[derive(Drop)]
+#[derive(Clone, Copy)]
 pub struct Checked {
     pub good: bool,
     pub count: usize,
 }
 
 // The number of a refusal, or 0 and how many items there are.
-#[derive(Drop)]
+#[derive(Clone, Copy)]
 pub struct Input {
     pub number: u32,
     pub count: usize,

@@ -1,4 +1,5 @@
 // The text of an answer word: a part of the sheet or of the form, handed back and not copied.
+#![tactic(auto)]
 ghost use Rattle.std.specs.Prelude.{◌≡◌};
 ghost use Rattle.std.proofs.Math.Option.{some};
 ghost use Rattle.rules.specs.Accept.{Accepted};
@@ -18,7 +19,7 @@ use wire::wide;
 // Which slice holds the text (0 the sheet, 1 the form), and where in that slice. Refused, these three are 0. A place is
 // itself plus 1, or 0 for none.
 #[repr(C)]
-#[derive(Drop)]
+#[derive(Clone, Copy)]
 pub struct TextPart {
     pub number: u32,
     pub place: u32,

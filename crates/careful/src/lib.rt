@@ -1,4 +1,5 @@
 // A careful run: as the run, but an argument that looks like options is not taken for a word.
+#![tactic(auto)]
 ghost use Rattle.std.specs.Prelude.{◌≡◌, length};
 ghost use Rattle.std.proofs.Math.Option.{some};
 ghost use Rattle.rules_careful.specs.Careful.{careful as careful_of};
@@ -15,7 +16,7 @@ pub const MISREAD: u32 = 50;
 
 // As the answer of a run, and why a word is one: the letter that no option has plus 1, or 0 where its name is not UTF-8.
 #[repr(C)]
-#[derive(Drop)]
+#[derive(Clone, Copy)]
 pub struct CarefulAnswer {
     pub number: u32,
     pub place: u32,
@@ -37,7 +38,7 @@ pub fn letter_code(letter: LetterOption) -> u32
 }
 
 // What becomes of a run's answer when its words are looked at. Its tries and its state stay as they are.
-#[derive(Drop)]
+#[derive(Clone, Copy)]
 pub struct Looked {
     pub number: u32,
     pub place: u32,

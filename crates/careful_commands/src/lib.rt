@@ -1,5 +1,6 @@
 // A careful run of a table of commands: as the run, but an argument that looks like options is not taken for a word, unless it is the
 // command word.
+#![tactic(auto)]
 ghost use Rattle.std.specs.Prelude.{◌≡◌, length};
 ghost use Rattle.std.proofs.Math.Option.{some};
 ghost use Rattle.rules_careful.specs.CarefulCommands.{careful_commands};
@@ -20,7 +21,7 @@ const FIRST: usize = 1;
 // As the answer of a table's run, and why a word is one: the letter that no option of any form has plus 1, or 0 where its name is not
 // UTF-8.
 #[repr(C)]
-#[derive(Drop)]
+#[derive(Clone, Copy)]
 pub struct CarefulCommandAnswer {
     pub number: u32,
     pub place: u32,

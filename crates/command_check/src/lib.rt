@@ -1,4 +1,5 @@
 // The test of a table of commands: its offsets and the names of all entries, then the forms, one after the other.
+#![tactic(auto)]
 ghost use Rattle.std.specs.Prelude.{◌≡◌, true, not, ◌&&◌, leb, length};
 ghost use Rattle.std.proofs.Math.Option.{some};
 ghost use Rattle.wire.specs.Wire.{entry_of};
@@ -32,7 +33,7 @@ const NO_ENTRY: u32 = 28;
 
 // Why a table is refused: 0 it is not; 11; 1 to 4 of a form, which `entry` then has. A place and an entry are plus 1, 0 for none.
 #[repr(C)]
-#[derive(Drop)]
+#[derive(Clone, Copy)]
 pub struct TableRefused {
     pub number: u32,
     pub place: u32,
@@ -41,7 +42,7 @@ pub struct TableRefused {
 
 // Where the form of an entry stands in the table. Refused, offset and length are 0.
 #[repr(C)]
-#[derive(Drop)]
+#[derive(Clone, Copy)]
 pub struct FormPart {
     pub number: u32,
     pub place: u32,

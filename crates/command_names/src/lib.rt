@@ -1,5 +1,6 @@
 // The names of a table are tried in order: entry by entry, in each the long names before the short ones. The first that is taken
 // ends it.
+#![tactic(auto)]
 ghost use Rattle.std.specs.Prelude.{◌≡◌, List, ◌+◌, ◌<◌, take, drop};
 ghost use Rattle.rules.specs.Outcome.{ok};
 ghost use Rattle.rules.specs.Sheet.{sheet_area, sheet_fault};
@@ -12,7 +13,7 @@ ghost use Rattle.command_names.specs.Trying.{CanTry, type_candidates, none_taken
 use state_marks::{COMMAND, Numbers};
 
 // `entry` is the number of the entry whose name was taken plus 1, or 0; `comparisons` is how many names were compared.
-#[derive(Drop)]
+#[derive(Clone, Copy)]
 pub struct Tried {
     pub entry: u32,
     pub comparisons: u32,

@@ -1,4 +1,5 @@
 // The run of a table of commands: the first word says which form runs. It asks nothing of its input.
+#![tactic(auto)]
 ghost use Rattle.std.specs.Prelude.{◌≡◌, List, length};
 ghost use Rattle.std.proofs.Math.Option.{some};
 ghost use Rattle.std.proofs.Math.ListN.{get_elem?};
@@ -21,7 +22,7 @@ const NO_COMMAND: u32 = 31;
 
 // How the run of a table ended, and the state that it left. Places and entries are themselves plus 1, or 0 for none.
 #[repr(C)]
-#[derive(Drop)]
+#[derive(Clone, Copy)]
 pub struct CommandAnswer {
     pub number: u32,
     pub place: u32,
@@ -33,7 +34,7 @@ pub struct CommandAnswer {
 }
 
 // The same with its numbers apart from the marks.
-#[derive(Drop)]
+#[derive(Clone, Copy)]
 pub struct Commanded {
     pub comparisons: u32,
     pub entry: u32,

@@ -1,4 +1,5 @@
 // What a combinator makes of its children's results. Where the rules put the state back, the marks are put back.
+#![tactic(auto)]
 ghost use Rattle.std.specs.Prelude.{◌≡◌, List, ℕ, ◌+◌, ◌^◌, ◌<◌};
 ghost use Rattle.std.proofs.Math.Option.{some};
 ghost use Rattle.rules.specs.Value.{BaseValue, word};
@@ -12,13 +13,13 @@ use eval_told::{Ran, refusal, value};
 use state_marks::Numbers;
 use wire::wide;
 
-#[derive(Drop)]
+#[derive(Clone, Copy)]
 pub struct Optioned {
     pub ran: Ran,
     pub present: bool,
 }
 
-#[derive(Drop)]
+#[derive(Clone, Copy)]
 pub struct Chosen {
     pub ran: Ran,
     pub first: bool,

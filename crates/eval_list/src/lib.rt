@@ -1,4 +1,5 @@
 // The run of a node whose value is a list or an optional list. Its words go to a lent slice, where all is 0 from the first of them on.
+#![tactic(auto)]
 ghost use Rattle.std.specs.Prelude.{◌≡◌, ◌∷◌, ◌+◌, ◌≤◌, ◌<◌, length, take, drop};
 ghost use Rattle.std.proofs.Math.Option.{some};
 ghost use Rattle.std.proofs.lemmas.List.Edits.{sets};
@@ -13,14 +14,14 @@ use state_marks::Numbers;
 use wire::wide;
 
 // A node, and the word of the answer slice that its value begins at.
-#[derive(Drop)]
+#[derive(Clone, Copy)]
 pub struct Field {
     pub node: usize,
     pub at: usize,
 }
 
 // The child of a node, whether its refusal is caught, and where the value begins.
-#[derive(Drop)]
+#[derive(Clone, Copy)]
 struct Child {
     node: usize,
     catch: bool,
@@ -28,7 +29,7 @@ struct Child {
 }
 
 // The two sides of a choice, and where the value begins.
-#[derive(Drop)]
+#[derive(Clone, Copy)]
 struct Either {
     left: usize,
     right: usize,
@@ -99,7 +100,7 @@ fn run_some(
 }
 
 // A node whose value is a list or an optional list: its words go to `out` from `at` on, where all is 0.
-#[cycle(run_either_run_list_run_optional_list)]
+#[cycle(lists)]
 pub fn run_list(
     form: &[u8],
     known: &[u64],
@@ -135,7 +136,7 @@ pub fn run_list(
 }
 
 // A list that is present has 1 before its words. Absent or refused, the child wrote nothing, and the word of an absent value is 0.
-#[cycle(run_either_run_list_run_optional_list)]
+#[cycle(lists)]
 fn run_optional_list(
     form: &[u8],
     known: &[u64],
@@ -165,7 +166,7 @@ fn run_optional_list(
 }
 
 // Of two lists the one that wins. Both are run on the same marks and write to the same words.
-#[cycle(run_either_run_list_run_optional_list)]
+#[cycle(lists)]
 fn run_either(
     form: &[u8],
     known: &[u64],

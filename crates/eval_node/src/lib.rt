@@ -1,5 +1,6 @@
 // The run of a node and the run of a repeat, which call each other: a child has a lower number than its node, and within a
 // repeat fewer places remain at every turn. The members call and hand on; what there is to decide is decided outside.
+#![tactic(auto)]
 ghost use Rattle.std.specs.Prelude.{◌≡◌, true, ◌+◌, ◌≤◌, ◌<◌, length, replicate};
 ghost use Rattle.std.proofs.Math.Option.{some};
 ghost use Rattle.std.proofs.Math.ListN.{get_elem?};
@@ -24,7 +25,7 @@ use wire::wide;
 
 // A repeat: of which child, whether a refusal of the child is caught, whether a success that used nothing ends it, and whether
 // the values are written, from the word behind `at` on.
-#[derive(Drop)]
+#[derive(Clone, Copy)]
 pub struct Repeat {
     pub child: usize,
     pub catch: bool,
@@ -35,7 +36,7 @@ pub struct Repeat {
 
 // A repeat's child, and the node that a turn evaluates first: a leaf beneath the child, or the child itself. It is read once, not at
 // every turn.
-#[derive(Drop)]
+#[derive(Clone, Copy)]
 struct Chain {
     child: usize,
     leaf: usize,
@@ -43,7 +44,7 @@ struct Chain {
 }
 
 // A node whose value is no list.
-#[cycle(choice_choice_copied_count_fallback_fallback_copied_guard_last_leaf_optional_run_node_run_repeat_turn)]
+#[cycle(nodes)]
 pub fn run_node(
     form: &[u8],
     known: &[u64],
@@ -72,7 +73,7 @@ pub fn run_node(
     }
 }
 
-#[cycle(choice_choice_copied_count_fallback_fallback_copied_guard_last_leaf_optional_run_node_run_repeat_turn)]
+#[cycle(nodes)]
 fn optional(
     form: &[u8],
     known: &[u64],
@@ -100,7 +101,7 @@ fn optional(
     answer
 }
 
-#[cycle(choice_choice_copied_count_fallback_fallback_copied_guard_last_leaf_optional_run_node_run_repeat_turn)]
+#[cycle(nodes)]
 fn fallback(
     form: &[u8],
     known: &[u64],
@@ -127,7 +128,7 @@ fn fallback(
 }
 
 // A fallback whose child may have used something though it is refused: the marks are copied.
-#[cycle(choice_choice_copied_count_fallback_fallback_copied_guard_last_leaf_optional_run_node_run_repeat_turn)]
+#[cycle(nodes)]
 fn fallback_copied(
     form: &[u8],
     known: &[u64],
@@ -152,7 +153,7 @@ fn fallback_copied(
 }
 
 // A guard, as it is laid out.
-#[cycle(choice_choice_copied_count_fallback_fallback_copied_guard_last_leaf_optional_run_node_run_repeat_turn)]
+#[cycle(nodes)]
 fn guard(
     form: &[u8],
     known: &[u64],
@@ -170,7 +171,7 @@ fn guard(
     eval_combine::guard(ran, x.lo, x.hi)
 }
 
-#[cycle(choice_choice_copied_count_fallback_fallback_copied_guard_last_leaf_optional_run_node_run_repeat_turn)]
+#[cycle(nodes)]
 fn choice(
     form: &[u8],
     known: &[u64],
@@ -201,7 +202,7 @@ fn choice(
 }
 
 // A choice of which both sides may change the marks: they are copied.
-#[cycle(choice_choice_copied_count_fallback_fallback_copied_guard_last_leaf_optional_run_node_run_repeat_turn)]
+#[cycle(nodes)]
 fn choice_copied(
     form: &[u8],
     known: &[u64],
@@ -227,7 +228,7 @@ fn choice_copied(
 }
 
 // The number of values that a repeat counts. Nothing is written.
-#[cycle(choice_choice_copied_count_fallback_fallback_copied_guard_last_leaf_optional_run_node_run_repeat_turn)]
+#[cycle(nodes)]
 fn count(
     form: &[u8],
     known: &[u64],
@@ -267,7 +268,7 @@ fn count(
 }
 
 // The last value; with none, the child is tried once more.
-#[cycle(choice_choice_copied_count_fallback_fallback_copied_guard_last_leaf_optional_run_node_run_repeat_turn)]
+#[cycle(nodes)]
 fn last(
     form: &[u8],
     known: &[u64],
@@ -312,7 +313,7 @@ fn last(
 }
 
 // A leaf searches from `from` on: the turns before used all that it would find earlier. Any other node runs as it does elsewhere.
-#[cycle(choice_choice_copied_count_fallback_fallback_copied_guard_last_leaf_optional_run_node_run_repeat_turn)]
+#[cycle(nodes)]
 fn leaf(
     form: &[u8],
     known: &[u64],
@@ -348,7 +349,7 @@ fn leaf(
 }
 
 // One evaluation of a repeat's child: its leaf goes on from `from`, and the child makes its result of the leaf's.
-#[cycle(choice_choice_copied_count_fallback_fallback_copied_guard_last_leaf_optional_run_node_run_repeat_turn)]
+#[cycle(nodes)]
 fn turn(
     form: &[u8],
     known: &[u64],
@@ -369,7 +370,7 @@ fn turn(
 
 // Evaluates the child until it is absent, or a success does not count, or one of `count` and `last` used nothing. Each value is
 // written to the next words of `out`, from the word behind `at` on, where that is asked for.
-#[cycle(choice_choice_copied_count_fallback_fallback_copied_guard_last_leaf_optional_run_node_run_repeat_turn)]
+#[cycle(nodes)]
 pub fn run_repeat(
     form: &[u8],
     known: &[u64],

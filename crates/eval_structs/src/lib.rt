@@ -1,4 +1,5 @@
 // What each combinator decides, from numbers alone: the run only calls and hands on. A number is 0 for a success, else the refusal's.
+#![tactic(auto)]
 ghost use Rattle.std.proofs.Math.Option.{none};
 ghost use Rattle.std.specs.Prelude.{◌≡◌, Bool, true, false, not, ◌&&◌, List, eqb, length};
 ghost use Rattle.utf8.specs.Utf8.{if◌then◌else◌};
@@ -11,7 +12,7 @@ ghost use Rattle.eval_structs.specs.Decisions.{with_remaining, counted_of, optio
 
 // `parse_option`: a success that counts, one that does not, a refusal that becomes "absent", with the state put back, and one
 // that is passed on.
-#[derive(Drop)]
+#[derive(Clone, Copy)]
 pub enum Counting {
     Counted,
     Uncounted,
@@ -20,7 +21,7 @@ pub enum Counting {
 }
 
 // Fallback: the child's value, its own with the state put back, or the child's refusal.
-#[derive(Drop)]
+#[derive(Clone, Copy)]
 pub enum Fallback {
     Child,
     Own,
@@ -28,7 +29,7 @@ pub enum Fallback {
 }
 
 // `this_or_that_picks_first`: a side, the one that `pick_winner` says, or a refusal.
-#[derive(Drop)]
+#[derive(Clone, Copy)]
 pub enum Pick {
     First,
     Second,

@@ -1,4 +1,5 @@
 // How the evaluation of a node ended, as numbers.
+#![tactic(auto)]
 ghost use Rattle.std.specs.Prelude.{◌≡◌, ◌+◌, ◌<◌};
 ghost use Rattle.eval_told.specs.Results.{value_ran, refusal_ran, more_tries, written};
 
@@ -7,7 +8,7 @@ use state_marks::Numbers;
 // Number 0 is a value, else it is the refusal's, with its place plus 1. `len` is how many words the value has. A value that is
 // no list goes as one word, or as 1 and a word where it is optional and present; an absent one is the word 0. The words of a
 // list stand in the answer slice. A refusal has no words.
-#[derive(Drop)]
+#[derive(Clone, Copy)]
 pub struct Ran {
     pub number: u32,
     pub place: u32,

@@ -1,4 +1,5 @@
 // The values that a repeat counts, and the words of values in the answer slice: written, set aside, moved and cleared.
+#![tactic(auto)]
 ghost use Rattle.std.specs.Prelude.{◌≡◌, true, ◌∷◌, ◌+◌, ◌≤◌, ◌<◌, length, take, drop, replicate};
 ghost use Rattle.std.proofs.lemmas.List.Edits.{sets};
 ghost use Rattle.utf8.specs.Utf8.{if◌then◌else◌};
@@ -13,7 +14,7 @@ use wire::wide;
 const LIST_WORDS: usize = 515;
 
 // How a repeat ended: how many values were counted, how many words of them were written, and the last of them.
-#[derive(Drop)]
+#[derive(Clone, Copy)]
 pub struct Repeated {
     pub number: u32,
     pub place: u32,

@@ -1,4 +1,5 @@
 // The repeats of a form whose child may be idle: values from nothing.
+#![tactic(auto)]
 ghost use Rattle.std.specs.Prelude.{◌≡◌, true, ◌^◌, ◌<◌, length};
 ghost use Rattle.std.proofs.Math.Option.{some};
 ghost use Rattle.utf8.specs.Utf8.{if◌then◌else◌};
@@ -9,7 +10,7 @@ ghost use Rattle.form_idle.specs.Idles.{is_by_child, idle_by, repeat_by, said_in
 
 // Node n is bit n of `nodes`. Refused, there is none, and the refusal stands beside it. A place is itself plus 1, or 0 for none.
 #[repr(C)]
-#[derive(Drop)]
+#[derive(Clone, Copy)]
 pub struct IdleAnswer {
     pub number: u32,
     pub place: u32,

@@ -1,4 +1,5 @@
 // Two forms made one: the first's fields, nodes, names and area, each with the second's behind it, whose numbers move up.
+#![tactic(auto)]
 ghost use Rattle.std.specs.Prelude.{◌≡◌, true, [], ◌∷◌, ◌+◌, ◌*◌, ◌≤◌, length};
 ghost use Rattle.std.proofs.Math.Option.{some};
 ghost use Rattle.std.proofs.Math.ListN.{get_elem?};
@@ -33,7 +34,7 @@ const TOO_LARGE: u32 = 18;
 
 // A place is itself plus 1, or 0 for none. `form` is the form at fault, 1 or 2, or 0. Refused, the length is 0.
 #[repr(C)]
-#[derive(Drop)]
+#[derive(Clone, Copy)]
 pub struct Joined {
     pub number: u32,
     pub place: u32,
@@ -42,7 +43,7 @@ pub struct Joined {
 }
 
 // How far a form's numbers move up.
-#[derive(Drop)]
+#[derive(Clone, Copy)]
 struct Moves {
     nodes: usize,
     names: usize,
@@ -50,7 +51,7 @@ struct Moves {
 }
 
 // The counts of a form.
-#[derive(Drop)]
+#[derive(Clone, Copy)]
 struct Counts {
     nodes: usize,
     fields: usize,

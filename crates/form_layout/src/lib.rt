@@ -1,4 +1,5 @@
 // A form's counts and length, and the readers of its fields, nodes and names.
+#![tactic(auto)]
 ghost use Rattle.std.specs.Prelude.{◌≡◌, true, ◌≤◌, ◌<◌, length};
 ghost use Rattle.std.proofs.Math.Option.{some};
 ghost use Rattle.std.proofs.Math.ListN.{get_elem?};
@@ -17,7 +18,7 @@ const NAMES: usize = 128;
 const AREA: usize = 4096;
 
 // A node's numbers, as the form has them.
-#[derive(Drop)]
+#[derive(Clone, Copy)]
 pub struct Node {
     pub kind: u32,
     pub p: usize,

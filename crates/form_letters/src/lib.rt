@@ -1,4 +1,5 @@
 // The letters that splitting looks up: the short names of a form's flags and of its arguments.
+#![tactic(auto)]
 ghost use Rattle.std.specs.Prelude.{◌≡◌, true, not, List, ◌∷◌, [], ◌++◌, ◌+◌, ◌≤◌, ◌<◌, min, eqb, length, replicate};
 ghost use Rattle.std.specs.Int.Bits.{bit_and};
 ghost use Rattle.rules.specs.Form.{Node as RulesNode, name_count, read_form};
@@ -9,7 +10,7 @@ ghost use Rattle.form_letters.specs.Letters.{WroteLetters, letter_if, Appended};
 ghost use Rattle.form_letters.specs.Classes.{Classed, MarkedBits};
 
 // How many letters the flags and the arguments have.
-#[derive(Drop)]
+#[derive(Clone, Copy)]
 pub struct Counts {
     pub flags: usize,
     pub arguments: usize,

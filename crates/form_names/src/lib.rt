@@ -1,4 +1,5 @@
 // Name records, six bytes each (type, offset and size in an area), and the names that they give.
+#![tactic(auto)]
 ghost use Rattle.std.specs.Prelude.{◌≡◌, true, ◌+◌, ◌*◌, ◌≤◌, length};
 ghost use Rattle.rules.specs.Base.{first_fault};
 ghost use Rattle.rules.specs.Codes.{place_code};
@@ -6,7 +7,7 @@ ghost use Rattle.rules.specs.Form.{read_name, name_bytes, one_character, type_go
 ghost use Rattle.form_names.specs.Names.{name_of, names_in, fault_or};
 
 // A name record; `kind` is its type: 0 short, 1 long, 2 text.
-#[derive(Drop)]
+#[derive(Clone, Copy)]
 pub struct Name {
     pub kind: u32,
     pub offset: usize,

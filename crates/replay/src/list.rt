@@ -6,7 +6,7 @@ ghost use Rattle.replay.specs.List.{HasCase, CaseTold, case_at};
 use crate::{cases, words};
 
 // What came of a list: one that is no table has no cases.
-#[derive(Drop)]
+#[derive(Clone, Copy)]
 pub struct Tally {
     pub cases: u64,
     pub differ: u64,

@@ -1,5 +1,6 @@
 // Replays fixed lists of answers against the proved crates, and prints a line for each list: how many cases it has and how
 // many differ. The answers are those of the Rust: of its standard library for `utf8`, of the oracle for the others.
+#![tactic(auto)]
 ghost use Rattle.io.specs.Counts.{IsPrefixLen};
 
 mod calls;

@@ -21,7 +21,7 @@ pub fn word_at(part: &[u8], k: usize) -> u32
 }
 
 // A call by its number, and what it is told: two numbers, the first also as a word.
-#[derive(Drop)]
+#[derive(Clone, Copy)]
 pub struct Head {
     pub call: u32,
     pub word: u32,

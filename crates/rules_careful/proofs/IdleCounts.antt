@@ -175,7 +175,8 @@ module _ (k : ℕ) (p : parsed k ≡ true) (is : List Item) (s : State) (g : Goo
   at_most_used (Some c t) z i =
       made_within size (repeated c false (eval k is t) s) (λ vs. if null vs then refused (refuse 21 none) else ok (list_of vs))
       (child_within t (sound_some c t z) i c false)
-      (λ vs w. if_holds (Numbered size s _) (null vs) (refused (refuse 21 none)) (ok (list_of vs)) (λ _. tt) (λ _. rw (size_list vs) w))
+      (λ vs w. if_holds (Numbered size s (repeated c false (eval k is t) s).state) (null vs) (refused (refuse 21 none)) (ok (list_of vs)) (λ _. tt)
+      (λ _. rw (size_list vs) w))
   at_most_used (Count t) z i =
       λ n e. made_within count_in (repeated false true (eval k is t) s) (λ vs. ok (base (is_number (length vs))))
       (child_within t (sound_count t z) i false true) (λ vs w. w) (base (is_number n)) e

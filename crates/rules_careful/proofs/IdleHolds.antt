@@ -24,6 +24,7 @@ use Rattle.rules.specs.Sound.{Sound}
 use Rattle.rules.specs.CallsAnswered.{Answers, answers, refuses}
 use Rattle.rules.proofs.Acceptance.{All-at, accepted_trees_sound}
 use Rattle.rules.proofs.EvalSound.{Flat}
+use Rattle.rules.specs.Eval.{eval}
 use Rattle.rules.proofs.Fields.{field_parsed}
 use Rattle.rules.proofs.WellMadeLaws.{check_fault}
 use Rattle.rules.proofs.CallsAnswer.{form_number}
@@ -97,7 +98,7 @@ module _ (form : List ℕ) (a : Accepted) (g : check_form form ≡ accepted a) w
     missing = λ j n t e f i. child_missing j t (flat_at n t e f) i;
     one = λ j n t e i. one_from_nothing j t (sound_at n t e) i;
     none = λ j n t e i. none_from_nothing j t (sound_at n t e) i;
-    uses = λ j n t e f i is s h. falls_at s _ _ (idle_falls (field_mark j) (field_parsed j) is t (sound_at n t e) f i s h);
+    uses = λ j n t e f i is s h. falls_at s (eval (field_mark j) is t s).state _ (idle_falls (field_mark j) (field_parsed j) is t (sound_at n t e) f i s h);
     bounded = λ j n t e i is s h. at_most_used (field_mark j) (field_parsed j) is s h t (sound_at n t e) i;
   }
 

@@ -1,4 +1,5 @@
 // All fields of a form on one state, each from where the last one ended, and then refusal 27.
+#![tactic(auto)]
 ghost use Rattle.std.specs.Prelude.{◌≡◌, ◌+◌, ◌≤◌, length, replicate};
 ghost use Rattle.rules.specs.Accept.{Accepted, accepted, check_form};
 ghost use Rattle.rules.specs.Sheet.{sheet_area};
@@ -18,7 +19,7 @@ pub const ANSWER_WORDS: usize = 8240;
 // How a run, or the evaluation of one node, ended, and the state that it left. A place is itself plus 1, or 0 for none; `words` is
 // how many answer words there are.
 #[repr(C)]
-#[derive(Drop)]
+#[derive(Clone, Copy)]
 pub struct RunAnswer {
     pub number: u32,
     pub place: u32,
@@ -28,7 +29,7 @@ pub struct RunAnswer {
 }
 
 // How the run of all fields ended. `words` is how many answer words there are, `field` is the field that was refused, or 0.
-#[derive(Drop)]
+#[derive(Clone, Copy)]
 pub struct Reached {
     pub number: u32,
     pub place: u32,

@@ -1,5 +1,6 @@
 // The step from a short sheet to the next. Bytes are counted as places in the alphabet, lengths as numbers up to 4, both as digits of which
 // the last goes fastest.
+#![tactic(auto)]
 ghost use Rattle.std.specs.Prelude.{◌≡◌, map, ◌+◌, ◌≤◌, ◌<◌, length};
 ghost use Rattle.std.proofs.lemmas.List.Edits.{sets};
 ghost use Rattle.rules.specs.Sheet.{arguments};
@@ -15,7 +16,7 @@ const LENGTHS: u8 = 5;
 
 // Refused, or after the last sheet, the length is 0. There is never a place.
 #[repr(C)]
-#[derive(Drop)]
+#[derive(Clone, Copy)]
 pub struct NextSheet {
     pub number: u32,
     pub place: u32,

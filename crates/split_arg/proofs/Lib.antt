@@ -3,3 +3,4 @@ pub mod Names
 pub mod LookUp
 pub mod Order
 pub mod Records
+pub mod Tags

@@ -1,4 +1,5 @@
 // One argument: its name and value, the letters of a cluster, and items as records of seven words.
+#![tactic(auto)]
 ghost use Rattle.std.specs.Prelude.{◌≡◌, true, ◌+◌, ◌*◌, ◌^◌, ◌≤◌, ◌<◌, length, get_or, drop};
 ghost use Rattle.std.proofs.lemmas.List.Edits.{sets};
 ghost use Rattle.utf8.specs.Utf8.{decode_at, well_formed};
@@ -19,7 +20,7 @@ pub const ITEM_WORDS: usize = 1792;
 
 // What `split_os_argument` finds. A short name begins at byte 1 of the argument and a long one at byte 2; `name` is how many
 // bytes it has, and `body` where the value begins.
-#[derive(Drop)]
+#[derive(Clone, Copy)]
 pub enum Parts {
     None,
     Short { name: usize },
@@ -101,7 +102,7 @@ pub fn split_os_argument(os: &[u8]) -> Parts
 }
 
 // How the loop over a cluster's letters ends, known before anything is written. `before` counts the flags' letters passed.
-#[derive(Drop)]
+#[derive(Clone, Copy)]
 pub enum Outcome {
     // A letter alone, whatever it is.
     Single {
@@ -279,14 +280,14 @@ pub fn disambiguate_short(name: &[u8], flags: &[u32], arguments: &[u32]) -> Outc
 }
 
 // A part of the sheet's area.
-#[derive(Drop)]
+#[derive(Clone, Copy)]
 pub struct Part {
     pub offset: u32,
     pub length: u32,
 }
 
 // The Rust's Arg, with the parts of the area that are its name and its text.
-#[derive(Drop)]
+#[derive(Clone, Copy)]
 pub enum Item {
     Short(u32, bool, Part),
     Long(Part, bool, Part),

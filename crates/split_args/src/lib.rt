@@ -1,4 +1,5 @@
 // From the arguments of a sheet to items and a state: the Rust's `construct`.
+#![tactic(auto)]
 ghost use Rattle.std.specs.Prelude.{◌≡◌, ◌≤◌, length};
 ghost use Rattle.rules.specs.Base.{all};
 ghost use Rattle.rules.specs.Sheet.{sheet_fault, arguments};
@@ -22,7 +23,7 @@ const AMBIGUOUS: u32 = 9;
 
 // How splitting ended: 0, 8 or 9; the place of 9 plus 1; how many items there are; the place of the first `--` plus 1. A place
 // is 0 for none.
-#[derive(Drop)]
+#[derive(Clone, Copy)]
 pub struct Ended {
     pub number: u32,
     pub place: u32,

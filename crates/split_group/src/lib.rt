@@ -1,4 +1,5 @@
 // From one argument to its items, which are written once the outcome of the argument and their number are known.
+#![tactic(auto)]
 ghost use Rattle.std.specs.Prelude.{◌≡◌, [], ◌∷◌, ◌++◌, ◌+◌, ◌-◌, ◌*◌, ◌^◌, ◌≤◌, ◌<◌, drop};
 ghost use Rattle.std.proofs.Math.Option.{none};
 ghost use Rattle.std.proofs.lemmas.List.Edits.{sets};
@@ -15,7 +16,7 @@ use utf8::Decoded;
 
 // What one argument gave: how many items, which of them is the Word of an ambiguous letter (plus 1, or 0 for none), and
 // whether it is the first `--`. More items than there is room for are not written.
-#[derive(Drop)]
+#[derive(Clone, Copy)]
 pub struct Group {
     pub count: usize,
     pub ambiguous: usize,

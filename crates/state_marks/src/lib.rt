@@ -1,4 +1,5 @@
 // The record of used places: the marks are lent, the numbers of a state go by value.
+#![tactic(auto)]
 ghost use Rattle.std.proofs.Math.Option.{none};
 ghost use Rattle.std.specs.Prelude.{◌≡◌, true, ◌++◌, ◌+◌, ◌-◌, ◌≤◌, ◌<◌, eqb, length, take, drop};
 ghost use Rattle.std.specs.Bool.{xor};
@@ -25,7 +26,7 @@ pub const FIELD: u16 = 512;
 pub const MOST_FIELDS: usize = 16;
 
 // A state without its marks. The current place is itself plus 1, or 0 for none.
-#[derive(Drop)]
+#[derive(Clone, Copy)]
 pub struct Numbers {
     pub count: u32,
     pub remaining: u32,
@@ -35,7 +36,7 @@ pub struct Numbers {
 }
 
 // Whether the first of two states wins, and the place that decides, plus 1, or 0 for none.
-#[derive(Drop)]
+#[derive(Clone, Copy)]
 pub struct Picked {
     pub first: bool,
     pub place: u32,

@@ -1,4 +1,5 @@
 // The calls on a state by value, for states that refusal 29 lets through.
+#![tactic(auto)]
 ghost use Rattle.std.specs.Prelude.{◌≡◌, true, List, ◌≤◌, ◌<◌, length};
 ghost use Rattle.rules.specs.Outcome.{ok};
 ghost use Rattle.rules.specs.Split.{Item};
@@ -12,21 +13,21 @@ use rules::State;
 use state_marks::{Picked, is_parsed, is_present, joined, numbers_of, winner_of};
 use wire::wide;
 
-#[derive(Drop)]
+#[derive(Clone, Copy)]
 pub struct Scope {
     pub start: u32,
     pub end: u32,
 }
 
 // A scope's start and end, or none.
-#[derive(Drop)]
+#[derive(Clone, Copy)]
 pub enum ScopeOption {
     Some(u32, u32),
     None,
 }
 
 // A place in conflict and its winner, or none.
-#[derive(Drop)]
+#[derive(Clone, Copy)]
 pub enum ConflictOption {
     Some(u32, u32),
     None,

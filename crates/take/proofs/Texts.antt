@@ -2,7 +2,7 @@
 use mathlib.Core.Path.{◌≡◌, refl, sym, ap, ◌∙◌}
 use mathlib.Core.Bool.{Bool, true, false, not, ◌||◌}
 use mathlib.Core.List.{List, [], ◌∷◌}
-use mathlib.Core.Logic.{⊎_elim}
+use mathlib.Core.Logic.{⊎_elim, inl, inr}
 use mathlib.Core.Option.{Option, some, none}
 use Prim.Native.Nat.{ℕ, ◌+◌, ◌*◌, ◌≤◌, ◌<◌}
 use native.Mathlib.Nat.{add-zero}
@@ -28,6 +28,22 @@ use Rattle.take_search.specs.Items.{part_bytes, HasPart, operand_kind}
 use Rattle.take_search.specs.Search.{HasItem}
 use Rattle.take_search.proofs.Items.{is_short_lem, is_long_lem, is_arg_word_lem, is_word, is_pos_word_lem}
 use Rattle.take.specs.Takes.{text_part, strict_item, compared_item}
+
+-- the tags that an arm for all others leaves
+pub tags_not_compared : (z : Item) → ((c : ℕ) → (a : Bool) → (t : Part) → z ≡ Short c a t → ⊥)
+    → ((n : Part) → (a : Bool) → (t : Part) → z ≡ Long n a t → ⊥) → ((t : Part) → z ≡ Word t → ⊥) → OneOf (2 ∷ 4 ∷ []) (tag_of T.the_type z)
+tags_not_compared (Short c a t) s l w = absurd (s c a t refl)
+tags_not_compared (Long n a t) s l w = absurd (l n a t refl)
+tags_not_compared (ArgWord t) s l w = inl refl
+tags_not_compared (Word t) s l w = absurd (w t refl)
+tags_not_compared (PosWord t) s l w = inr refl
+
+pub tags_not_word : (z : Item) → ((t : Part) → z ≡ ArgWord t → ⊥) → ((t : Part) → z ≡ Word t → ⊥) → OneOf (0 ∷ 1 ∷ 4 ∷ []) (tag_of T.the_type z)
+tags_not_word (Short c a t) h w = inl refl
+tags_not_word (Long n a t) h w = inr (inl refl)
+tags_not_word (ArgWord t) h w = absurd (h t refl)
+tags_not_word (Word t) h w = absurd (w t refl)
+tags_not_word (PosWord t) h w = inr (inr refl)
 
 -- what the rules' item has of the code's
 pub record Agrees (area : List ℕ) (item : Item) (x : rules.Item) : Type 0 where

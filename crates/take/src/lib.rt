@@ -1,5 +1,6 @@
 // The takes: `take_flag`, `take_arg`, `take_positional_word`, `take_cmd`. Each is told the mark of what it uses. A take that is
 // told where to search from answers the same: its caller knows that no earlier place is the one that is sought.
+#![tactic(auto)]
 ghost use Rattle.std.specs.Prelude.{◌≡◌, Bool, true, false, List, ℕ, ◌+◌, ◌*◌, ◌≤◌, ◌<◌, length, get_or};
 ghost use Rattle.std.proofs.Math.Option.{some};
 ghost use Rattle.rules.specs.Sheet.{sheet_area, sheet_fault};
@@ -23,34 +24,34 @@ use take_search::Names;
 use wire::wide;
 
 // Whether it was taken.
-#[derive(Drop)]
+#[derive(Clone, Copy)]
 pub struct Flag {
     pub found: bool,
     pub numbers: Numbers,
 }
 
 // The value of an argument: its place and its text; or the place of a key that has none (refusal 22).
-#[derive(Drop)]
+#[derive(Clone, Copy)]
 pub enum Value {
     Missing,
     Taken(usize, Part),
     NoArgument(usize),
 }
 
-#[derive(Drop)]
+#[derive(Clone, Copy)]
 pub struct Argument {
     pub value: Value,
     pub numbers: Numbers,
 }
 
 // A word that a positional takes: its place, whether it is a PosWord, and its text.
-#[derive(Drop)]
+#[derive(Clone, Copy)]
 pub enum Operand {
     Missing,
     Taken(usize, bool, Part),
 }
 
-#[derive(Drop)]
+#[derive(Clone, Copy)]
 pub struct Positional {
     pub operand: Operand,
     pub numbers: Numbers,

@@ -1,4 +1,5 @@
 // Which items have one of a node's names, and the searches for the first such item and for the first operand.
+#![tactic(auto)]
 ghost use Rattle.std.specs.Prelude.{◌≡◌, not, ◌||◌, List, ℕ, ◌+◌, ◌*◌, ◌≤◌, ◌<◌, length, get_or, take, drop};
 ghost use Rattle.std.proofs.Math.Option.{some};
 ghost use Rattle.std.proofs.Math.ListN.{get_elem?};
@@ -20,7 +21,7 @@ use state_marks::is_present;
 
 // The names of a node: `count` records of the form from `first` on. An adjacent argument takes only an item that has its value
 // in its own word.
-#[derive(Drop)]
+#[derive(Clone, Copy)]
 pub struct Names {
     pub first: usize,
     pub count: usize,

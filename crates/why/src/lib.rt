@@ -1,4 +1,5 @@
 // Why a place was left over: the run, and where it ends in 27 the reason for a place that is present.
+#![tactic(auto)]
 ghost use Rattle.std.specs.Prelude.{◌≡◌, length};
 ghost use Rattle.std.proofs.Math.Option.{some};
 ghost use Rattle.rules.specs.Why.{refused_before, why as why_of};
@@ -15,7 +16,7 @@ const NOT_THERE: u32 = 28;
 
 // The number and place of a refusal, or a reason from 1 on. The detail is a place plus 1, or a character.
 #[repr(C)]
-#[derive(Drop)]
+#[derive(Clone, Copy)]
 pub struct WhyAnswer {
     pub number: u32,
     pub place: u32,

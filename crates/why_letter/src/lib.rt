@@ -1,4 +1,5 @@
 // The letter for which a cluster was withdrawn: the first that no flag and no argument of the form has.
+#![tactic(auto)]
 ghost use Rattle.std.specs.Prelude.{◌≡◌, true, ◌||◌, ◌*◌, ◌≤◌, length, drop, replicate};
 ghost use Rattle.utf8.specs.Utf8.{well_formed};
 ghost use Rattle.rules.specs.Base.{contains, is_some};
@@ -10,7 +11,7 @@ ghost use Rattle.why_letter.specs.Withdrawn.{CanExplain, RestTold, LetterTold, C
 use split_arg::Item;
 use utf8::Decoded;
 
-#[derive(Drop)]
+#[derive(Clone, Copy)]
 pub enum LetterOption {
     None,
     Some(u32),

@@ -1,4 +1,5 @@
 // The first of seven reasons whose fact holds of a place that was left over.
+#![tactic(auto)]
 ghost use Rattle.std.specs.Prelude.{◌≡◌, ◌<◌, length};
 ghost use Rattle.why_letter.specs.Withdrawn.{CanExplain};
 ghost use Rattle.why_reason.specs.Reasons.{CanReason, LeftAt, NameTold, ValueTold, OperandTold, ItemTold, FindsReason};
@@ -23,7 +24,7 @@ const UNKNOWN_LETTER: u32 = 6;
 const NONE_OF_THESE: u32 = 7;
 
 // A reason by its code, and its detail.
-#[derive(Drop)]
+#[derive(Clone, Copy)]
 pub struct Reason {
     pub code: u32,
     pub detail: u32,

@@ -1,0 +1,16 @@
+-- The record is that of the enum's case; a size is at most 4, so it fits 32 bits. Assumes nothing.
+use mathlib.Core.Path.{sym, ◌∙◌, ap}
+use native.Mathlib.Omega.{arith}
+use borrow.Author.Rules.{rules}
+use Rattle.utf8.specs.Laws.{character}
+use Rattle.call_answers.specs.Answers.{decoding}
+use Rattle.call_answers.proofs.decode.Goals as goal
+
+pub overflow_cast-result : goal.overflow_cast-result
+overflow_cast-result c = omega (arith, character _ _ _ _ (sym c.decode_at-d.ensures ∙ c.in-Char.is))
+
+pub returns-in-Char : goal.returns-in-Char
+returns-in-Char c = ap decoding (sym c.in-Char.is ∙ c.decode_at-d.ensures)
+
+pub returns-in-Bad : goal.returns-in-Bad
+returns-in-Bad c = ap decoding (sym c.in-Bad.is ∙ c.decode_at-d.ensures)

@@ -1,0 +1,7 @@
+use mathlib.Core.Path.{ap}
+use borrow.Author.Rules.{rules}
+use Rattle.call_check.specs.Reader.{sheet_code}
+use Rattle.call_check.proofs.sheet_check.Goals as goal
+
+pub returns : goal.returns
+returns c = ap sheet_code c.check-number.ensures

@@ -1,0 +1,6 @@
+use borrow.Author.Rules.{rules}
+use Rattle.call_check.proofs.Splits.{split_state}
+use Rattle.call_check.proofs.split.Goals as goal
+
+pub returns : goal.returns
+returns c = search split_state

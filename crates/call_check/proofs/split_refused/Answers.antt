@@ -1,0 +1,6 @@
+use borrow.Author.Rules.{rules}
+use Rattle.call_check.proofs.Splits.{refused_splitting}
+use Rattle.call_check.proofs.split_refused.Goals as goal
+
+pub returns : goal.returns
+returns c = search refused_splitting

@@ -1,0 +1,29 @@
+-- A turn keeps the bound, and goes one place on in the scan; the end of the scan is what `call_find` finds. Assumes nothing.
+use Rattle.std.proofs.Common.{◌+◌, ◌≤◌, drop, sym, ◌∙◌, ap, subst, arith}
+use Rattle.call_find.specs.declared.Seen.{Seen}
+use Rattle.call_find.specs.Scan.{scan}
+use Rattle.call_find.proofs.Scan.{turned_most, scan_end, scan_step}
+use Rattle.call_find.proofs.Laws.{found_by}
+use Rattle.call_find.proofs.find.Goals as goal
+
+pub loop-i-preserved : goal.loop-i-preserved
+loop-i-preserved c =
+    let a = c.args in
+    let g = c.started-search.result in
+    let u = c.loop-i.invariant in
+    let e = c.turn-seen.ensures in
+    record {
+      most = omega (arith, c.loop-i-test.true);
+      small = subst (λ (d : Seen). d.found ≤ d.count + 1) (sym e) (turned_most a.form.now a.sheet.now a.s g _ c.loop-i.i c.loop-i.seen u.small);
+      same =
+        u.same ∙ scan_step a.form.now a.sheet.now a.s g a.items.now c.loop-i.i c.loop-i.seen _ c.loop-i-test.true
+        ∙ ap (scan a.form.now a.sheet.now a.s g (drop (c.loop-i.i + 1) a.items.now) (c.loop-i.i + 1)) (sym e);
+    }
+
+pub returns : goal.returns
+returns c =
+    let a = c.args in
+    let g = c.started-search.result in
+    let t = scan_end a.form.now a.sheet.now a.s g a.items.now c.loop-i.i c.loop-i.seen c.loop-i-test.false in
+    found_by a.form.now a.sheet.now a.items.now a.s a.node g c.started-search.ensures c.loop-i.seen
+    (sym (c.loop-i.invariant.same ∙ t)) c.finish.result c.finish.ensures

@@ -1,0 +1,25 @@
+-- Refused, or what `calls` finds. Assumes nothing.
+use borrow.Author.Rules.{rules}
+use mathlib.Core.Path.{◌∙◌, ap, sym}
+use mathlib.Core.Option.{some}
+use Rattle.state_value.specs.Options.{conflict_of}
+use Rattle.state_value.specs.declared.ConflictOption.{ConflictOption}
+use Rattle.call_answers.specs.Answers.{answer_with, conflict_code}
+use Rattle.call_item.proofs.Laws.{conflict_refused, conflict_ready, conflict_told}
+use Rattle.call_item.proofs.conflict.Goals as goal
+
+pub returns-then-number-ne0 : goal.returns-then-number-ne0
+returns-then-number-ne0 c = conflict_refused _ _ _ _ c.given_state-number.ensures c.if-number-ne0.true ∙ ap some (sym c.refused.ensures)
+
+pub conflict-c-requires : goal.conflict-c-requires
+conflict-c-requires c = conflict_ready _ _ _ _ c.given_state-number.ensures c.if-number-ne0.false
+
+pub returns-in-Some : goal.returns-in-Some
+returns-in-Some c =
+    conflict_told _ _ _ _ c.given_state-number.ensures c.if-number-ne0.false c.conflict-c.result c.conflict-c.ensures
+    ∙ ap (λ (o : ConflictOption). some (answer_with 0 0 (conflict_code (conflict_of o)))) c.in-Some.is ∙ ap some (sym c.answered.ensures)
+
+pub returns-in-None : goal.returns-in-None
+returns-in-None c =
+    conflict_told _ _ _ _ c.given_state-number.ensures c.if-number-ne0.false c.conflict-c.result c.conflict-c.ensures
+    ∙ ap (λ (o : ConflictOption). some (answer_with 0 0 (conflict_code (conflict_of o)))) c.in-None.is ∙ ap some (sym c.answered-in-None.ensures)

@@ -1,0 +1,7 @@
+-- Seven words, one after the other. Assumes nothing.
+use borrow.Author.Rules.{rules}
+use Rattle.call_item.proofs.Laws.{record_list}
+use Rattle.call_item.proofs.record_words.Goals as goal
+
+pub returns : goal.returns
+returns c = record_list c.args.items.now c.args.i c.requires

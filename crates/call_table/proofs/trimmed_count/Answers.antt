@@ -1,0 +1,23 @@
+use mathlib.Core.Path.{◌∙◌, ap, refl}
+use lib.ListN.{length}
+use native.Mathlib.Omega.{arith, div_fact}
+use borrow.Author.Rules.{rules}
+use Rattle.rules.specs.Tree.{zeros}
+use Rattle.call_table.proofs.Records.{Trimming, trimming_next, trimming_last, trimming_none}
+use mathlib.Core.Bool.{not}
+use Rattle.call_table.proofs.trimmed_count.Goals as goal
+
+pub loop-n-init : goal.loop-n-init
+loop-n-init c = record { within = omega arith; same = refl }
+
+pub words_at-requires : goal.words_at-requires
+words_at-requires c = omega (arith, c.loop-n.invariant.within, div_fact (length c.args.items.now) 6)
+
+pub returns-then-not-all_zero : goal.returns-then-not-all_zero
+returns-then-not-all_zero c = trimming_last _ _ c.loop-n.invariant c.loop-n-test.true _ (c.all_zero.ensures ∙ ap zeros c.words_at.ensures) (ap not c.if-not-all_zero.true)
+
+pub loop-n-preserved : goal.loop-n-preserved
+loop-n-preserved c = trimming_next _ _ c.loop-n.invariant c.loop-n-test.true _ (c.all_zero.ensures ∙ ap zeros c.words_at.ensures) (ap not c.if-not-all_zero.false)
+
+pub returns : goal.returns
+returns c = trimming_none _ _ c.loop-n.invariant c.loop-n-test.false

@@ -1,0 +1,19 @@
+-- By the kind, the length and the first byte. Assumes nothing.
+use Rattle.careful_words.proofs.Laws.{looks_other, looks_short_word, byte_there, byte_fits, looks_byte}
+use borrow.Author.Rules.{rules}
+use Rattle.careful_words.proofs.looks_like_options.Goals as goal
+
+pub returns-then-items-at-ne-WORD : goal.returns-then-items-at-ne-WORD
+returns-then-items-at-ne-WORD c = search looks_other
+
+pub returns-then-items-at-lt2 : goal.returns-then-items-at-lt2
+returns-then-items-at-lt2 c = search looks_short_word
+
+pub overflow_add-result : goal.overflow_add-result
+overflow_add-result c = search (byte_fits, rules)
+
+pub bounds-sheet-area : goal.bounds-sheet-area
+bounds-sheet-area c = search byte_there
+
+pub returns : goal.returns
+returns c = search looks_byte

@@ -1,0 +1,14 @@
+-- Invariant: none of the names below k is long.
+use Prim.Native.Nat.{ℕ, ◌<◌, ◌-◌}
+use native.Mathlib.Omega.{arith}
+use borrow.Author.Rules.{rules}
+use borrow.Author.Count.{below_none}
+use Rattle.rules.specs.Commands.{read_command}
+use Rattle.command_check.proofs.Steps.{PassesAt, not_long, long_here, long_later, long_nowhere}
+use Rattle.command_check.proofs.has_long.Given as goal
+
+abbrev pub invariant-loop-k : goal.invariant-loop-k
+invariant-loop-k l = (j : ℕ) → j < l.k → PassesAt not_long (read_command l.entry).names j
+
+abbrev pub decreases-loop-k : goal.decreases-loop-k
+decreases-loop-k l = l.n - l.k

@@ -1,0 +1,6 @@
+use borrow.Author.Rules.{rules}
+use Rattle.command_layout.proofs.Entries.{form_part_lem}
+use Rattle.command_layout.proofs.form_of.Goals as goal
+
+pub returns : goal.returns
+returns c = search form_part_lem

@@ -1,0 +1,17 @@
+use Prim.Native.Nat.{◌-◌}
+use lib.ListN.{length}
+use borrow.Author.Rules.{rules}
+use Rattle.command_letters.proofs.Gathers.{Inserting, inserting_first, inserting_room, inserting_next, inserting_last}
+use Rattle.command_letters.proofs.insert_all.Goals as goal
+
+pub loop-k-init : goal.loop-k-init
+loop-k-init c = search inserting_first
+
+pub insert-count-requires : goal.insert-count-requires
+insert-count-requires c = search inserting_room
+
+pub loop-k-preserved : goal.loop-k-preserved
+loop-k-preserved c = search (inserting_next, rules)
+
+pub returns : goal.returns
+returns c = search (inserting_last, rules)

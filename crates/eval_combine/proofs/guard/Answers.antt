@@ -1,0 +1,13 @@
+-- By what `parse_guard` decides. Assumes nothing.
+use borrow.Author.Rules.{rules}
+use Rattle.eval_combine.proofs.Guards.{guard_refused, guard_within, guard_failed}
+use Rattle.eval_combine.proofs.guard.Goals as goal
+
+pub returns-then-ran-ne0 : goal.returns-then-ran-ne0
+returns-then-ran-ne0 c = search guard_refused
+
+pub returns-then-number-eq0 : goal.returns-then-number-eq0
+returns-then-number-eq0 c = search guard_within
+
+pub returns : goal.returns
+returns c = search guard_failed

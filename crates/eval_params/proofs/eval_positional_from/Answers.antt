@@ -1,0 +1,17 @@
+-- By what was taken. Assumes nothing.
+use borrow.Author.Rules.{rules}
+use Rattle.eval_params.proofs.Places.{operand_place_lem}
+use Rattle.eval_params.proofs.Laws.{positional_missing, positional_taken}
+use Rattle.eval_params.proofs.eval_positional_from.Goals as goal
+
+pub take_positional_word_from-taken-requires : goal.take_positional_word_from-taken-requires
+take_positional_word_from-taken-requires c = (_, c.requires.1, c.requires.2)
+
+pub placed-requires : goal.placed-requires
+placed-requires c = (c.requires.0, operand_place_lem _ _ _ _ _ c.requires.1 _ _ (c.take_positional_word_from-taken.ensures _) _ _ _ c.in-Taken.is)
+
+pub returns-in-Missing : goal.returns-in-Missing
+returns-in-Missing c = positional_missing _ _ _ _ _ _ _ _ _ (c.take_positional_word_from-taken.ensures _) _ c.in-Missing.is c.refused.ensures
+
+pub returns-in-Taken : goal.returns-in-Taken
+returns-in-Taken c = positional_taken _ _ _ _ _ _ _ _ _ (c.take_positional_word_from-taken.ensures _) _ _ _ _ c.in-Taken.is c.placed.ensures

@@ -1,0 +1,7 @@
+-- The copy of a part. Assumes nothing.
+use borrow.Author.Rules.{rules}
+use Rattle.eval_words.proofs.Words.{lifted}
+use Rattle.eval_words.proofs.lift.Goals as goal
+
+pub returns : goal.returns
+returns c = lifted c.args.out.now c.blank-kept.result c.args.at c.args.n _ c.requires.0 c.requires.1 c.blank-kept.ensures c.copy.ensures

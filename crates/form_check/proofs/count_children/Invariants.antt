@@ -1,0 +1,19 @@
+-- Invariant: the nodes from k on are still to be counted. Assumes nothing.
+use native.Mathlib.Omega.{arith}
+use borrow.Author.Rules.{rules}
+use mathlib.Core.Path.{◌≡◌, refl}
+use Prim.Native.Nat.{◌-◌}
+use lib.ListN.{drop}
+use Rattle.rules.specs.Form.{read_form}
+use Rattle.rules.specs.Base.{concat_map}
+use Rattle.rules.specs.Accept.{children_of}
+use Rattle.form_check.specs.Uses.{tally}
+use Rattle.form_check.proofs.Counting.{children_next, children_last}
+use Rattle.form_layout.proofs.Sizes.{sized, nodes_length}
+use Rattle.form_check.proofs.count_children.Given as goal
+
+abbrev pub invariant-loop-k : goal.invariant-loop-k
+invariant-loop-k l = tally l.initial.counts (concat_map children_of (read_form l.b).nodes) ≡ tally l.counts (concat_map children_of (drop l.k (read_form l.b).nodes))
+
+abbrev pub decreases-loop-k : goal.decreases-loop-k
+decreases-loop-k l = l.n - l.k

@@ -1,0 +1,24 @@
+use mathlib.Core.Path.{refl}
+use Prim.Native.Nat.{◌-◌}
+use borrow.Author.Rules.{rules}
+use Rattle.form_layout.proofs.Sizes.{sized}
+use Rattle.form_idle.proofs.Gathering.{Gathered, gathered_first, gathered_next, gathered_last, sum_fits}
+use Rattle.form_idle.proofs.gather.Goals as goal
+
+pub node_count-count-requires : goal.node_count-count-requires
+node_count-count-requires c = (sized _ c.requires).counts.long
+
+pub loop-k-init : goal.loop-k-init
+loop-k-init c = search gathered_first
+
+pub overflow_add-found : goal.overflow_add-found
+overflow_add-found c = search sum_fits
+
+pub loop-k-preserved : goal.loop-k-preserved
+loop-k-preserved c =
+    gathered_next _ _ _ _ _ c.loop-k.invariant c.loop-k-test.true _ c.node_at-x.ensures
+    _ _ c.said-first.ensures c.said-second.ensures _ c.may_idle.ensures _ c.mark.ensures
+    _ c.is_idle_repeat.ensures _ c.bit-found.ensures _ refl
+
+pub returns : goal.returns
+returns c = search gathered_last

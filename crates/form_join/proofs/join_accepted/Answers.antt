@@ -1,0 +1,16 @@
+-- The limits, then the form. Assumes nothing.
+use Rattle.form_join.proofs.Answering.{both_good, can_join, large_reported, joined_reported}
+use borrow.Author.Rules.{rules}
+use Rattle.form_join.proofs.join_accepted.Goals as goal
+
+pub counts_both-c-requires : goal.counts_both-c-requires
+counts_both-c-requires c = search both_good
+
+pub write_joined-requires : goal.write_joined-requires
+write_joined-requires c = search can_join
+
+pub returns-then-fits : goal.returns-then-fits
+returns-then-fits c = search joined_reported
+
+pub returns : goal.returns
+returns c = search large_reported

@@ -1,0 +1,11 @@
+-- Invariant: the first k fields are written. Assumes nothing.
+use Rattle.form_join.proofs.WrittenLaws.{can_eight, FieldsDone, fields_first, has_field, field_fits, fields_next, fields_last}
+use Prim.Native.Nat.{◌-◌}
+use borrow.Author.Rules.{rules}
+use Rattle.form_join.proofs.write_fields.Given as goal
+
+abbrev pub invariant-loop-k : goal.invariant-loop-k
+invariant-loop-k l = FieldsDone l.d l.b l.initial.out l.at l.out l.k
+
+abbrev pub decreases-loop-k : goal.decreases-loop-k
+decreases-loop-k l = l.count - l.k

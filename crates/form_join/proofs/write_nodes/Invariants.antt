@@ -1,0 +1,11 @@
+-- Invariant: the first k nodes are written. Assumes nothing.
+use Rattle.form_join.proofs.WrittenLaws.{can_eight, NodesDone, nodes_first, has_node, node_fits, nodes_next, nodes_last}
+use Prim.Native.Nat.{◌-◌}
+use borrow.Author.Rules.{rules}
+use Rattle.form_join.proofs.write_nodes.Given as goal
+
+abbrev pub invariant-loop-k : goal.invariant-loop-k
+invariant-loop-k l = NodesDone l.d l.b l.initial.out l.at l.out l.k
+
+abbrev pub decreases-loop-k : goal.decreases-loop-k
+decreases-loop-k l = l.count - l.k

@@ -1,0 +1,12 @@
+-- Invariant: the bit is set from the first record up to k. Assumes nothing.
+use Prim.Native.Nat.{◌-◌}
+use native.Mathlib.Omega.{arith}
+use borrow.Author.Rules.{rules}
+use Rattle.form_letters.proofs.Tables.{Marking, marking_first, marking_next, marking_last}
+use Rattle.form_letters.proofs.mark.Given as goal
+
+abbrev pub invariant-loop-k : goal.invariant-loop-k
+invariant-loop-k l = Marking l.bit l.first l.end l.initial.classes l.classes l.k
+
+abbrev pub decreases-loop-k : goal.decreases-loop-k
+decreases-loop-k l = l.end - l.k

@@ -1,0 +1,25 @@
+use Prim.Native.Nat.{◌-◌}
+use Rattle.wire.proofs.Stores.{Stored, stored_first}
+use Rattle.rules.specs.Sheet.{arguments}
+use Rattle.rules_short.specs.Short.{lengths as lengths_of}
+use Rattle.short_sheets.proofs.Reading.{argument_there, length_there, length_narrow, length_stored, lengths_stored}
+use borrow.Author.Rules.{rules}
+use Rattle.short_sheets.proofs.read_lengths.Goals as goal
+
+pub loop-k-init : goal.loop-k-init
+loop-k-init c = search stored_first
+
+pub argument-requires : goal.argument-requires
+argument-requires c = search argument_there
+
+pub narrow-requires : goal.narrow-requires
+narrow-requires c = search length_narrow
+
+pub bounds-lengths-k : goal.bounds-lengths-k
+bounds-lengths-k c = search length_there
+
+pub loop-k-preserved : goal.loop-k-preserved
+loop-k-preserved c = search length_stored
+
+pub returns : goal.returns
+returns c = search lengths_stored

@@ -1,0 +1,19 @@
+use Prim.Native.Nat.{◌-◌}
+use lib.ListN.{length}
+use Rattle.wire.proofs.Stores.{Stored, stored_first}
+use Rattle.short_sheets.specs.Steps.{places_in}
+use Rattle.short_sheets.proofs.Reading.{place_narrow, place_stored, places_stored}
+use borrow.Author.Rules.{rules}
+use Rattle.short_sheets.proofs.read_places.Goals as goal
+
+pub loop-i-init : goal.loop-i-init
+loop-i-init c = search stored_first
+
+pub narrow-requires : goal.narrow-requires
+narrow-requires c = search place_narrow
+
+pub loop-i-preserved : goal.loop-i-preserved
+loop-i-preserved c = search place_stored
+
+pub returns : goal.returns
+returns c = search places_stored

@@ -1,0 +1,14 @@
+-- Invariant: the first i places are stored. Assumes nothing.
+use Prim.Native.Nat.{◌-◌}
+use lib.ListN.{length}
+use Rattle.wire.proofs.Stores.{Stored, stored_first}
+use Rattle.short_sheets.specs.Steps.{places_in}
+use Rattle.short_sheets.proofs.Reading.{place_narrow, place_stored, places_stored}
+use borrow.Author.Rules.{rules}
+use Rattle.short_sheets.proofs.read_places.Given as goal
+
+abbrev pub invariant-loop-i : goal.invariant-loop-i
+invariant-loop-i l = Stored l.initial.places 0 (places_in l.alphabet l.area) (length l.area) l.places l.i
+
+abbrev pub decreases-loop-i : goal.decreases-loop-i
+decreases-loop-i l = length l.area - l.i

@@ -1,0 +1,7 @@
+-- By the length of the list. Assumes nothing.
+use native.Mathlib.Omega.{arith}
+use borrow.Author.Rules.{rules}
+use Rattle.split_arg.proofs.contains.Goals as goal
+
+pub search-requires : goal.search-requires
+search-requires c = c.requires.order (omega arith)

@@ -1,0 +1,16 @@
+-- The first two bytes say which of the two it is. Assumes nothing.
+use borrow.Author.Rules.{rules}
+use Rattle.split_arg.proofs.Names.{too_short, no_dash_lem, two_dashes, one_dash}
+use Rattle.split_arg.proofs.split_os_argument.Goals as goal
+
+pub returns-then-os-lt2 : goal.returns-then-os-lt2
+returns-then-os-lt2 c = too_short _ c.if-os-lt2.true
+
+pub returns-then-os-ne45 : goal.returns-then-os-ne45
+returns-then-os-ne45 c = no_dash_lem _ c.if-os-lt2.false c.if-os-ne45.true
+
+pub returns-then-os-eq45 : goal.returns-then-os-eq45
+returns-then-os-eq45 c = two_dashes _ _ c.if-os-lt2.false c.if-os-ne45.false c.if-os-eq45.true c.split_long.ensures
+
+pub returns : goal.returns
+returns c = one_dash _ _ c.if-os-lt2.false c.if-os-ne45.false c.if-os-eq45.false c.split_short.ensures

@@ -1,0 +1,23 @@
+-- By the kind. Assumes nothing.
+use borrow.Author.Rules.{rules}
+use Rattle.utf8.specs.Utf8.{if◌then◌else◌}
+use Rattle.rules.specs.Split.{bit}
+use Rattle.split_arg.proofs.words_of.Goals as goal
+
+pub returns-in-Short : goal.returns-in-Short
+returns-in-Short c = rw (c.in-Short.is, ← c.bit.ensures)
+
+pub returns-in-Long : goal.returns-in-Long
+returns-in-Long c = rw (c.in-Long.is, ← c.bit-in-Long.ensures)
+
+pub returns-in-ArgWord : goal.returns-in-ArgWord
+unfolding bit if◌then◌else◌
+returns-in-ArgWord c = rw c.in-ArgWord.is
+
+pub returns-in-Word : goal.returns-in-Word
+unfolding bit if◌then◌else◌
+returns-in-Word c = rw c.in-Word.is
+
+pub returns-in-PosWord : goal.returns-in-PosWord
+unfolding bit if◌then◌else◌
+returns-in-PosWord c = rw c.in-PosWord.is

@@ -1,0 +1,6 @@
+-- The seven words are copied. Assumes nothing.
+use borrow.Author.Rules.{rules}
+use Rattle.split_arg.proofs.write_item.Goals as goal
+
+pub returns : goal.returns
+returns c = rw (← c.words_of-words.ensures) c.copy.ensures

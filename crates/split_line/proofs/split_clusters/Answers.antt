@@ -1,0 +1,19 @@
+use borrow.Author.Rules.{rules}
+use Rattle.form_letters.proofs.Words.{letters_fit}
+use Rattle.split_line.proofs.Lines.{splittable_names, scanned_letters, split_letters}
+use Rattle.split_line.proofs.split_clusters.Goals as goal
+
+pub letters-counts-requires : goal.letters-counts-requires
+letters-counts-requires c = search splittable_names
+
+pub slice_bounds-construct-end : goal.slice_bounds-construct-end
+slice_bounds-construct-end c = search (letters_fit, splittable_names, rules)
+
+pub slice_bounds-construct-end-2 : goal.slice_bounds-construct-end-2
+slice_bounds-construct-end-2 c = search (letters_fit, splittable_names, rules)
+
+pub construct-requires : goal.construct-requires
+construct-requires c = (search rules, search scanned_letters)
+
+pub returns : goal.returns
+returns c = search split_letters

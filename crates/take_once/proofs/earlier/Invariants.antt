@@ -1,0 +1,12 @@
+-- Invariant: no place from j on, below this one, has its name. Assumes nothing.
+use native.Mathlib.Omega.{arith}
+use borrow.Author.Rules.{rules}
+use Rattle.rules.specs.Sheet.{sheet_area}
+use Rattle.take_once.proofs.Names.{place_item, Looking, looking_first, looking_next, looking_hit, looking_last}
+use Rattle.take_once.proofs.earlier.Given as goal
+
+abbrev pub invariant-loop-j : goal.invariant-loop-j
+invariant-loop-j l = Looking (sheet_area l.sheet) l.items l.place l.j
+
+abbrev pub decreases-loop-j : goal.decreases-loop-j
+decreases-loop-j l = l.j

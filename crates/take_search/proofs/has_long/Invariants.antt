@@ -1,0 +1,13 @@
+-- Invariant: what is left decides. Assumes nothing.
+use Prim.Native.Nat.{◌-◌}
+use native.Mathlib.Omega.{arith}
+use borrow.Author.Rules.{rules}
+use Rattle.form_layout.proofs.Sizes.{names_few}
+use Rattle.take_search.proofs.NameLaws.{Scanning, scanning_first, scanning_next, scanning_hit, scanning_last}
+use Rattle.take_search.proofs.has_long.Given as goal
+
+abbrev pub invariant-loop-k : goal.invariant-loop-k
+invariant-loop-k l = Scanning l.form l.name l.first l.count l.end l.k
+
+abbrev pub decreases-loop-k : goal.decreases-loop-k
+decreases-loop-k l = l.end - l.k

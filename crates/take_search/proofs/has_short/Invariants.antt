@@ -1,0 +1,12 @@
+-- Invariant: what is left decides. Assumes nothing.
+use mathlib.Core.Path.{refl}
+use Prim.Native.Nat.{◌-◌}
+use borrow.Author.Rules.{rules}
+use Rattle.take_search.proofs.NameLaws.{Sifting, sifting_first, sifting_next, sifting_hit, sifting_last}
+use Rattle.take_search.proofs.has_short.Given as goal
+
+abbrev pub invariant-loop-k : goal.invariant-loop-k
+invariant-loop-k l = Sifting l.codes l.first l.count l.want l.end l.k
+
+abbrev pub decreases-loop-k : goal.decreases-loop-k
+decreases-loop-k l = l.end - l.k

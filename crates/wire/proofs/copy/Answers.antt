@@ -1,0 +1,13 @@
+use Prim.Native.Nat.{◌-◌}
+use borrow.Author.Rules.{rules}
+use Rattle.wire.proofs.Stores.{Stored, stored_first, stored_next, stored_last}
+use Rattle.wire.proofs.copy.Goals as goal
+
+pub loop-i-init : goal.loop-i-init
+loop-i-init c = search stored_first
+
+pub loop-i-preserved : goal.loop-i-preserved
+loop-i-preserved c = search stored_next
+
+pub returns : goal.returns
+returns c = search stored_last
