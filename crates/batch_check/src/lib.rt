@@ -1,5 +1,6 @@
 // A batch of sheets: its count, its offsets, room for what its sheets leave, and its sheets.
 #![tactic(auto)]
+
 ghost use Rattle.std.specs.Prelude.{◌≡◌, ◌&&◌, ◌≤◌, length};
 ghost use Rattle.wire.specs.Wire.{entry_of};
 ghost use Rattle.rules.specs.Batch.{sheet_count, batch_good, parts_fit};

@@ -1,5 +1,6 @@
 // The run of one sheet with a form of which all that does not depend on the sheet is known.
 #![tactic(auto)]
+
 ghost use Rattle.std.specs.Prelude.{◌≡◌, List, ℕ, length};
 ghost use Rattle.rules.specs.Accept.{check_form};
 ghost use Rattle.rules.specs.Run as Run;

@@ -1,5 +1,6 @@
 // Records and parts: one for each sheet of a batch, one after the other in a slice.
 #![tactic(auto)]
+
 ghost use Rattle.std.specs.Prelude.{◌≡◌, ◌*◌, ◌≤◌, length};
 ghost use Rattle.rules.specs.BatchAnswered.{Roomy};
 ghost use Rattle.batch_parts.specs.Parts.{PartFits, Replaced, cleared_past, reached_words};

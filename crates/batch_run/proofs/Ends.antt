@@ -1,19 +1,17 @@
 -- How a batch ends: slices that were cleared past the parts, and what is reported.
 use mathlib.Core.Bool.{Bool, true, false, ◌&&◌}
-use mathlib.Core.List.{List, [], ◌∷◌, ◌++◌, append-nil}
+use mathlib.Core.List.{List, [], ◌++◌}
 use mathlib.Core.Option.{some}
-use mathlib.Core.Path.{◌≡◌, refl, sym, ap, ◌∙◌}
+use mathlib.Core.Path.{◌≡◌, sym, ap, ◌∙◌}
 use Prim.Native.Nat.{ℕ, ◌+◌, ◌-◌, ◌*◌, ◌≤◌}
 use native.Mathlib.Omega.{arith}
-use lib.ListN.{length, take, drop, replicate, length-append, length-replicate}
-use Rattle.utf8.specs.Utf8.{if◌then◌else◌}
-use lib.Seq.{sets, sets-eq, drop_at, length-take-le, drop-length, take-length}
+use lib.ListN.{length, take, drop}
+use lib.Seq.{take-length}
 use Rattle.rules.specs.Base.{concat_map}
 use Rattle.rules.specs.Outcome.{ok, ◌>>=◌}
 use Rattle.rules.specs.Run.{Report, padded}
 use Rattle.rules.specs.Batch.{sheet_count, batch_good, batch_sheets, parts_fit, sheets_in, run_sheets, sheet_record, batch_report, run_batch}
 use Rattle.rules.specs.BatchAnswered.{Roomy}
-use Rattle.rules.specs.declared.Refused.{Refused}
 use Rattle.rules.proofs.Acceptance.{and-true}
 use Rattle.rules.proofs.BatchSteps.{sheets_count}
 use Rattle.rules.proofs.BatchLaws.{batch_made, parts_fit_lem}
@@ -21,7 +19,7 @@ use Rattle.batch_check.proofs.Sheets.{good_batch}
 use Rattle.batch_parts.specs.Parts.{cleared_past}
 use Rattle.batch_parts.proofs.Slices.{cleared_long, cleared_rest}
 use Rattle.batch_run.specs.Sheets.{BatchFits, HoldsParts, SheetsRan}
-use Rattle.batch_run.specs.Told.{BatchEnded, batch_answer}
+use Rattle.batch_run.specs.Told.{batch_answer}
 
 -- ---- slices
 -- with no parts all is 0
@@ -40,11 +38,11 @@ parts_padded w n words rs o o₁ o₂ h e d =
 module _ (form b : List ℕ) (nr ni na nl : ℕ) where
   batch_runs : (rs : List Report) → (batch_good b && parts_fit (sheet_count b) nr ni na nl) ≡ true → run_sheets form (batch_sheets b) ≡ ok rs
       → run_batch form b nr ni na nl ≡ ok (batch_report 0 nr ni na nl rs)
-  unfolding run_batch sheets_in if◌then◌else◌ ◌>>=◌
+  unfolding run_batch sheets_in ◌>>=◌
   batch_runs rs e h = rw (e, run_batch, h)
 
   batch_stops : (batch_good b && parts_fit (sheet_count b) nr ni na nl) ≡ false → run_batch form b nr ni na nl ≡ ok (batch_report 15 nr ni na nl [])
-  unfolding run_batch sheets_in if◌then◌else◌ ◌>>=◌
+  unfolding run_batch sheets_in ◌>>=◌
   batch_stops e = rw (e, run_batch)
 
 -- ---- the batch

@@ -1,5 +1,4 @@
 -- Parts of a slice: one that is written, and those of the first sheets.
-use mathlib.Core.Bool.{true}
 use mathlib.Core.List.{List, [], ◌∷◌, ◌++◌}
 use mathlib.Core.Path.{◌≡◌, refl, sym, ap, ◌∙◌}
 use Prim.Native.Nat.{ℕ, ◌+◌, ◌-◌, ◌*◌, ◌≤◌, ◌<◌}
@@ -9,8 +8,7 @@ use lib.ListN.{length, take, drop, length-append}
 use borrow.Rule.Slice.PartMut.{mid_of, put_mid, Post-is, mid_len}
 use Rattle.wire.specs.Wire.{entry_of}
 use Rattle.rules.specs.Base.{concat_map}
-use Rattle.rules.specs.Outcome.{ok}
-use Rattle.rules.specs.Run.{Report, run}
+use Rattle.rules.specs.Run.{Report}
 use Rattle.rules.specs.Batch.{sheet_count, batch_sheets, run_sheets, sheet_record}
 use Rattle.rules.specs.BatchAnswered.{Roomy}
 use Rattle.rules.proofs.BatchSteps.{sheet_at, sheets_more, part_written}

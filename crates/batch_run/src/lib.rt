@@ -1,5 +1,6 @@
 // A batch: one form, many sheets. The form is checked once, and what splitting and the fields ask of it is worked out once.
 #![tactic(auto)]
+
 ghost use Rattle.std.specs.Prelude.{◌≡◌, List, ℕ, length};
 ghost use Rattle.std.proofs.Math.Option.{some};
 ghost use Rattle.rules.specs.Accept.{Accepted, accepted, check_form};

@@ -8,7 +8,6 @@ use lib.ListN.{length, take, drop, get_or, set, length-set, length-append}
 use lib.Seq.{take-suc, take-suc-set, take_all, drop-drop, drop-set-lt}
 use Rattle.io.specs.Counts.{IsPrefixLen}
 use Rattle.io.specs.Digits.{last_digits, IsDigitCount}
-use Rattle.utf8.specs.Utf8.{if◌then◌else◌}
 use Rattle.rules.specs.Base.{concat_map}
 use Rattle.rules.specs.Bench.{decimal, place_text, word_line}
 use Rattle.rules.specs.Codes.{place_of}
@@ -97,11 +96,11 @@ module _ (n w k : ℕ) (ds : List ℕ) (e : w ≡ n) (small : n < 2 ^ 32) (count
 -- ---- a place
 module _ (o : List ℕ) (at : ℕ) (o' : List ℕ) (r place : ℕ) where
   pub dash_appends : place ≡ 0 → Appends o at o' r (45 ∷ []) → Appends o at o' r (place_text (place_of place)) × (r ≤ at + 10)
-  unfolding place_text place_of if◌then◌else◌
+  unfolding place_text place_of
   dash_appends e g = (rw e g, omega (arith, g.size))
 
   pub place_appends : (place ≡ 0 → ⊥) → Appends o at o' r (decimal (place - 1)) × (r ≤ at + 10) → Appends o at o' r (place_text (place_of place)) × (r ≤ at + 10)
-  unfolding place_text place_of if◌then◌else◌
+  unfolding place_text place_of
   place_appends e g = (rw (place_some place e) g.0, g.1)
 
 -- ---- the first line

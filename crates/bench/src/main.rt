@@ -1,6 +1,8 @@
 // Reads a form and a sheet, joined, from standard input, and prints what their run answers.
 #![tactic(auto)]
+
 ghost use Rattle.std.specs.Prelude.{◌≡◌, ◌≤◌, length, take};
+ghost use Rattle.std.specs.Io.{ReadsAtMost};
 ghost use Rattle.io.specs.Counts.{IsPrefixLen};
 ghost use Rattle.rules.specs.Outcome.{ok};
 ghost use Rattle.rules.specs.Bench.{bench};
@@ -8,6 +10,7 @@ ghost use Rattle.rules.specs.Bench.{bench};
 use eval_missing::MISSING_WORDS;
 use run_fields::ANSWER_WORDS;
 use split_arg::ITEM_WORDS;
+use std::io::{ErrorKind, Read, Result};
 
 mod output;
 
@@ -48,10 +51,29 @@ fn answer(input: &[u8], out: &mut [u8]) -> usize
     output::append_words(out, end, &answers[..count])
 }
 
-fn main() {
+// Reads to the start of `buffer` until it is full or the input ends, and answers how many bytes were read.
+fn read_full(input: &mut impl Read, buffer: &mut [u8]) -> Result<usize>
+    ensures { ReadsAtMost result buffer.new }
+{
+    let mut done = 0;
+    for _ in 0..u64::MAX {
+        if buffer.len() <= done {
+            break;
+        }
+        match input.read(&mut buffer[done..]) {
+            Ok(0) => break,
+            Ok(count) => done += count,
+            Err(error) if error.kind() == ErrorKind::Interrupted => {}
+            Err(error) => return Err(error),
+        }
+    }
+    Ok(done)
+}
+
+fn main(rt: HostRuntime) -> Result<()> {
     let mut input = input_buffer();
-    let n = io::read_full(0, &mut input);
+    let n = read_full(&mut rt.stdin(), &mut input)?;
     let mut out = output_buffer();
     let end = answer(&input[..n], &mut out);
-    io::write_all(1, &out[..end]);
+    rt.write_all(&out[..end])
 }

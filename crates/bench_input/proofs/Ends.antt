@@ -9,7 +9,7 @@ use lib.Dec.{leb, eqb}
 use lib.ListN.{length, take, drop}
 use lib.Seq.{take-take, length-take-le}
 use borrow.Author.Tests.{le-leb, lt-leb, leb-true, eq-eqb}
-use Rattle.utf8.specs.Utf8.{if◌then◌else◌}
+use Rattle.std.specs.Prelude.{if◌then◌else◌}
 use Rattle.wire.specs.Wire.{number_at}
 use Rattle.rules.specs.Form.{node_count, field_count, name_count, area_length, counts_good, nodes_at, names_at, area_at, form_length, form_end}
 use Rattle.rules.specs.Accept.{length_good}
@@ -73,11 +73,11 @@ module _ (b : List ℕ) where
 
   -- ---- the ways out
   pub all_short : length b < 8 → length b ≡ form_end b
-  unfolding form_end if◌then◌else◌
+  unfolding form_end
   all_short h = rw (← too_short b h)
 
   pub all_cut : (n : ℕ) → n ≡ form_length b → length b < n → length b ≡ form_end b
-  unfolding form_end if◌then◌else◌
+  unfolding form_end
   all_cut n e h =
       let cut : leb (form_length b) (length b) ≡ false = lt-leb (form_length b) (length b) (omega arith) in
       rw (cut, and-false (counts_good b))
@@ -87,16 +87,16 @@ module _ (b : List ℕ) where
     fits = le-leb (form_length b) (length b) (omega arith)
 
     pub ends_there : (x : Bool) → x ≡ length_good (take n b) → x ≡ true → n ≡ form_end b
-    unfolding form_end if◌then◌else◌
+    unfolding form_end
     ends_there x g t = rw (fits, ← front_good n e h, ← g, t) e
 
     pub all_bad : (x : Bool) → x ≡ length_good (take n b) → x ≡ false → length b ≡ form_end b
-    unfolding form_end if◌then◌else◌
+    unfolding form_end
     all_bad x g t = rw (fits, ← front_good n e h, ← g, t)
 
   -- ---- the parts
   pub end_within : form_end b ≤ length b
-  unfolding form_end if◌then◌else◌
+  unfolding form_end
   end_within = go (counts_good b && leb (form_length b) (length b)) refl
     where
       go : (t : Bool) → (counts_good b && leb (form_length b) (length b)) ≡ t → (if t then form_length b else length b) ≤ length b

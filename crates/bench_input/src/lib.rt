@@ -1,5 +1,6 @@
 // A form and a sheet joined: where the form ends, and the two parts.
 #![tactic(auto)]
+
 ghost use Rattle.std.specs.Prelude.{◌≡◌, ◌≤◌, length, take, drop};
 ghost use Rattle.rules.specs.Form.{form_length, form_end};
 

@@ -1,5 +1,6 @@
 // What a single call hands back: how it ended, and its answer in three numbers. Refused, the three are 0.
 #![tactic(auto)]
+
 ghost use Rattle.std.specs.Prelude.{◌≡◌, ◌≤◌};
 ghost use Rattle.utf8.specs.Utf8.{decode_at};
 ghost use Rattle.call_answers.specs.Answers.{coded, yes_no, answer_with, state_with, decoding};

@@ -7,7 +7,6 @@ use native.Mathlib.Omega.{arith}
 use lib.ListN.{length, replicate}
 use lib.Seq.{sets}
 use native.Mathlib.Nat.{sub-zero}
-use Rattle.utf8.specs.Utf8.{if◌then◌else◌}
 use Rattle.rules.specs.Outcome.{Outcome, ok, ◌>>=◌, Refusal}
 use Rattle.rules.specs.Sheet.{sheet_fault}
 use Rattle.rules.specs.Form.{read_form}
@@ -20,7 +19,6 @@ use Rattle.rules.specs.declared.State.{State as Raw}
 use Rattle.split_args.proofs.States.{all_zero, empty_raw}
 use Rattle.split_args.specs.declared.Ended.{Ended}
 use Rattle.split_args.specs.Construct.{starting_state, SplitEnds, refusal_number, refusal_place}
-use Rattle.split_arg.specs.Clusters.{letters}
 use Rattle.rules.proofs.Acceptance.{accepted_form}
 use Rattle.rules.proofs.CodeLaws.{place_code_lem}
 use Rattle.rules.proofs.GivenLaws.{check_accepted, split_form, split_sheet, split_short_lem, split_goes}
@@ -99,7 +97,7 @@ reports :
     → starting_state r.count r.marker ≡ to_raw l.state
     → out ≡ padded n l.records
     → split_report n l ≡ splitting_of (answer_of r) out
-unfolding split_report splitting_of place_of if◌then◌else◌
+unfolding split_report splitting_of place_of
 reports n l r out a b c d = go l.refusal refl
   where
     go : (o : Option Refusal) → l.refusal ≡ o → split_report n l ≡ splitting_of (answer_of r) out

@@ -1,5 +1,6 @@
 // The entry points. None asks anything of its input: what is not well made is refused under its number.
 #![tactic(auto)]
+
 ghost use Rattle.std.specs.Prelude.{◌≡◌, length};
 ghost use Rattle.std.proofs.Math.Option.{some};
 ghost use Rattle.rules.specs.Outcome.{ok};

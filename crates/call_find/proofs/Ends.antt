@@ -5,10 +5,9 @@ use mathlib.Core.Option.{Option, some, none}
 use mathlib.Core.Path.{◌≡◌, refl, sym, ap, ◌∙◌}
 use Prim.Native.Nat.{ℕ, ◌+◌, ◌-◌, ◌≤◌, ◌<◌}
 use native.Mathlib.Omega.{arith}
-use lib.Dec.{eqb}
 use lib.ListN.{length, get_or, replicate}
 use borrow.Author.Tests.{eq-eqb, ne_eqb, lt-leb, le-leb, lt-ltb, le-ltb, not-true, not-false}
-use Rattle.utf8.specs.Utf8.{if◌then◌else◌}
+use Rattle.std.specs.Prelude.{if◌then◌else◌}
 use Rattle.wire.specs.Wire.{area_start}
 use Rattle.rules.specs.Base.{is_some}
 use Rattle.rules.specs.Outcome.{ok, refused, refuse, ◌>>=◌}
@@ -17,7 +16,7 @@ use Rattle.rules.specs.Form.{field_count}
 use Rattle.rules.specs.Sheet.{sheet_area, sheet_fault, argument_count}
 use Rattle.rules.specs.Split.{Item}
 use Rattle.rules.specs.Tree.{zeros}
-use Rattle.rules.specs.State.{present, parsed, present_at}
+use Rattle.rules.specs.State.{present, present_at}
 use Rattle.rules.specs.Accept.{Checked as CheckedForm, Accepted, accepted, refused_at, check_form}
 use Rattle.rules.specs.Take.{matches_arg}
 use Rattle.rules.specs.Calls.{form_in, sheet_in, item_from, state_in, from_raw}
@@ -118,7 +117,7 @@ module _ (form sheet : List ℕ) (k : ℕ) (r : Refused) (e : r ≡ check_code (
 
     module _ (f : ℕ) (ef : f ≡ sheet_fault sheet) where
       pub start_sheet : (f ≡ 0 → ⊥) → (g : Search) → g ≡ stopped_at f 0 → Started form sheet k g
-      unfolding sheet_in if◌then◌else◌
+      unfolding sheet_in
       start_sheet n g t = record {
         good = λ w. absurd (n (sym (ap (λ (y : Search). y.number) t) ∙ w));
         bad = λ _. record {
@@ -160,7 +159,7 @@ none_is (some a) e = absurd (false≢true (sym e))
 
 module _ (form sheet : List ℕ) (s : Raw) (g : Search) (x : ItemRecord) (i c : ℕ) where
   pub judge_stopped : (g.number ≡ 0 → ⊥) → c ≡ judged form sheet s g x i c
-  unfolding judged if◌then◌else◌
+  unfolding judged
   judge_stopped h = rw (ne_eqb g.number 0 h)
 
   module _ (z : g.number ≡ 0) (a : Able form sheet g) (w : List ℕ) (ew : w ≡ words_of x) (b : Bool)
@@ -169,7 +168,7 @@ module _ (form sheet : List ℕ) (s : Raw) (g : Search) (x : ItemRecord) (i c : 
     there = said (sheet_area sheet) (a z).area ∙ ap (λ (l : List ℕ). is_some (item_from (sheet_area sheet) l)) ew
 
     judged_as : (o : Option Item) → item_from (sheet_area sheet) (words_of x) ≡ o → marked (λ y. reached s i && sought form g y) i c o ≡ judged form sheet s g x i c
-    unfolding judged if◌then◌else◌
+    unfolding judged
     judged_as o e = sym (rw (z, judged, e))
 
     pub judge_bad : not b ≡ true → 1 ≡ judged form sheet s g x i c
@@ -181,12 +180,12 @@ module _ (form sheet : List ℕ) (s : Raw) (g : Search) (x : ItemRecord) (i c : 
       item = is_some_lem (item_from (sheet_area sheet) (words_of x)) (sym there ∙ not-false b t)
 
       pub judge_kept : (c ≡ 0 → ⊥) → c ≡ judged form sheet s g x i c
-      unfolding marked if◌then◌else◌
+      unfolding marked
       judge_kept h = sym (rw (ne_eqb c 0 h)) ∙ judged_as (some item.0) item.1
 
       module _ (n : c ≡ 0) (r : Bool) (er : ReachedAt s i r) where
         pub judge_unreached : not r ≡ true → 0 ≡ judged form sheet s g x i c
-        unfolding marked if◌then◌else◌
+        unfolding marked
         judge_unreached h =
             let e : reached s i ≡ false = sym er.same ∙ not-true r h in
             sym (rw (eq-eqb c 0 n, e)) ∙ judged_as (some item.0) item.1
@@ -214,11 +213,11 @@ module _ (form sheet : List ℕ) (s : Raw) (g : Search) (x : ItemRecord) (i c : 
                 rw e (sym (em item.0 here))
 
             pub judge_found : m ≡ true → i + 2 ≡ judged form sheet s g x i c
-            unfolding marked if◌then◌else◌
+            unfolding marked
             judge_found t = sym (rw (eq-eqb c 0 n, same, t)) ∙ judged_as (some item.0) item.1
 
             pub judge_other : m ≡ false → 0 ≡ judged form sheet s g x i c
-            unfolding marked if◌then◌else◌
+            unfolding marked
             judge_other t = sym (rw (eq-eqb c 0 n, same, t)) ∙ judged_as (some item.0) item.1
 
 -- ---- `turn`
@@ -254,26 +253,25 @@ module _ (s : Raw) (g : Search) (d : Seen) (r : Answer) where
     by e = record { good = λ _. e; bad = λ w. absurd (w z) }
 
     pub finish_bad : c ≡ 1 → r ≡ answer_with 30 0 (coded 0 0 0) → Finishes s g d r
-    unfolding ended plain_answer if◌then◌else◌
+    unfolding ended plain_answer
     finish_bad h e = by (rw (eq-eqb c 1 h) (ap some (sym e)))
 
     module _ (h : c ≡ 1 → ⊥) (b : Bool) (said : state_in g.fields n s ≡ (if b then ok (from_raw s) else refused (refuse 29 none))) where
       pub finish_state : not b ≡ true → r ≡ answer_with 29 0 (coded 0 0 0) → Finishes s g d r
-      unfolding ended plain_answer if◌then◌else◌ ◌>>=◌
+      unfolding ended plain_answer ◌>>=◌
       finish_state t e = by (rw (ne_eqb c 1 h, said, not-true b t) (ap some (sym e)))
 
       module _ (t : not b ≡ false) where
         pub finish_near : n ≤ 256
-        unfolding if◌then◌else◌
         finish_near = (in_kept g.fields n s (said ∙ rw (not-false b t))).small
 
         pub finish_node : g.key.kind ≡ 0 → r ≡ answer_with 28 0 (coded 0 0 0) → Finishes s g d r
-        unfolding ended plain_answer if◌then◌else◌ ◌>>=◌
+        unfolding ended plain_answer ◌>>=◌
         finish_node k e = by (rw (ne_eqb c 1 h, said, not-false b t, eq-eqb g.key.kind 0 k) (ap some (sym e)))
 
         module _ (k : g.key.kind ≡ 0 → ⊥) where
           pub finish_none : c ≡ 0 → r ≡ answer_with 0 0 (coded 0 0 0) → Finishes s g d r
-          unfolding ended plain_answer place_from if◌then◌else◌ ◌>>=◌
+          unfolding ended plain_answer place_from ◌>>=◌
           finish_none w e = by (rw (ne_eqb c 1 h, said, not-false b t, ne_eqb g.key.kind 0 k, eq-eqb c 0 w) (ap some (sym e)))
 
           module _ (w : c ≡ 0 → ⊥) where
@@ -281,5 +279,5 @@ module _ (s : Raw) (g : Search) (d : Seen) (r : Answer) where
             finish_narrow l = let m = finish_near in omega arith
 
             pub finish_some : (v : ℕ) → v ≡ c - 2 → r ≡ answer_with 0 0 (coded 1 v 0) → Finishes s g d r
-            unfolding ended plain_answer place_from if◌then◌else◌ ◌>>=◌
+            unfolding ended plain_answer place_from ◌>>=◌
             finish_some v ev e = by (rw (ne_eqb c 1 h, said, not-false b t, ne_eqb g.key.kind 0 k, ne_eqb c 0 w, ← ev) (ap some (sym e)))

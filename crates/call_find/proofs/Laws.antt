@@ -12,7 +12,7 @@ use lib.Dec.{eqb, ltb}
 use lib.ListN.{length, take, drop, get_elem?}
 use lib.Seq.{drop-drop}
 use borrow.Author.Tests.{eq-eqb, ne_eqb, eqb-true, eqb-false, ltb-true, ltb-false}
-use Rattle.utf8.specs.Utf8.{if◌then◌else◌}
+use Rattle.std.specs.Prelude.{if◌then◌else◌}
 use Rattle.rules.specs.Base.{◌>>?◌}
 use Rattle.rules.specs.Outcome.{Outcome, ok, refused, fault, refuse, Refusal, ◌>>=◌}
 use Rattle.rules.specs.Codes.{place_code}
@@ -24,7 +24,6 @@ use Rattle.rules.specs.Accept.{Accepted, accepted, check_form}
 use Rattle.rules.specs.Take.{matches_arg}
 use Rattle.rules.specs.Calls.{Key, form_in, sheet_in, item_from, items_from, records_in, trimmed, state_in, from_raw, asked, key_of}
 use Rattle.rules.specs.declared.State.{State as Raw}
-use Rattle.rules.proofs.Acceptance.{bind_some}
 use Rattle.state_marks.proofs.Laws.{in_kept}
 use Rattle.state_marks.proofs.Marks.{from_take}
 use Rattle.take_search.specs.Items.{Table}
@@ -68,11 +67,11 @@ searched is m u = asked m >>= λ y. find is (matches_arg y.named y.adjacent) u >
 module _ (form sheet : List ℕ) (xs : List ItemRecord) (x : Raw) (k : ℕ) (a : Accepted) (accepts : check_form form ≡ accepted a) (made : sheet_fault sheet ≡ 0) where
   opened : (o : Option (List Item)) → items_from (sheet_area sheet) (trimmed (map words_of xs)) ≡ o
       → call_find form sheet xs x k ≡ (items_or30 o >>= λ is. state_in (length a.fields) (length is) x >>= searched is (get_elem? a.trees k >>? key_of))
-  unfolding call_find record_items sheet_in ◌>>=◌ if◌then◌else◌
+  unfolding call_find record_items sheet_in ◌>>=◌
   opened o e = form_passed form a _ accepts ∙ rw (eq-eqb (sheet_fault sheet) 0 made, e)
 
 state_case : (fields n : ℕ) (x : Raw) → (state_in fields n x ≡ ok (from_raw x)) ⊎ (state_in fields n x ≡ refused (refuse 29 none))
-unfolding state_in if◌then◌else◌
+unfolding state_in
 state_case fields n x = go (eqb x.count n && zeros (drop x.count x.marks) && state_good fields n (from_raw x))
   where
     go : (b : Bool) → ((if b then ok (from_raw x) else refused (refuse 29 none)) ≡ ok (from_raw x)) ⊎ ((if b then ok (from_raw x) else refused (refuse 29 none)) ≡ refused (refuse 29 none))
@@ -105,27 +104,25 @@ module _ (form sheet : List ℕ) (xs : List ItemRecord) (x : Raw) (k : ℕ) (g :
   node = get_elem? y.result.trees k >>? key_of
 
   node_none : g.key.kind ≡ 0 → node ≡ none
-  unfolding if◌then◌else◌
   node_none w = y.key.any ∙ rw (eq-eqb g.key.kind 0 w)
 
   node_some : (g.key.kind ≡ 0 → ⊥) → node ≡ some (rules_key form g.key)
-  unfolding if◌then◌else◌
   node_some w = y.key.any ∙ rw (ne_eqb g.key.kind 0 w)
 
   ended_bad : c.found ≡ 1 → ended x c.count g c.found ≡ refused (refuse 30 none)
-  unfolding ended if◌then◌else◌
+  unfolding ended
   ended_bad w = rw (eq-eqb c.found 1 w)
 
   ended_state : (c.found ≡ 1 → ⊥) → state_in g.fields c.count x ≡ refused (refuse 29 none) → ended x c.count g c.found ≡ refused (refuse 29 none)
-  unfolding ended if◌then◌else◌ ◌>>=◌
+  unfolding ended ◌>>=◌
   ended_state w e = rw (ne_eqb c.found 1 w, e)
 
   ended_node : (c.found ≡ 1 → ⊥) → state_in g.fields c.count x ≡ ok (from_raw x) → g.key.kind ≡ 0 → ended x c.count g c.found ≡ refused (refuse 28 none)
-  unfolding ended if◌then◌else◌ ◌>>=◌
+  unfolding ended ◌>>=◌
   ended_node w e v = rw (ne_eqb c.found 1 w, e, eq-eqb g.key.kind 0 v)
 
   ended_some : (c.found ≡ 1 → ⊥) → state_in g.fields c.count x ≡ ok (from_raw x) → (g.key.kind ≡ 0 → ⊥) → ended x c.count g c.found ≡ ok (place_from c.found)
-  unfolding ended if◌then◌else◌ ◌>>=◌
+  unfolding ended ◌>>=◌
   ended_some w e v = rw (ne_eqb c.found 1 w, e, ne_eqb g.key.kind 0 v)
 
   module _ (is : List Item) (e : items_from (sheet_area sheet) (trimmed (map words_of xs)) ≡ some is) where
@@ -223,7 +220,7 @@ module _ (form sheet words : List ℕ) (is : List Item) (t : Table (sheet_area s
     -- what `find_named` answers over the words is what the search over the records finds
     pub by_number : (r : ℕ) → Sought (sheet_area sheet) words (matches_arg m.named m.adjacent) x.marks x.start x.end r
         → call_find form sheet xs x k ≡ ok (place_below r x.end)
-    unfolding items_or30 asked place_of place_below if◌then◌else◌ ◌>>=◌
+    unfolding items_or30 asked place_of place_below ◌>>=◌
     by_number r s =
         opened form sheet xs x k a accepts made (some is) table_items
         ∙ rw (good, node, find_all (length a.fields) (length is) x good is test) (go (ltb r x.end) refl)

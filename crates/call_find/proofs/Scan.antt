@@ -12,7 +12,7 @@ use lib.Dec.{eqb, ltb}
 use lib.ListN.{length, get_or, drop, get_elem?, drop_of_length-le}
 use lib.Seq.{drop-cons}
 use borrow.Author.Tests.{eq-eqb, ne_eqb, eqb-true, eqb-false, lt-leb, le-leb, ltb-true, ltb-false, lt-ltb, le-ltb}
-use Rattle.utf8.specs.Utf8.{if◌then◌else◌}
+use Rattle.std.specs.Prelude.{if◌then◌else◌}
 use Rattle.rules.specs.Base.{all, ◌>>?◌}
 use Rattle.rules.specs.Outcome.{Outcome, ok, ◌>>=◌, at}
 use Rattle.rules.specs.Sheet.{sheet_area}
@@ -37,7 +37,7 @@ started_able form sheet k g t z =
 -- ---- for the loop
 
 marked_most : (test : Item → Bool) (i c : ℕ) (o : Option Item) → c ≤ i + 1 → marked test i c o ≤ i + 1 + 1
-unfolding marked if◌then◌else◌
+unfolding marked
 marked_most test i c none h = omega arith
 marked_most test i c (some y) h = go (eqb c 0) (test y)
   where
@@ -48,7 +48,7 @@ marked_most test i c (some y) h = go (eqb c 0) (test y)
 
 module _ (form sheet : List ℕ) (s : Raw) (g : Search) where
   judged_most : (x : ItemRecord) (i c : ℕ) → c ≤ i + 1 → judged form sheet s g x i c ≤ i + 1 + 1
-  unfolding judged if◌then◌else◌
+  unfolding judged
   judged_most x i c h = go (eqb g.number 0)
     where
       m : ℕ
@@ -60,16 +60,16 @@ module _ (form sheet : List ℕ) (s : Raw) (g : Search) where
 
   module _ (x : ItemRecord) (i : ℕ) (c : Seen) where
     pub turned_zero : zeros (words_of x) ≡ true → turned form sheet s g x i c ≡ c
-    unfolding turned if◌then◌else◌
+    unfolding turned
     turned_zero e = rw e
 
     module _ (e : zeros (words_of x) ≡ false) where
       pub turned_next : c.count ≡ i → turned form sheet s g x i c ≡ seen_to (judged form sheet s g x i c.found) (i + 1)
-      unfolding turned if◌then◌else◌
+      unfolding turned
       turned_next h = rw (e, eq-eqb c.count i h)
 
       pub turned_hole : (c.count ≡ i → ⊥) → turned form sheet s g x i c ≡ seen_to 1 (i + 1)
-      unfolding turned if◌then◌else◌
+      unfolding turned
       turned_hole h = rw (e, ne_eqb c.count i h)
 
     abbrev Near : Seen → Type 0
@@ -102,20 +102,20 @@ module _ (s : Raw) (test : Item → Bool) where
   over (y ∷ ys) i c = over ys (suc i) (marked (λ z. reached s i && test z) i c (some y))
 
   over_stays : (ys : List Item) (i c : ℕ) → (c ≡ 0 → ⊥) → over ys i c ≡ c
-  unfolding over marked if◌then◌else◌
+  unfolding over marked
   over_stays [] i c h = refl
   over_stays (y ∷ ys) i c h = rw (ne_eqb c 0 h) (over_stays ys (suc i) c h)
 
   over_hit : (y : Item) (ys : List Item) (i : ℕ) → reached s i ≡ true → test y ≡ true → over (y ∷ ys) i 0 ≡ i + 2
-  unfolding over marked if◌then◌else◌
+  unfolding over marked
   over_hit y ys i a b = rw (a, b) (over_stays ys (suc i) (i + 2) (λ e. omega arith))
 
   over_unreached : (y : Item) (ys : List Item) (i : ℕ) → reached s i ≡ false → over (y ∷ ys) i 0 ≡ over ys (suc i) 0
-  unfolding over marked if◌then◌else◌
+  unfolding over marked
   over_unreached y ys i a = rw a
 
   over_other : (y : Item) (ys : List Item) (i : ℕ) → reached s i ≡ true → test y ≡ false → over (y ∷ ys) i 0 ≡ over ys (suc i) 0
-  unfolding over marked if◌then◌else◌
+  unfolding over marked
   over_other y ys i a b = rw (a, b)
 
   pub over_one : (ys : List Item) (i : ℕ) → over ys i 0 ≡ 1 → ⊥
@@ -135,7 +135,7 @@ unfolding marked
 none_one test i c = refl
 
 some_one : (test : Item → Bool) (i : ℕ) (y : Item) → marked test i 1 (some y) ≡ 1
-unfolding marked if◌then◌else◌
+unfolding marked
 some_one test i y = refl
 
 -- ---- records that are all 0
@@ -149,12 +149,12 @@ kind_zero k l e = go (eqb 0 k) refl e
     go false h w = absurd (false≢true w)
 
 zero_none : (area : List ℕ) (x : ItemRecord) → zeros (words_of x) ≡ true → item_from area (words_of x) ≡ none
-unfolding item_from if◌then◌else◌
+unfolding item_from
 zero_none area x e = rw (kind_zero x.kind _ e)
 
 module _ (r : List ℕ) (rs : List (List ℕ)) where
   trim_kept : zeros r ≡ false → trimmed (r ∷ rs) ≡ r ∷ trimmed rs
-  unfolding trimmed if◌then◌else◌
+  unfolding trimmed
   trim_kept e = go (trimmed rs)
     where
       go : (ts : List (List ℕ)) → (elim ts [ [] ↦ if zeros r then [] else r ∷ [] | y ∷ ys ↦ r ∷ y ∷ ys ]) ≡ r ∷ ts
@@ -162,7 +162,7 @@ module _ (r : List ℕ) (rs : List (List ℕ)) where
       go (y ∷ ys) = refl
 
   trim_last : zeros r ≡ true → trimmed rs ≡ [] → trimmed (r ∷ rs) ≡ []
-  unfolding trimmed if◌then◌else◌
+  unfolding trimmed
   trim_last e h = rw (h, e)
 
   trim_more : (y : List ℕ) (ys : List (List ℕ)) → trimmed rs ≡ y ∷ ys → trimmed (r ∷ rs) ≡ r ∷ y ∷ ys
@@ -178,7 +178,7 @@ module _ (form sheet : List ℕ) (s : Raw) (g : Search) (z : g.number ≡ 0) whe
 
   judged_as : (x : ItemRecord) (i c : ℕ) (o : Option Item) → item_from area (words_of x) ≡ o
       → judged form sheet s g x i c ≡ marked (λ y. reached s i && sought form g y) i c o
-  unfolding judged if◌then◌else◌
+  unfolding judged
   judged_as x i c o e = rw (z, judged, e)
 
   judged_one : (x : ItemRecord) (i : ℕ) → judged form sheet s g x i 1 ≡ 1
@@ -333,7 +333,7 @@ module _ (s : Raw) (test : Item → Bool) (is : List Item) (inside : s.end ≤ l
 
   from_start : (ys : List Item) (i : ℕ) → drop i is ≡ ys → s.start ≤ i
       → placed (find_in is test (present_from s.marks (s.end - i) i)) ≡ ok (place_from (over s test ys i 0))
-  unfolding find_in present_from over place_from place_of at ◌>>=◌ if◌then◌else◌
+  unfolding find_in present_from over place_from place_of at ◌>>=◌
   from_start [] i e a =
       let h = drop_nothing is i e in
       rw (from_none s.marks s.end i (omega arith))

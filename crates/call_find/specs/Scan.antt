@@ -1,7 +1,7 @@
 -- What the functions of the search say: how it starts, one record, and how it ends.
 use Rattle.std.specs.Prelude.{Bool, true, ◌&&◌, List, [], ◌∷◌, ◌≡◌, ℕ, suc, ◌+◌, ◌-◌, ◌<◌, eqb, leb, ltb, length, replicate}
 use Rattle.std.proofs.Math.Option.{Option, some, none}
-use Rattle.utf8.specs.Utf8.{if◌then◌else◌}
+use Rattle.std.specs.Prelude.{if◌then◌else◌}
 use Rattle.rules.specs.Outcome.{Outcome, ok, refused, refuse, Refusal, ◌>>=◌}
 use Rattle.rules.specs.Codes.{place_code}
 use Rattle.rules.specs.Sheet.{sheet_area, sheet_fault}

@@ -2,6 +2,7 @@
 // argument. It asks nothing of its input: what is not well made is refused under its number, a state that is not good for the
 // form's number of fields with 29, and then 28 where the form has no such node.
 #![tactic(auto)]
+
 ghost use Rattle.std.specs.Prelude.{◌≡◌, ◌+◌, ◌≤◌, ◌<◌};
 ghost use Rattle.std.proofs.Math.Option.{some};
 ghost use Rattle.call_answers.specs.Answers.{place_or_none, plain_answer};

@@ -7,7 +7,6 @@ use Prim.Native.Nat.{ℕ, ◌+◌, ◌≤◌, ◌<◌}
 use native.Mathlib.Omega.{arith}
 use lib.ListN.{length, get_elem?}
 use borrow.Author.Tests.{eq-eqb, ne_eqb, not-true, not-false}
-use Rattle.utf8.specs.Utf8.{if◌then◌else◌}
 use Rattle.rules.specs.Base.{is_some, ◌>>?◌}
 use Rattle.rules.specs.Outcome.{Outcome, refused, ◌>>=◌, refuse}
 use Rattle.rules.specs.Form.{field_count, name_count, read_form}
@@ -138,11 +137,11 @@ module _ (form sheet words : List ℕ) (x : Raw) (r : Refused) (t : Tests form s
 
       module _ (j : ℕ) (y : StateAnswer) where
         pub flag_none : (key.kind ≡ 1 → ⊥) → y ≡ state_with 28 0 (coded 0 0 0) x → state_answer_of yes_code (call_take_flag form sheet words x k j) ≡ some y
-        unfolding call_take_flag if◌then◌else◌
+        unfolding call_take_flag
         flag_none w = none_state _ yes_code (asked_none _ _ (here.flag ∙ rw (ne_eqb key.kind 1 w))) y
 
         pub arg_none : (key.kind ≡ 2 → ⊥) → y ≡ state_with 28 0 (coded 0 0 0) x → state_answer_of taken_code (call_take_arg form sheet words x k j) ≡ some y
-        unfolding call_take_arg if◌then◌else◌
+        unfolding call_take_arg
         arg_none w = none_state _ taken_code (asked_none _ _ (here.argument ∙ rw (ne_eqb key.kind 2 w))) y
 
         module _ (fields : ℕ) (count : fields ≡ field_count form) where
@@ -151,7 +150,6 @@ module _ (form sheet words : List ℕ) (x : Raw) (r : Refused) (t : Tests form s
 
           module _ (w : key.kind ≡ 1) where
             flag_names_lem : (get_elem? (t.good z).result.trees k >>? flag_names) ≡ some (key_names form key)
-            unfolding if◌then◌else◌
             flag_names_lem = here.flag ∙ rw (eq-eqb key.kind 1 w)
 
             pub flag_beyond : fields ≤ j → y ≡ state_with 28 0 (coded 0 0 0) x → state_answer_of yes_code (call_take_flag form sheet words x k j) ≡ some y
@@ -170,7 +168,6 @@ module _ (form sheet words : List ℕ) (x : Raw) (r : Refused) (t : Tests form s
 
           module _ (w : key.kind ≡ 2) where
             argument_key_lem : (get_elem? (t.good z).result.trees k >>? argument_key) ≡ some (rules_key form key)
-            unfolding if◌then◌else◌
             argument_key_lem = here.argument ∙ rw (eq-eqb key.kind 2 w)
 
             pub arg_beyond : fields ≤ j → y ≡ state_with 28 0 (coded 0 0 0) x → state_answer_of taken_code (call_take_arg form sheet words x k j) ≡ some y
@@ -189,12 +186,11 @@ module _ (form sheet words : List ℕ) (x : Raw) (r : Refused) (t : Tests form s
 
       module _ (i : ℕ) (y : Answer) where
         pub matches_none : key.kind ≡ 0 → y ≡ answer_with 28 0 (coded 0 0 0) → answer_of yes_code (call_matches form sheet words x k i) ≡ some y
-        unfolding call_matches if◌then◌else◌
+        unfolding call_matches
         matches_none w = none_answer _ yes_code (asked_none _ _ (here.any ∙ rw (eq-eqb key.kind 0 w))) y
 
         module _ (w : key.kind ≡ 0 → ⊥) (c : ℕ) (e : c ≡ x.count) where
           key_some : (get_elem? (t.good z).result.trees k >>? key_of) ≡ some (rules_key form key)
-          unfolding if◌then◌else◌
           key_some = here.any ∙ rw (ne_eqb key.kind 0 w)
 
           pub matches_past : c ≤ i → y ≡ answer_with 28 0 (coded 0 0 0) → answer_of yes_code (call_matches form sheet words x k i) ≡ some y

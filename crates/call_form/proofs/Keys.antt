@@ -6,22 +6,23 @@ use mathlib.Core.Path.{◌≡◌, refl, sym, ap, ◌∙◌}
 use Prim.Native.Nat.{ℕ, zero, suc, ◌+◌, ◌%◌, ◌≤◌, ◌<◌}
 use native.Mathlib.Omega.{arith}
 use lib.Dec.{eqb, leb}
-use lib.ListN.{length, take, get_elem?, drop, replicate, length-replicate}
+use lib.ListN.{length, take, get_elem?, drop}
 use borrow.Author.Tests.{eq-eqb, ne_eqb}
-use Rattle.utf8.specs.Utf8.{if◌then◌else◌}
+use Rattle.std.specs.Prelude.{if◌then◌else◌}
 use Rattle.rules.specs.Base.{is_some, ◌>>?◌}
 use Rattle.rules.specs.Form.{Node, Name, Form, node_count, field_count, name_count, read_form, name_bytes}
 use Rattle.rules.specs.Tree.{Named, Tree, named_by}
 use Rattle.rules.specs.Accept.{accepted, Accepted, check_form, length_good}
 use Rattle.rules.specs.Calls.{flag_names, argument_key, key_of, command_name, Key as RulesKey}
-use Rattle.rules.proofs.Acceptance.{if_some, bind_is, bind_some, is_some_lem, lookup_inside, Made, flag_made, argument_made, positional_made, optional_made, many_made, some_made, count_made, last_made}
+use Rattle.rules.proofs.Acceptance.{if_some, bind_is, bind_some, is_some_lem, lookup_inside, Made, flag_made, argument_made, positional_made, optional_made, many_made, some_made}
+use Rattle.rules.proofs.Acceptance.{count_made, last_made}
 use Rattle.rules.proofs.Acceptance.{choice_made, fallback_made, guard_made, tree_made, inside_same, names_some, accepted_form, accepted_length, accepted_trees, accepted_fields}
 use Rattle.rules.proofs.WellMadeLaws.{well_made}
 use Rattle.form_names.specs.Names.{name_of}
 use Rattle.form_names.specs.declared.Name as names
 use Rattle.form_layout.specs.declared.Node as layout
-use Rattle.form_layout.specs.Layout.{node_of, HasName, name_bytes_at, GoodNames}
-use Rattle.form_layout.proofs.Sizes.{sized, fields_length, nodes_length, names_length}
+use Rattle.form_layout.specs.Layout.{node_of, HasName, name_bytes_at}
+use Rattle.form_layout.proofs.Sizes.{fields_length, nodes_length, names_length}
 use Rattle.form_codes.specs.Codes.{names_from, named_at}
 use Rattle.eval_told.proofs.NodeLaw.{node_tree}
 use Rattle.call_form.specs.Keys.{key_with, no_key, KeyAt, Keyed, command_at}
@@ -57,7 +58,6 @@ record ByKind (f : Form) (x : Node) (t : Tree) : Type 0 where
 
 module _ (f : Form) (ts : List Tree) (j : ℕ) (x : Node) where
   other : (t : Tree) → flag_names t ≡ none → argument_key t ≡ none → 3 ≤ x.kind → ByKind f x t
-  unfolding if◌then◌else◌
   other t a b h = record {
     flag = rw (ne_eqb x.kind 1 (λ e. omega arith)) a;
     argument = rw (ne_eqb x.kind 2 (λ e. omega arith)) b;
@@ -65,7 +65,7 @@ module _ (f : Form) (ts : List Tree) (j : ℕ) (x : Node) where
   }
 
   by_kind : (t : Tree) → Made f ts j x t → ByKind f x t
-  unfolding flag_names argument_key if◌then◌else◌
+  unfolding flag_names argument_key
   by_kind t (flag_made l e r u n) =
       let s = names_some f x l n in
       record { flag = rw (e, s.part) refl; argument = rw e refl; inside = λ _. s.inside }
@@ -93,7 +93,7 @@ no_flag_key t o e h = rw (e, key_of) h
 -- ---- `key_at`
 module _ (b : List ℕ) (k : ℕ) where
   past_nodes : node_count b ≤ k → (a : Accepted) → check_form b ≡ accepted a → KeyAt b a k no_key
-  unfolding if◌then◌else◌ ◌>>?◌
+  unfolding ◌>>?◌
   past_nodes h a g =
       let long = accepted_trees b a g ∙ ap (λ (f : Form). length f.nodes) (accepted_form b a g) ∙ nodes_length b in
       let gone = past a.trees k (omega (arith, long, h)) in
@@ -114,7 +114,7 @@ module _ (b : List ℕ) (k : ℕ) where
     few h = omega (arith, kinds.inside h, names_length b)
 
     flag_here : x.kind ≡ 1 → KeyAt b a k (key_with 1 x.p x.q false)
-    unfolding if◌then◌else◌ named_at names_from
+    unfolding named_at names_from
     flag_here e =
         let is : flag_names tree ≡ some (named_at b x.p x.q) = kinds.flag ∙ rw (eq-eqb x.kind 1 e) in
         record {
@@ -125,7 +125,7 @@ module _ (b : List ℕ) (k : ℕ) where
         }
 
     argument_here : x.kind ≡ 2 → KeyAt b a k (key_with 2 x.p x.q (eqb (x.r % 2) 1))
-    unfolding if◌then◌else◌ named_at names_from
+    unfolding named_at names_from
     argument_here e =
         let is : argument_key tree ≡ some (record { named = named_at b x.p x.q; adjacent = eqb (x.r % 2) 1 }) = kinds.argument ∙ rw (eq-eqb x.kind 2 e) in
         let no : flag_names tree ≡ none = kinds.flag ∙ rw (ne_eqb x.kind 1 (λ h. omega arith)) in
@@ -137,7 +137,6 @@ module _ (b : List ℕ) (k : ℕ) where
         }
 
     other_here : (x.kind ≡ 1 → ⊥) → (x.kind ≡ 2 → ⊥) → KeyAt b a k no_key
-    unfolding if◌then◌else◌
     other_here p q =
         let no : flag_names tree ≡ none = kinds.flag ∙ rw (ne_eqb x.kind 1 p) in
         let not : argument_key tree ≡ none = kinds.argument ∙ rw (ne_eqb x.kind 2 q) in
@@ -169,7 +168,7 @@ module _ (b : List ℕ) (k : ℕ) where
   name_past n m h = rw (past (read_form b).names k (omega (arith, names_length b, m, h)))
 
   pub name_here : (x : names.Name) → get_elem? (read_form b).names k ≡ some (name_of x) → leb x.kind 1 ≡ is_some (command_at b k)
-  unfolding command_at is_some ◌>>?◌ if◌then◌else◌
+  unfolding command_at is_some ◌>>?◌
   name_here x e = rw (e, command_at) (go (leb x.kind 1))
     where
       go : (t : Bool) → t ≡ is_some (if t then some (name_bytes (read_form b).area (name_of x)) else none)
@@ -196,7 +195,7 @@ module _ (b : List ℕ) (k : ℕ) where
         }
 
     pub command_word : (w : List ℕ) → name_bytes_at (read_form b) k ≡ some w → command_at b k ≡ some w
-    unfolding name_bytes_at command_at ◌>>?◌ if◌then◌else◌
+    unfolding name_bytes_at command_at ◌>>?◌
     command_word w e =
         let (x, at, made) = word_some in
         let p = if_some (leb x.type 1) (some (name_bytes (read_form b).area x)) made in

@@ -2,6 +2,7 @@
 // number, a state that is not good for the form's number of fields with 29, and then 28 where the form has no such node, name or
 // field, or the items no such place.
 #![tactic(auto)]
+
 ghost use Rattle.std.specs.Prelude.{◌≡◌, true, ℕ, ◌+◌, ◌≤◌};
 ghost use Rattle.std.proofs.Math.Option.{some};
 ghost use Rattle.rules.specs.Base.{is_some};

@@ -8,13 +8,14 @@ use native.Mathlib.Omega.{arith}
 use lib.ListN.{length, get_or, take, drop, get_elem?}
 use lib.Seq.{length-take-le, drop-cons, get_or-take}
 use borrow.Author.Tests.{le-ltb, lt-ltb, le-leb, lt-leb, ne_eqb, not-true, not-false}
-use Rattle.utf8.specs.Utf8.{if◌then◌else◌}
+use Rattle.std.specs.Prelude.{if◌then◌else◌}
 use Rattle.rules.specs.Outcome.{Outcome, ok, refused, fault, refuse, ◌>>=◌}
 use Rattle.rules.specs.Sheet.{sheet_area}
 use Rattle.rules.specs.Split.{Item}
 use Rattle.rules.specs.State.{State, Found, field_mark, present, in_scope, get, find, remove, with_current, conflict}
 use Rattle.rules.specs.Take.{Took, took, Operand as RulesOperand, is_operand, operand, take_positional_word}
-use Rattle.rules.specs.Calls.{from_raw, to_raw, state_in, most_fields, place_in, mark_in, item_from, handed, on_items, operand_or20, call_get, call_conflict, call_take_positional, call_only_once}
+use Rattle.rules.specs.Calls.{from_raw, to_raw, state_in, most_fields, place_in, mark_in, item_from, handed, on_items, operand_or20, call_get, call_conflict, call_take_positional}
+use Rattle.rules.specs.Calls.{call_only_once}
 use Rattle.rules.specs.declared.State.{State as Raw}
 use Rattle.rules.specs.Sound.{Good}
 use Rattle.rules.specs.Codes.{place_of}
@@ -202,7 +203,7 @@ module _ (s words : List ℕ) (i : ℕ) (r : Input) (g : Gives s words r) where
 
   module _ (e : r.number ≡ 0) where
     pub once_beyond : r.count ≤ i → plain_answer place_or_none (call_only_once s words i) ≡ some (answer_with 28 0 (coded 0 0 0))
-    unfolding call_only_once plain_answer place_in ◌>>=◌ if◌then◌else◌
+    unfolding call_only_once plain_answer place_in ◌>>=◌
     once_beyond h =
         let t = g.good e in
         let l : length t.holds.items ≤ i = omega (arith, t.holds.count) in
@@ -216,7 +217,7 @@ module _ (s words : List ℕ) (i : ℕ) (r : Input) (g : Gives s words r) where
           record { made = t.made; items = t.holds.items; table = t.holds.table; below = omega (arith, t.holds.count) }
 
       pub once_wide : 4294967295 < i → plain_answer place_or_none (call_only_once s words i) ≡ some (answer_with 28 0 (coded 0 0 0))
-      unfolding call_only_once plain_answer place_in ◌>>=◌ if◌then◌else◌
+      unfolding call_only_once plain_answer place_in ◌>>=◌
       once_wide w =
           let t = g.good e in
           let l : i < length t.holds.items = omega (arith, t.holds.count) in
@@ -226,7 +227,7 @@ module _ (s words : List ℕ) (i : ℕ) (r : Input) (g : Gives s words r) where
 
       module _ (small : i ≤ 4294967295) (f : ℕ) (z : Earlier (sheet_area s) words i f) where
         told : plain_answer place_or_none (call_only_once s words i) ≡ some (answer_with 0 0 (place_or_none (place_of f)))
-        unfolding call_only_once plain_answer place_in ◌>>=◌ if◌then◌else◌
+        unfolding call_only_once plain_answer place_in ◌>>=◌
         told =
             let t = g.good e in
             let l : i < length t.holds.items = omega (arith, t.holds.count) in
@@ -236,11 +237,11 @@ module _ (s words : List ℕ) (i : ℕ) (r : Input) (g : Gives s words r) where
             ap (plain_answer place_or_none) step
 
         pub once_none : f ≡ 0 → plain_answer place_or_none (call_only_once s words i) ≡ some (answer_with 0 0 (coded 0 0 0))
-        unfolding place_of if◌then◌else◌
+        unfolding place_of
         once_none d = told ∙ rw d
 
         pub once_told : (f ≡ 0 → ⊥) → plain_answer place_or_none (call_only_once s words i) ≡ some (answer_with 0 0 (coded 1 (f - 1) 0))
-        unfolding place_of if◌then◌else◌
+        unfolding place_of
         once_told d = told ∙ rw (place_some f d)
 
 -- ---- `get`
@@ -294,7 +295,7 @@ scope_small s words x n g e =
 
 module _ (s words : List ℕ) (x : Raw) (i n : ℕ) (g : GivesState 16 s words x n) where
   pub get_refused : (n ≡ 0 → ⊥) → Gets s words x i (nothing_got n)
-  unfolding call_get got_of got_words place_of if◌then◌else◌
+  unfolding call_get got_of got_words place_of
   get_refused h = record {
     same = items_refused s words x _ n g h ∙ rw (ne_eqb n 0 h);
     item = rw (ne_eqb n 0 h);
@@ -310,7 +311,7 @@ module _ (s words : List ℕ) (x : Raw) (i n : ℕ) (g : GivesState 16 s words x
         items_given_lem s words x _ h ∙ ap (handed x) (d h.table.holds.items h.table.holds.table h.table.holds.count)
 
     pub get_beyond : (w : ℕ) → w ≡ x.count → w ≤ i → Gets s words x i (nothing_got 28)
-    unfolding got_of got_words place_of place_in handed ◌>>=◌ if◌then◌else◌
+    unfolding got_of got_words place_of place_in handed ◌>>=◌
     get_beyond w ew l = record {
       same = called (refused (refuse 28 none)) (λ is t k. rw (le-ltb i (length is) (omega arith)));
       item = refl;
@@ -322,13 +323,13 @@ module _ (s words : List ℕ) (x : Raw) (i n : ℕ) (g : GivesState 16 s words x
 
       found : length x.marks ≡ 256 → (o : Option Item) → ((is : List Item) → Table (sheet_area s) words is → length is ≡ x.count → get is (from_raw x) i ≡ o)
           → call_get s words x i ≡ ok (record { number = 0; place = none; answer = some o; state = x })
-      unfolding place_in handed took ◌>>=◌ if◌then◌else◌
+      unfolding place_in handed took ◌>>=◌
       found long o d =
           called (took o (from_raw x)) (λ is t k. rw (lt-ltb i (length is) (omega (arith, below)), d is t k))
           ∙ rw (same_state x (g.good e).good long)
 
       pub get_absent : length x.marks ≡ 256 → (b : Bool) → b ≡ free_at x i → not b ≡ true → Gets s words x i (nothing_got 0)
-      unfolding got_of got_words place_of item_from if◌then◌else◌
+      unfolding got_of got_words place_of item_from
       get_absent long b eb h = record {
         same = found long none (λ is t k. free_get x is i (g.good e).good below ∙ rw (← eb, not-true b h));
         item = refl;
@@ -341,7 +342,7 @@ module _ (s words : List ℕ) (x : Raw) (i n : ℕ) (g : GivesState 16 s words x
 
       pub get_found : length x.marks ≡ 256 → (b : Bool) → b ≡ free_at x i → not b ≡ false → (r : List ℕ) → r ≡ record_at words i
           → Gets s words x i (record { number = 0; place = 0; item = r })
-      unfolding got_of got_words place_of if◌then◌else◌
+      unfolding got_of got_words place_of
       get_found long b eb h r er =
           let t = (g.good e).table.holds in
           let y = lookup_some t.items i (omega (arith, below, t.count)) in

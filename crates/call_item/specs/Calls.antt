@@ -1,7 +1,7 @@
 -- What the entry points on items hand back, and what their parts find.
 use Rattle.std.specs.Prelude.{Bool, ◌&&◌, List, ◌≡◌, ℕ, leb, ltb, eqb, get_or, replicate}
 use Rattle.std.proofs.Math.Option.{Option, some, none}
-use Rattle.utf8.specs.Utf8.{if◌then◌else◌}
+use Rattle.std.specs.Prelude.{if◌then◌else◌}
 use Rattle.rules.specs.Outcome.{ok}
 use Rattle.rules.specs.Sheet.{sheet_area}
 use Rattle.rules.specs.Split.{Item}

@@ -1,6 +1,7 @@
 // The entry points on items, a state and a place. None asks anything of its input: what is not well made is refused under its
 // number, a state that is not good, where there may be 16 fields, with 29, then a place or field that is not there with 28.
 #![tactic(auto)]
+
 ghost use Rattle.std.specs.Prelude.{◌≡◌, ◌+◌, ◌*◌, ◌≤◌, length};
 ghost use Rattle.std.proofs.Math.Option.{some};
 ghost use Rattle.rules.specs.Calls.{call_conflict, call_take_positional, call_only_once};

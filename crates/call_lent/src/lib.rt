@@ -1,6 +1,7 @@
 // Calls that change a state where it lies. Each hands the state by value to the entry point of the same name, which tests its
 // input, and stores the state that comes back. Refused, that is the state that was given.
 #![tactic(auto)]
+
 ghost use Rattle.std.specs.Prelude.{◌≡◌};
 ghost use Rattle.std.proofs.Math.Option.{some};
 ghost use Rattle.rules.specs.Calls.{call_remove, call_take_flag};

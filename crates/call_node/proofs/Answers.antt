@@ -12,12 +12,12 @@ use borrow.Author.Tests.{eq-eqb, ne_eqb}
 use Rattle.rules.specs.Base.{◌>>?◌}
 use Rattle.rules.specs.Outcome.{Outcome, ok, refused, fault, MissingItem, list_words, is_missing}
 use Rattle.rules.specs.Value.{Value, words}
-use Rattle.rules.specs.Form.{name_count, field_count, read_form}
+use Rattle.rules.specs.Form.{field_count, read_form}
 use Rattle.rules.specs.Accept.{length_good, field_of}
 use Rattle.rules.specs.Sheet.{sheet_area, sheet_fault}
 use Rattle.rules.specs.Tree.{Tree}
 use Rattle.rules.specs.Split.{Item}
-use Rattle.rules.specs.State.{State, parsed}
+use Rattle.rules.specs.State.{State}
 use Rattle.rules.specs.Codes.{place_code}
 use Rattle.rules.specs.Eval.{Ran as Run, eval}
 use Rattle.rules.specs.Run.{padded}
@@ -29,7 +29,6 @@ use Rattle.rules.proofs.Acceptance.{accepted_length, accepted_passed, good_no_fa
 use Rattle.rules.proofs.InputFaults.{no_entries_listed}
 use Rattle.rules.proofs.MissingLaws.{missing_told}
 use Rattle.eval_error.specs.Refusals.{refused_of, refusal_of, refused_refusal}
-use Rattle.form_layout.proofs.Sizes.{sized}
 use Rattle.state_marks.specs.declared.Numbers.{Numbers}
 use Rattle.state_marks.specs.Lent.{raw_of, numbers_of, state_of}
 use Rattle.state_marks.proofs.Laws.{raw_back, in_kept, kept_fine}
@@ -46,7 +45,7 @@ use Rattle.eval_told.proofs.NodeLaw.{at_tree}
 use Rattle.eval_list.specs.Lists.{Writes}
 use Rattle.eval_missing.specs.Missing.{Listing, Lists}
 use Rattle.run_fields.specs.Line.{FieldReady}
-use Rattle.call_node.specs.Node.{Answered, evaluated_answer, unchanged_by, answer_of, Admitted, Admits, ClearedAnswers, node_mark, Runs}
+use Rattle.call_node.specs.Node.{Answered, evaluated_answer, unchanged_by, answer_of, Admits, ClearedAnswers, node_mark, Runs}
 use Rattle.run_fields.specs.declared.RunAnswer.{RunAnswer}
 use Rattle.call_node.proofs.Leaves.{few_leaves}
 use Rattle.call_node.proofs.Tests.{admitted_runs}

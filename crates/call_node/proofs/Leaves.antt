@@ -10,14 +10,14 @@ use native.Mathlib.Omega.{arith}
 use lib.Dec.{leb, eqb}
 use lib.ListN.{length, get_elem?}
 use borrow.Author.Tests.{eqb-true}
-use Rattle.utf8.specs.Utf8.{if◌then◌else◌}
 use Rattle.rules.specs.Base.{occurrences, numbers, concat_map}
 use Rattle.rules.specs.Form.{Node, Form, read_form}
 use Rattle.rules.specs.Tree.{Tree}
 use Rattle.rules.specs.Accept.{Accepted, accepted, check_form, trees_at, children_of, uses, used_once}
 use Rattle.rules.specs.Demands.{All}
 use Rattle.rules.specs.Sound.{leaves, all_leaves}
-use Rattle.rules.proofs.Acceptance.{Made, flag_made, argument_made, positional_made, optional_made, many_made, some_made, count_made, last_made, choice_made, fallback_made, guard_made, Child, TreesAt}
+use Rattle.rules.proofs.Acceptance.{Made, flag_made, argument_made, positional_made, optional_made, many_made, some_made, count_made, last_made, choice_made, fallback_made, guard_made}
+use Rattle.rules.proofs.Acceptance.{Child, TreesAt}
 use Rattle.rules.proofs.Acceptance.{trees_made, trees_length, fields_step, no_fault, lookup_inside, numbers_all, Passed, accepted_passed, accepted_length, accepted_form}
 use Rattle.rules.proofs.Uses.{used_once_lem, leaves_law, leaf_few}
 use Rattle.form_layout.proofs.Sizes.{sized, nodes_length}
@@ -27,7 +27,7 @@ occurs_append :
     (k : ℕ) (ks ls : List ℕ)
     → (occurrences k (ks ++ ls) ≡ 0 → ⊥)
     → (occurrences k ks ≡ 0 → ⊥) ⊎ (occurrences k ls ≡ 0 → ⊥)
-unfolding occurrences if◌then◌else◌
+unfolding occurrences
 occurs_append k [] ls h = inr h
 occurs_append k (y ∷ ks) ls h = go (occurs_append k ks ls) (eqb k y) refl
   where
@@ -40,7 +40,7 @@ occurs_append k (y ∷ ks) ls h = go (occurs_append k ks ls) (eqb k y) refl
     go more false e = rw e (more (rw e at h))
 
 occurs_all : (P : ℕ → Type 0) (k : ℕ) (ks : List ℕ) → All P ks → (occurrences k ks ≡ 0 → ⊥) → P k
-unfolding occurrences if◌then◌else◌
+unfolding occurrences
 occurs_all P k [] h z = absurd (z refl)
 occurs_all P k (y ∷ ks) h z = go (occurs_all P k ks h.1) (eqb k y) refl
   where
@@ -58,16 +58,16 @@ module _ (f : Form) (ts : List Tree) (k : ℕ) (x : Node) where
     pub fewer : leaves tree ≤ n
 
   one_child : (c : Tree) (n : ℕ) → x.kind ≡ n → Child ts k x.p c → leb n 3 ≡ false → eqb n 9 ≡ false → All (Below (leaves c)) (children_of x)
-  unfolding children_of if◌then◌else◌
+  unfolding children_of
   one_child c n z h a b =
       rw (z, a, b) (record { lower = h.0; tree = c; stands = h.1; fewer = le_refl (leaves c) }, tt)
 
   no_child : (m n : ℕ) → x.kind ≡ n → leb n 3 ≡ true → All (Below m) (children_of x)
-  unfolding children_of if◌then◌else◌
+  unfolding children_of
   no_child m n z a = rw (z, a) tt
 
   made_below : (t : Tree) → Made f ts k x t → All (Below (leaves t)) (children_of x)
-  unfolding leaves children_of if◌then◌else◌
+  unfolding leaves children_of
   made_below t (flag_made l z r u n) = no_child 1 1 z refl
   made_below t (argument_made l z r u n) = no_child 1 2 z refl
   made_below t (positional_made z p r u) = no_child 1 3 z refl

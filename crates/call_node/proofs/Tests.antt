@@ -7,7 +7,7 @@ use Prim.Native.Nat.{ℕ, zero, suc, ◌≤◌, ◌<◌}
 use native.Mathlib.Omega.{arith}
 use lib.ListN.{length, get_elem?}
 use borrow.Author.Tests.{eq-eqb, ne_eqb, le-leb, lt-leb, not-true, not-false}
-use Rattle.utf8.specs.Utf8.{if◌then◌else◌}
+use Rattle.std.specs.Prelude.{if◌then◌else◌}
 use Rattle.rules.specs.Outcome.{ok, refused, ◌>>=◌, refuse}
 use Rattle.rules.specs.Form.{Form, node_count, field_count}
 use Rattle.rules.specs.Sheet.{sheet_area, sheet_fault}
@@ -72,7 +72,7 @@ module _ (b s words o l : List ℕ) (x : Raw) (k : ℕ) where
   module _ (r : Refused) (e : r ≡ check_code (check_form b)) (z : r.number ≡ 0) (f : ℕ) (ef : f ≡ sheet_fault s) where
     -- 6 and 5
     pub sheet_refused : (f ≡ 0 → ⊥) → (q : Refused) → q ≡ record { number = f; place = 0 } → Admits b s words o l x k q
-    unfolding eval_in form_in sheet_in ◌>>=◌ if◌then◌else◌
+    unfolding eval_in form_in sheet_in ◌>>=◌
     sheet_refused h q g =
         let (a, y) = check_accepted b r e z in
         refusing f q g h (rw (y, form_in, ef, ne_eqb (sheet_fault s) 0 (λ i. h (ef ∙ i))))
@@ -80,7 +80,7 @@ module _ (b s words o l : List ℕ) (x : Raw) (k : ℕ) where
     module _ (zf : f ≡ 0) where
       -- 7
       pub items_short : length words < 1792 → (q : Refused) → q ≡ record { number = 7; place = 0 } → Admits b s words o l x k q
-      unfolding eval_in form_in sheet_in slice_in room_in ◌>>=◌ if◌then◌else◌
+      unfolding eval_in form_in sheet_in slice_in room_in ◌>>=◌
       items_short h q g =
           let (a, y) = check_accepted b r e z in
           refusing 7 q g (λ i. omega arith)
@@ -88,7 +88,7 @@ module _ (b s words o l : List ℕ) (x : Raw) (k : ℕ) where
 
       module _ (long : 1792 ≤ length words) where
         pub answers_short : length o < 8240 → (q : Refused) → q ≡ record { number = 7; place = 0 } → Admits b s words o l x k q
-        unfolding eval_in form_in sheet_in slice_in room_in ◌>>=◌ if◌then◌else◌
+        unfolding eval_in form_in sheet_in slice_in room_in ◌>>=◌
         answers_short h q g =
             let (a, y) = check_accepted b r e z in
             refusing 7 q g (λ i. omega arith)
@@ -96,7 +96,7 @@ module _ (b s words o l : List ℕ) (x : Raw) (k : ℕ) where
 
         -- 14
         pub list_short : 8240 ≤ length o → length l < 192 → (q : Refused) → q ≡ record { number = 14; place = 0 } → Admits b s words o l x k q
-        unfolding eval_in form_in sheet_in slice_in room_in list_room_in ◌>>=◌ if◌then◌else◌
+        unfolding eval_in form_in sheet_in slice_in room_in list_room_in ◌>>=◌
         list_short room h q g =
             let (a, y) = check_accepted b r e z in
             refusing 14 q g (λ i. omega arith)
@@ -105,7 +105,7 @@ module _ (b s words o l : List ℕ) (x : Raw) (k : ℕ) where
         module _ (room : 8240 ≤ length o) (listable : 192 ≤ length l) (c : table.Checked) (says : Checks (sheet_area s) words c) where
           -- 30
           pub items_refused : not c.good ≡ true → (q : Refused) → q ≡ record { number = 30; place = 0 } → Admits b s words o l x k q
-          unfolding eval_in form_in sheet_in slice_in room_in list_room_in ◌>>=◌ if◌then◌else◌
+          unfolding eval_in form_in sheet_in slice_in room_in list_room_in ◌>>=◌
           items_refused h q g =
               let (a, y) = check_accepted b r e z in
               refusing 30 q g (λ i. omega arith)
@@ -120,7 +120,7 @@ module _ (b s words o l : List ℕ) (x : Raw) (k : ℕ) where
 
               -- 29
               pub state_refused : not t ≡ true → (q : Refused) → q ≡ record { number = 29; place = 0 } → Admits b s words o l x k q
-              unfolding eval_in form_in sheet_in slice_in room_in list_room_in ◌>>=◌ if◌then◌else◌
+              unfolding eval_in form_in sheet_in slice_in room_in list_room_in ◌>>=◌
               state_refused h q g =
                   let (a, y) = check_accepted b r e z in
                   let bad : state_in (length a.fields) c.count x ≡ refused (refuse 29 none) = rw (field_count_lem b a y, ← eu) (said ∙ rw (not-true t h)) in
@@ -129,12 +129,11 @@ module _ (b s words o l : List ℕ) (x : Raw) (k : ℕ) where
 
               module _ (fine : not t ≡ false) (n : ℕ) (en : n ≡ node_count b) where
                 good : state_in (field_count b) c.count x ≡ ok (from_raw x)
-                unfolding if◌then◌else◌
                 good = rw (← eu) (said ∙ rw (not-false t fine))
 
                 -- 28
                 pub node_refused : n ≤ k → (q : Refused) → q ≡ record { number = 28; place = 0 } → Admits b s words o l x k q
-                unfolding eval_in form_in sheet_in slice_in room_in list_room_in asked ◌>>=◌ if◌then◌else◌
+                unfolding eval_in form_in sheet_in slice_in room_in list_room_in asked ◌>>=◌
                 node_refused h q g =
                     let (a, y) = check_accepted b r e z in
                     let all : length a.trees ≡ node_count b = accepted_trees b a y ∙ ap (λ (f : Form). length f.nodes) (accepted_form b a y) ∙ nodes_length b in
@@ -170,7 +169,7 @@ module _ (b s words o l : List ℕ) (x : Raw) (k : ℕ) where
 pub admitted_runs :
     (b s words o l : List ℕ) (x : Raw) (k : ℕ) (i : Admitted b s words (length o) (length l) x k)
     → eval_in b s words o l x k ≡ ok (eval (node_mark b k) i.holds.items i.tree (from_raw x))
-unfolding eval_in form_in sheet_in slice_in room_in list_room_in asked ◌>>=◌ if◌then◌else◌
+unfolding eval_in form_in sheet_in slice_in room_in list_room_in asked ◌>>=◌
 admitted_runs b s words o l x k i =
     let stands : get_elem? i.result.trees k ≡ some i.tree = sym (at_tree b i.result i.accepts k) ∙ i.node in
     let wide = le-leb 1792 (length words) i.wide in

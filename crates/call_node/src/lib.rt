@@ -1,5 +1,6 @@
 // `eval` of one node of a form on a state, as an entry point.
 #![tactic(auto)]
+
 ghost use Rattle.std.specs.Prelude.{◌≡◌, true, ◌≤◌, length};
 ghost use Rattle.std.proofs.Math.Option.{some};
 ghost use Rattle.rules.specs.Sheet.{sheet_area, sheet_fault};

@@ -10,7 +10,7 @@ use native.Mathlib.Omega.{arith}
 use borrow.Author.Tests.{not-true, not-false}
 use lib.ListN.{length, get_or, drop, drop_of_length-le}
 use lib.Seq.{drop-cons}
-use Rattle.utf8.specs.Utf8.{if◌then◌else◌}
+use Rattle.std.specs.Prelude.{if◌then◌else◌}
 use Rattle.rules.specs.Outcome.{Outcome, ok, refused, fault, ◌>>=◌}
 use Rattle.rules.specs.State.{parsed, present}
 use Rattle.rules.specs.Calls.{Called, call_take_flag, call_take_arg, call_take_positional, call_take_cmd}
@@ -56,11 +56,9 @@ module _ (b a : List ℕ) (marks : Marks b a) where
   rest_step i h = rw (drop-cons b i 0 (omega (arith, marks.given)), drop-cons a i 0 (omega (arith, marks.left)))
 
   rest_hit : (i : ℕ) → i < 256 → used_here b a i ≡ true → rest b a i ≡ i ∷ rest b a (suc i)
-  unfolding if◌then◌else◌
   rest_hit i h e = rw e at (rest_step i h)
 
   rest_miss : (i : ℕ) → i < 256 → used_here b a i ≡ false → rest b a i ≡ rest b a (suc i)
-  unfolding if◌then◌else◌
   rest_miss i h e = rw e at (rest_step i h)
 
   rest_end : (i : ℕ) → 256 ≤ i → rest b a i ≡ []

@@ -1,6 +1,7 @@
 // What a take would do. Each preview makes the take on the state that it has by value, and finds the places that were used by
 // comparing the marks before and after: at most two. It is refused as the take is, with no places.
 #![tactic(auto)]
+
 ghost use Rattle.std.specs.Prelude.{◌≡◌, ◌&&◌, ◌≤◌, ◌<◌, length, get_or, drop};
 ghost use Rattle.std.proofs.Math.Option.{some};
 ghost use Rattle.rules.specs.State.{parsed, present};

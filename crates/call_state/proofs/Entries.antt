@@ -7,7 +7,7 @@ use Prim.Native.Nat.{ℕ, suc, ◌≤◌, ◌<◌}
 use native.Mathlib.Omega.{arith}
 use lib.Dec.{leb, ltb}
 use borrow.Author.Tests.{lt-ltb, le-ltb, le-leb, lt-leb, ltb-true, ltb-false, not-true, not-false}
-use Rattle.utf8.specs.Utf8.{if◌then◌else◌}
+use Rattle.std.specs.Prelude.{if◌then◌else◌}
 use Rattle.rules.specs.Outcome.{Outcome, ok, refused, refuse, ◌>>=◌}
 use Rattle.rules.specs.State.{State, field_mark, remove, set_scope, save_conflicts, pick_winner, adjacent_scope, adjacently_available_from}
 use Rattle.rules.specs.Take.{Took, took}
@@ -65,11 +65,9 @@ abbrev pub Tested : Outcome State → Raw → Bool → Type 0
 Tested o x b = o ≡ (if b then ok (from_raw x) else refused (refuse 29 none))
 
 tested_good : (o : Outcome State) (x : Raw) (b : Bool) → Tested o x b → not b ≡ false → o ≡ ok (from_raw x)
-unfolding if◌then◌else◌
 tested_good o x b g h = g ∙ rw (not-false b h)
 
 tested_bad : (o : Outcome State) (x : Raw) (b : Bool) → Tested o x b → not b ≡ true → o ≡ refused (refuse 29 none)
-unfolding if◌then◌else◌
 tested_bad o x b g h = g ∙ rw (not-true b h)
 
 -- with the number of fields as the code has it
@@ -88,7 +86,7 @@ module _ (n : ℕ) (x : Raw) (b : Bool) (e : n ≡ x.count) (g : Tested (state_i
   -- ---- two states: the first decides, then the second
   module _ (y : Raw) where
     pub first_bad : not b ≡ true → Tested (both_in x y) y false
-    unfolding both_in ◌>>=◌ if◌then◌else◌
+    unfolding both_in ◌>>=◌
     first_bad h = rw (in_bad h)
 
     pub second_decides : not b ≡ false → (c : Bool) → Tested (state_in 16 n y) y c → Tested (both_in x y) y c
@@ -97,7 +95,6 @@ module _ (n : ℕ) (x : Raw) (b : Bool) (e : n ≡ x.count) (g : Tested (state_i
 
 -- 29 lets a state through as it is, or refuses it
 if_cases : {A : Type 0} (b : Bool) (u v : A) → ((if b then u else v) ≡ u) ⊎ ((if b then u else v) ≡ v)
-unfolding if◌then◌else◌
 if_cases true u v = inl refl
 if_cases false u v = inr refl
 
@@ -109,11 +106,11 @@ state_cases n x = if_cases _ _ _
 
 module _ (n i : ℕ) where
   no_place : n ≤ i → place_in n i ≡ refused (refuse 28 none)
-  unfolding place_in if◌then◌else◌
+  unfolding place_in
   no_place h = rw (le-ltb i n h)
 
   place_there : i < n → place_in n i ≡ ok i
-  unfolding place_in if◌then◌else◌
+  unfolding place_in
   place_there h = rw (lt-ltb i n h)
 
 and_no : (p : Bool) → p && false ≡ false
@@ -122,15 +119,15 @@ and_no false = refl
 
 module _ (n a b : ℕ) where
   scope_falls : b < a → scope_in n a b ≡ refused (refuse 28 none)
-  unfolding scope_in if◌then◌else◌
+  unfolding scope_in
   scope_falls h = rw (lt-leb a b h)
 
   scope_leaves : n < b → scope_in n a b ≡ refused (refuse 28 none)
-  unfolding scope_in if◌then◌else◌
+  unfolding scope_in
   scope_leaves h = rw (lt-leb b n h, and_no (leb a b))
 
   scope_there : a ≤ b → b ≤ n → scope_in n a b ≡ ok (record { start = a; end = b })
-  unfolding scope_in if◌then◌else◌
+  unfolding scope_in
   scope_there h l = rw (le-leb a b h, le-leb b n l)
 
 -- ---- calls on one state

@@ -1,9 +1,10 @@
 // The entry points on states alone. None asks anything of its input: a state that is not good, where there may be 16 fields, is
 // refused with 29, then a place, scope or field that is not there with 28.
 #![tactic(auto)]
+
 ghost use Rattle.std.specs.Prelude.{◌≡◌};
 ghost use Rattle.std.proofs.Math.Option.{some, none};
-ghost use Rattle.utf8.specs.Utf8.{if◌then◌else◌};
+ghost use Rattle.std.specs.Prelude.{if◌then◌else◌};
 ghost use Rattle.rules.specs.Outcome.{ok, refused as refused_with, refuse};
 ghost use Rattle.rules.specs.Calls.{from_raw};
 ghost use Rattle.rules.specs.Calls.{call_remove, call_pick_winner, call_save_conflicts, call_set_scope, call_adjacent_scope, call_available_from};

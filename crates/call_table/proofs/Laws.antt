@@ -8,7 +8,7 @@ use Prim.Native.Nat.{ℕ, zero, suc, ◌-◌, ◌*◌, ◌/◌, ◌≤◌, ◌<�
 use native.Mathlib.Omega.{arith}
 use lib.ListN.{length, drop, get_elem?, length-drop}
 use borrow.Author.Tests.{eq-eqb, ne_eqb, le-leb, lt-leb, not-true, not-false}
-use Rattle.utf8.specs.Utf8.{if◌then◌else◌}
+use Rattle.std.specs.Prelude.{if◌then◌else◌}
 use Rattle.wire.specs.Wire.{area_start, area as wire_area}
 use Rattle.wire.specs.Laws.{good_table, start_most}
 use Rattle.rules.specs.Base.{is_some, ◌>>?◌}
@@ -77,7 +77,7 @@ items_length area (r ∷ rs) is e =
 module _ (area words : List ℕ) (n : ℕ) (t : Trims words n) where
   found_as : (b : Bool) → zeros (drop (7 * (length words / 7)) words) ≡ b → (o : Option (List Item)) → items_from area (records_in n words) ≡ o
       → (whole_records words >>? λ rs. items_from area (trimmed rs)) ≡ (if b then o else none)
-  unfolding whole_records if◌then◌else◌ ◌>>?◌
+  unfolding whole_records ◌>>?◌
   found_as b z o e = ap (λ (c : Bool). (if c then some (records_in (length words / 7) words) else none) >>? λ rs. items_from area (trimmed rs)) z ∙ go b
     where
       go : (c : Bool) → ((if c then some (records_in (length words / 7) words) else none) >>? λ rs. items_from area (trimmed rs)) ≡ (if c then o else none)
@@ -91,7 +91,6 @@ module _ (area words : List ℕ) (n : ℕ) (t : Trims words n) where
 
   module _ (b : Bool) (z : b ≡ zeros (drop (7 * (length words / 7)) words)) where
     pub holds : b ≡ true → is_some (items_from area (records_in n words)) ≡ true → Holds area words n
-    unfolding if◌then◌else◌
     holds h e =
         let f = some_is (items_from area (records_in n words)) e in
         let read : items_in area words ≡ ok f.0 = read_as (some f.0) (found_as true (sym z ∙ h) (some f.0) f.1) in
@@ -103,7 +102,6 @@ module _ (area words : List ℕ) (n : ℕ) (t : Trims words n) where
         }
 
     pub holds_not : is_some (items_from area (records_in n words)) ≡ false → items_in area words ≡ refused (refuse 30 none)
-    unfolding if◌then◌else◌
     holds_not e = read_as none (found_as b (sym z) none (none_is (items_from area (records_in n words)) e) ∙ go b)
       where
         go : (c : Bool) → ◌≡◌ {A = Option (List Item)} (if c then none else none) none
@@ -111,7 +109,6 @@ module _ (area words : List ℕ) (n : ℕ) (t : Trims words n) where
         go false = refl
 
     pub checks_tail : b ≡ false → Checks area words (record { good = b; count = n })
-    unfolding if◌then◌else◌
     checks_tail h = record {
       good = λ e. absurd (false≢true (sym h ∙ e));
       bad = λ _. read_as none (found_as false (sym z ∙ h) (items_from area (records_in n words)) refl);
@@ -124,15 +121,15 @@ module _ (area words : List ℕ) (n : ℕ) (t : Trims words n) where
 
 module _ (s words : List ℕ) where
   given_fault : (sheet_fault s ≡ 0 → ⊥) → items_given s words ≡ refused (refuse (sheet_fault s) none)
-  unfolding items_given sheet_in ◌>>=◌ if◌then◌else◌
+  unfolding items_given sheet_in ◌>>=◌
   given_fault h = rw (ne_eqb (sheet_fault s) 0 h)
 
   given_short : sheet_fault s ≡ 0 → length words < 1792 → items_given s words ≡ refused (refuse 7 none)
-  unfolding items_given sheet_in slice_in room_in ◌>>=◌ if◌then◌else◌
+  unfolding items_given sheet_in slice_in room_in ◌>>=◌
   given_short e h = rw (eq-eqb (sheet_fault s) 0 e, lt-leb 1792 (length words) h)
 
   given_long : sheet_fault s ≡ 0 → 1792 ≤ length words → items_given s words ≡ items_in (sheet_area s) words
-  unfolding items_given sheet_in slice_in room_in ◌>>=◌ if◌then◌else◌
+  unfolding items_given sheet_in slice_in room_in ◌>>=◌
   given_long e h = rw (eq-eqb (sheet_fault s) 0 e, le-leb 1792 (length words) h)
 
   module _ (f : ℕ) (ef : f ≡ sheet_fault s) where
@@ -185,7 +182,6 @@ module _ (fields : ℕ) (s words : List ℕ) (x : Raw) (r : Input) (g : Gives s 
     table = g.good e
 
     pub state_bad : not b ≡ true → GivesState fields s words x 29
-    unfolding if◌then◌else◌
     state_bad h = record {
       good = λ z. absurd (omega arith);
       bad = λ _.
@@ -194,7 +190,6 @@ module _ (fields : ℕ) (s words : List ℕ) (x : Raw) (r : Input) (g : Gives s 
     }
 
     pub state_good_lem : not b ≡ false → GivesState fields s words x 0
-    unfolding if◌then◌else◌
     state_good_lem h =
         let k : state_in fields r.count x ≡ ok (from_raw x) = said ∙ rw (not-false b h) in
         let z : r.count ≡ x.count = sym (in_kept fields r.count x k).count in

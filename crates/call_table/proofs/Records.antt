@@ -11,7 +11,7 @@ use lib.Dec.{leb, eqb}
 use lib.ListN.{length, get_or, take, drop, length-drop}
 use lib.Seq.{length-take-le, take-length, drop-cons, drop-drop}
 use borrow.Author.Tests.{ne_eqb, lt-leb, le-leb, not-true, not-false}
-use Rattle.utf8.specs.Utf8.{if◌then◌else◌}
+use Rattle.std.specs.Prelude.{if◌then◌else◌}
 use Rattle.rules.specs.Base.{all, is_some, ◌>>?◌}
 use Rattle.rules.specs.Tree.{zeros}
 use Rattle.rules.specs.Split.{Item, Short, Long, ArgWord, PosWord}
@@ -69,12 +69,12 @@ module _ (a b : ℕ) (c : Bool) where
 -- ---- which records are items
 
 pub some_if : (b : Bool) (o : Option Item) → is_some (if b then o else none) ≡ (b && is_some o)
-unfolding is_some if◌then◌else◌
+unfolding is_some
 some_if true o = refl
 some_if false o = refl
 
 pub some_part : (bytes : List ℕ) (o s : ℕ) (f : List ℕ → Item) → is_some (part_in bytes o s >>? λ t. some (f t)) ≡ leb (o + s) (length bytes)
-unfolding part_in is_some ◌>>?◌ if◌then◌else◌
+unfolding part_in is_some ◌>>?◌
 some_part bytes o s f = go (leb (o + s) (length bytes))
   where
     go : (b : Bool) → is_some ((if b then some (take s (drop o bytes)) else none) >>? λ t. some (f t)) ≡ b
@@ -83,7 +83,7 @@ some_part bytes o s f = go (leb (o + s) (length bytes))
 
 some_parts : (bytes : List ℕ) (o s : ℕ) (g : List ℕ → Option Item) (b : Bool) → ((t : List ℕ) → is_some (g t) ≡ b)
     → is_some (part_in bytes o s >>? g) ≡ (leb (o + s) (length bytes) && b)
-unfolding part_in is_some ◌>>?◌ if◌then◌else◌
+unfolding part_in is_some ◌>>?◌
 some_parts bytes o s g b h = go (leb (o + s) (length bytes))
   where
     go : (c : Bool) → is_some ((if c then some (take s (drop o bytes)) else none) >>? g) ≡ (c && b)
@@ -96,31 +96,32 @@ module _ (bytes r : List ℕ) where
 
   short_some : is_some (short_from bytes (read_record r)) ≡ ((leb (get_or r 1 0) 1 && zeros (get_or r 3 0 ∷ get_or r 4 0 ∷ [])) && text)
   unfolding short_from
-  short_some = some_if _ _ ∙ rw (some_part bytes (get_or r 5 0) (get_or r 6 0) (Short (get_or r 2 0) (eqb (get_or r 1 0) 1)))
+  short_some = some_if (leb (get_or r 1 0) 1 && zeros (get_or r 3 0 ∷ get_or r 4 0 ∷ [])) _ ∙ rw (some_part bytes (get_or r 5 0) (get_or r 6 0) (Short (get_or r 2 0) (eqb (get_or r 1 0) 1)))
 
   long_some : is_some (long_from bytes (read_record r)) ≡ ((leb (get_or r 1 0) 1 && zeros (get_or r 2 0 ∷ [])) && (leb (get_or r 3 0 + get_or r 4 0) (length bytes) && text))
   unfolding long_from
-  long_some = some_if _ _
+  long_some = some_if (leb (get_or r 1 0) 1 && zeros (get_or r 2 0 ∷ [])) _
       ∙ rw (some_parts bytes (get_or r 3 0) (get_or r 4 0) _ text (λ n. some_part bytes (get_or r 5 0) (get_or r 6 0) (Long n (eqb (get_or r 1 0) 1))))
 
   word_some : (make : List ℕ → Item) → is_some (word_from make bytes (read_record r)) ≡ (zeros (get_or r 1 0 ∷ get_or r 2 0 ∷ get_or r 3 0 ∷ get_or r 4 0 ∷ []) && text)
   unfolding word_from
-  word_some make = some_if _ _ ∙ rw (some_part bytes (get_or r 5 0) (get_or r 6 0) make)
+  word_some make =
+      some_if (zeros (get_or r 1 0 ∷ get_or r 2 0 ∷ get_or r 3 0 ∷ get_or r 4 0 ∷ [])) _ ∙ rw (some_part bytes (get_or r 5 0) (get_or r 6 0) make)
 
   -- by kind
   kind_short : get_or r 0 0 ≡ 1 → is_some (item_from bytes r) ≡ is_some (short_from bytes (read_record r))
-  unfolding item_from if◌then◌else◌
+  unfolding item_from
   kind_short e = rw e
 
   kind_long : get_or r 0 0 ≡ 2 → is_some (item_from bytes r) ≡ is_some (long_from bytes (read_record r))
-  unfolding item_from if◌then◌else◌
+  unfolding item_from
   kind_long e = rw e
 
   abbrev Word : Type 0
   Word = is_some (item_from bytes r) ≡ (zeros (get_or r 1 0 ∷ get_or r 2 0 ∷ get_or r 3 0 ∷ get_or r 4 0 ∷ []) && text)
 
   kind_word : 3 ≤ get_or r 0 0 → get_or r 0 0 ≤ 5 → Word
-  unfolding item_from word_from if◌then◌else◌
+  unfolding item_from word_from
   kind_word l h = ⊎_elim
       (λ (e : 3 ≡ get_or r 0 0). rw (sym e) (word_some ArgWord))
       (λ (m : 3 < get_or r 0 0). ⊎_elim
@@ -130,7 +131,7 @@ module _ (bytes r : List ℕ) where
       (eq-or-lt_of_le l)
 
   kind_other : (get_or r 0 0 ≡ 1 → ⊥) → (get_or r 0 0 ≡ 2 → ⊥) → (3 ≤ get_or r 0 0 → get_or r 0 0 ≤ 5 → ⊥) → false ≡ is_some (item_from bytes r)
-  unfolding item_from is_some if◌then◌else◌
+  unfolding item_from is_some
   kind_other
       a
       b
@@ -147,16 +148,15 @@ module _ (bytes r : List ℕ) where
 
   -- with no room for the text there is no item
   none_here : (b : Bool) (o u : Option Item) → is_some o ≡ false → is_some u ≡ false → is_some (if b then o else u) ≡ false
-  unfolding if◌then◌else◌
   none_here true o u e f = e
   none_here false o u e f = f
 
   not_here : text ≡ false → is_some (item_from bytes r) ≡ false
   unfolding item_from is_some
   not_here e =
-      none_here _ _ _ (short_some ∙ rw (e, ← and_nothing (leb (get_or r 1 0) 1 && zeros (get_or r 3 0 ∷ get_or r 4 0 ∷ []))))
-      (none_here _ _ _ (long_some ∙ rw (e, ← and_nothing (leb (get_or r 3 0 + get_or r 4 0) (length bytes)), ← and_nothing (leb (get_or r 1 0) 1 && zeros (get_or r 2 0 ∷ []))))
-      (none_here _ _ _ (word ArgWord) (none_here _ _ _ (word rules.Word) (none_here _ _ _ (word PosWord) refl))))
+      none_here (eqb (get_or r 0 0) 1) _ _ (short_some ∙ rw (e, ← and_nothing (leb (get_or r 1 0) 1 && zeros (get_or r 3 0 ∷ get_or r 4 0 ∷ []))))
+      (none_here (eqb (get_or r 0 0) 2) _ _ (long_some ∙ rw (e, ← and_nothing (leb (get_or r 3 0 + get_or r 4 0) (length bytes)), ← and_nothing (leb (get_or r 1 0) 1 && zeros (get_or r 2 0 ∷ []))))
+      (none_here (eqb (get_or r 0 0) 3) _ _ (word ArgWord) (none_here (eqb (get_or r 0 0) 4) _ _ (word rules.Word) (none_here (eqb (get_or r 0 0) 5) _ _ (word PosWord) refl))))
     where
       word : (make : List ℕ → Item) → is_some (word_from make bytes (read_record r)) ≡ false
       word make = word_some make ∙ rw (e, ← and_nothing (zeros (get_or r 1 0 ∷ get_or r 2 0 ∷ get_or r 3 0 ∷ get_or r 4 0 ∷ [])))
@@ -194,12 +194,12 @@ record_later l n =
     rw (z, drop-drop (7 * n) 7 l)
 
 trim_zero : (n : ℕ) (l : List ℕ) → zeros (record_at l n) ≡ true → trimmed (records_in (suc n) l) ≡ trimmed (records_in n l)
-unfolding trimmed records_in if◌then◌else◌
+unfolding trimmed records_in
 trim_zero zero l h = rw h
 trim_zero (suc n) l h = rw (trim_zero n (drop 7 l) (ap zeros (record_later l n) ∙ h))
 
 trim_last : (n : ℕ) (l : List ℕ) → zeros (record_at l n) ≡ false → trimmed (records_in (suc n) l) ≡ records_in (suc n) l
-unfolding trimmed records_in if◌then◌else◌
+unfolding trimmed records_in
 trim_last zero l h = rw h
 trim_last (suc n) l h = rw (trim_last n (drop 7 l) (ap zeros (record_later l n) ∙ h))
 

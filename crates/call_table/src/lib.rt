@@ -1,5 +1,6 @@
 // The items that a lent slice holds (refusal 30), and the input that every call on items is given.
 #![tactic(auto)]
+
 ghost use Rattle.std.specs.Prelude.{◌≡◌, ◌&&◌, List, [], ◌∷◌, ℕ, ◌+◌, ◌*◌, ◌/◌, ◌≤◌, leb, length, get_or, drop};
 ghost use Rattle.rules.specs.Base.{is_some};
 ghost use Rattle.rules.specs.Tree.{zeros};

@@ -7,7 +7,6 @@ use native.Mathlib.Omega.{arith}
 use lib.ListN.{length, get_elem?, drop, length-drop}
 use lib.Seq.{drop-drop}
 use borrow.Author.Tests.{eq-eqb, ne_eqb}
-use Rattle.utf8.specs.Utf8.{if◌then◌else◌}
 use Rattle.rules.specs.Base.{◌>>?◌}
 use Rattle.rules.specs.Form.{read_form, name_bytes, area_at}
 use Rattle.rules.specs.Accept.{Accepted}
@@ -22,7 +21,7 @@ use Rattle.call_text.specs.Text.{refused_part, record_part, TellsText}
 module _ (b : List ℕ) (k : ℕ) (h : HasName b k) (x : names.Name) (e : get_elem? (read_form b).names k ≡ some (name_of x)) where
   pub other_type : (x.kind ≡ 2 → ⊥) → (r : TextPart) → r ≡ refused_part 28 0
       → (a : Accepted) → a.form ≡ read_form b → TellsText b 1 (record_text a k) (record_part b a k) r
-  unfolding record_text record_part ◌>>?◌ if◌then◌else◌
+  unfolding record_text record_part ◌>>?◌
   other_type z r q a g =
       let none_there : record_text a k ≡ none = rw (g, e, ne_eqb x.kind 2 z) refl in
       subst (λ (o : Option (List ℕ)). TellsText b 1 o (record_part b a k) r) (sym none_there) (rw (g, e, ne_eqb x.kind 2 z) refl, q)
@@ -38,7 +37,7 @@ module _ (b : List ℕ) (k : ℕ) (h : HasName b k) (x : names.Name) (e : get_el
 
     pub text_type : x.kind ≡ 2 → (a : Accepted) → a.form ≡ read_form b
         → TellsText b 1 (record_text a k) (record_part b a k) (record { number = 0; place = 0; source = 1; offset = at + x.offset; length = x.size })
-    unfolding record_text record_part name_bytes read_form ◌>>?◌ if◌then◌else◌
+    unfolding record_text record_part name_bytes read_form ◌>>?◌
     text_type z a g =
         let bytes : record_text a k ≡ some (name_bytes (read_form b).area (name_of x)) = rw (g, e, eq-eqb x.kind 2 z) refl in
         subst (λ (o : Option (List ℕ)). TellsText b 1 o (record_part b a k) (record { number = 0; place = 0; source = 1; offset = at + x.offset; length = x.size })) (sym bytes)

@@ -7,7 +7,7 @@ use native.Mathlib.Omega.{arith}
 use lib.Dec.{ltb}
 use lib.ListN.{length, get_elem?, take, drop}
 use borrow.Author.Tests.{eq-eqb, ne_eqb, lt-ltb, le-ltb}
-use Rattle.utf8.specs.Utf8.{if◌then◌else◌}
+use Rattle.std.specs.Prelude.{if◌then◌else◌}
 use Rattle.rules.specs.Base.{◌>>?◌}
 use Rattle.rules.specs.Outcome.{Outcome, ok, refused, Refusal, refuse, ◌>>=◌}
 use Rattle.rules.specs.Form.{name_count, read_form}
@@ -54,7 +54,7 @@ module _ (b s words : List ℕ) (w : ℕ) where
       → call_text b s words w ≡ refused (refusal number place)
       → call_part b s words w ≡ refused (refusal number place)
       → (x : TextPart) → x ≡ refused_part number place → PartOf b s words w x
-  unfolding text_says part_text if◌then◌else◌
+  unfolding text_says part_text
   part_refused number place z said found x e = subst (PartOf b s words w) (sym e) (record {
     text = record {
       same = said ∙ rw (ne_eqb number 0 z);
@@ -74,7 +74,7 @@ module _ (b s words : List ℕ) (w : ℕ) where
       → which ≡ (if ltb w 256 then 0 else 1)
       → TellsText l which o p x
       → PartOf b s words w x
-  unfolding asked place_of text_says part_text if◌then◌else◌
+  unfolding asked place_of text_says part_text
   part_told_lem l which none p x said found el ew t = part_refused 28 0 (λ z. omega arith) said (found ∙ ap asked t.0) x t.1
   part_told_lem l which (some t) p x said found el ew f =
       let held : source_of b s x.source ≡ l = ap (source_of b s) f.source ∙ el in
@@ -121,7 +121,7 @@ module _ (b s words : List ℕ) (w : ℕ) where
         table_stops f y = goes_on f ∙ table_refused s words (λ is. asked (f passed.0 is)) g given y
 
         pub table_refuses : (g.number ≡ 0 → ⊥) → (x : TextPart) → x ≡ refused_part g.number 0 → PartOf b s words w x
-        unfolding call_text call_part place_of if◌then◌else◌
+        unfolding call_text call_part place_of
         table_refuses y = part_refused g.number 0 y (table_stops (word_text w) y) (table_stops (word_part b s words w) y)
 
         module _ (y : g.number ≡ 0) where
@@ -145,11 +145,9 @@ module _ (b s words : List ℕ) (w : ℕ) where
           module _ (n : ℕ) (en : n ≡ w) where
             module _ (below : n < 256) where
               text_by_item : call_text b s words w ≡ asked (get_elem? is n >>? λ x. some (text_of x))
-              unfolding if◌then◌else◌
               text_by_item = text_asked ∙ rw (lt-ltb w 256 (omega arith), en)
 
               part_by_item : call_part b s words w ≡ asked (get_elem? is n >>? λ _. some (item_part s words n))
-              unfolding if◌then◌else◌
               part_by_item = part_asked ∙ rw (lt-ltb w 256 (omega arith), en)
 
               from_sheet : (o : Option (List ℕ)) (p : Option TextPart) (x : TextPart)
@@ -157,7 +155,7 @@ module _ (b s words : List ℕ) (w : ℕ) where
                   → (get_elem? is n >>? λ _. some (item_part s words n)) ≡ p
                   → TellsText s 0 o p x
                   → PartOf b s words w x
-              unfolding source_of if◌then◌else◌
+              unfolding source_of
               from_sheet o p x k q t =
                   part_told_lem s 0 o p x (text_by_item ∙ ap asked k) (part_by_item ∙ ap asked q) refl (rw (lt-ltb w 256 (omega arith))) t
 
@@ -191,7 +189,7 @@ module _ (b s words : List ℕ) (w : ℕ) where
 
             module _ (above : 256 ≤ n) where
               from_form : (x : TextPart) → TellsText b 1 (record_text passed.0 (n - 256)) (record_part b passed.0 (n - 256)) x → PartOf b s words w x
-              unfolding source_of if◌then◌else◌
+              unfolding source_of
               from_form x t =
                   part_told_lem b 1 (record_text passed.0 (n - 256)) (record_part b passed.0 (n - 256)) x
                   (text_asked ∙ rw (le-ltb w 256 (omega arith), en)) (part_asked ∙ rw (le-ltb w 256 (omega arith), en)) refl (rw (le-ltb w 256 (omega arith))) t
@@ -222,11 +220,11 @@ module _ (b s words : List ℕ) (w : ℕ) (x : TextPart) (p : PartOf b s words w
       rw (z, ef, es, ← h) p.text
 
   sheet_held : x.source ≡ 0 → source_of b s x.source ≡ s
-  unfolding source_of if◌then◌else◌
+  unfolding source_of
   sheet_held h = rw (eq-eqb x.source 0 h)
 
   form_held : (x.source ≡ 0 → ⊥) → source_of b s x.source ≡ b
-  unfolding source_of if◌then◌else◌
+  unfolding source_of
   form_held h = rw (ne_eqb x.source 0 h)
 
   pub sheet_fits : x.source ≡ 0 → from + size ≤ length s

@@ -1,5 +1,6 @@
 // The text of an answer word: a part of the sheet or of the form, handed back and not copied.
 #![tactic(auto)]
+
 ghost use Rattle.std.specs.Prelude.{◌≡◌};
 ghost use Rattle.std.proofs.Math.Option.{some};
 ghost use Rattle.rules.specs.Accept.{Accepted};

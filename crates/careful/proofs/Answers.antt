@@ -9,7 +9,7 @@ use lib.Dec.{eqb}
 use lib.ListN.{length, replicate}
 use lib.Seq.{sets}
 use borrow.Author.Tests.{eq-eqb, ne_eqb}
-use Rattle.utf8.specs.Utf8.{if◌then◌else◌}
+use Rattle.std.specs.Prelude.{if◌then◌else◌}
 use Rattle.rules.specs.Outcome.{ok, ◌>>=◌}
 use Rattle.rules.specs.Sheet.{arguments}
 use Rattle.rules.specs.Form.{read_form}
@@ -76,7 +76,7 @@ module _ (b s : List ℕ) (ni na nl : ℕ) (r : RunAnswer) (is os ls : List ℕ)
   as_ran = same_ended (sym x.number) (sym x.place) (sym x.tries) (sym x.words) refl (sym x.state) x.items x.answers x.list
 
   answer_refused : (r.number ≡ 0 → ⊥) → careful_answer (careful b s ni na nl) ≡ ended unlooked os
-  unfolding careful ◌>>=◌ if◌then◌else◌
+  unfolding careful ◌>>=◌
   answer_refused n =
       let other : eqb report.number 0 ≡ false = ne_eqb report.number 0 (λ e. n (x.number ∙ e)) in
       let done : careful b s ni na nl ≡ ok (record { report = report; letter = 0 }) = rw (x.same, other) in
@@ -101,13 +101,12 @@ module _ (b s : List ℕ) (ni na nl : ℕ) (r : RunAnswer) (is os ls : List ℕ)
             | none ↦ record { report = report; letter = 0 }
             | some i ↦ record { report = refused_word na nl report i; letter = misread_letter (letters_of (read_form b)) (arguments s) over.line.given.groups i }
           ])
-      unfolding careful look_at ◌>>=◌ if◌then◌else◌
+      unfolding careful look_at ◌>>=◌
       looked p h f e =
           let found : first_misread 0 (arguments s) over.line.given.groups ≡ f = h.same (letters_of (read_form b)) over.line.given line ∙ e in
           rw (x.same, eq-eqb report.number 0 ended_well, over.line.grouped, found, look_at)
 
       answer_clean : (p : ℕ) → Finds s is 0 count p → p ≡ count → careful_answer (careful b s ni na nl) ≡ ended unlooked os
-      unfolding if◌then◌else◌
       answer_clean p h e = ap careful_answer (looked p h none (rw (eq-eqb p count e))) ∙ as_ran
 
       module _ (p : ℕ) (h : Finds s is 0 count p) (e : p ≡ count → ⊥) where
@@ -139,7 +138,6 @@ module _ (b s : List ℕ) (ni na nl : ℕ) (r : RunAnswer) (is os ls : List ℕ)
         misread_asked codes k = record { result = over.result; accepts = over.accepts; coded = k; spot = spot; line = spot_line }
 
         found : first_misread 0 (arguments s) over.line.given.groups ≡ some p
-        unfolding if◌then◌else◌
         found = h.same (letters_of (read_form b)) over.line.given line ∙ rw (ne_eqb p count e)
 
         letter_is : (u : LetterOption) → UnknownTold b s is p u → misread_letter (letters_of (read_form b)) (arguments s) over.line.given.groups p ≡ letter_code u
@@ -151,7 +149,7 @@ module _ (b s : List ℕ) (ni na nl : ℕ) (r : RunAnswer) (is os ls : List ℕ)
 
         answer_misread : (u : LetterOption) → UnknownTold b s is p u → (k : ℕ) → k ≡ letter_code u → (a : List ℕ) → a ≡ sets os 0 (replicate (length os) 0)
             → careful_answer (careful b s ni na nl) ≡ ended (record { number = 50; place = p + 1; tries = r.tries; words = 0; letter = k; state = r.state }) a
-        unfolding careful_answer refused_word if◌then◌else◌
+        unfolding careful_answer refused_word
         answer_misread u t k d a z =
             let long : length os ≡ na = sym (ap length x.answers) ∙ answers_long in
             let cleared : padded na [] ≡ a = padded_nil na ∙ sym (z ∙ all_zero os (length os) refl ∙ ap (λ (j : ℕ). replicate j 0) long) in

@@ -1,5 +1,6 @@
 // A careful run: as the run, but an argument that looks like options is not taken for a word.
 #![tactic(auto)]
+
 ghost use Rattle.std.specs.Prelude.{◌≡◌, length};
 ghost use Rattle.std.proofs.Math.Option.{some};
 ghost use Rattle.rules_careful.specs.Careful.{careful as careful_of};

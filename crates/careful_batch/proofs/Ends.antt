@@ -1,5 +1,4 @@
 -- The first sheets that were looked at, and how the batch ends.
-use mathlib.Core.Bool.{Bool, true, false, ◌&&◌}
 use mathlib.Core.List.{List, [], ◌∷◌, ◌++◌}
 use mathlib.Core.Logic.{⊎_elim}
 use mathlib.Core.Option.{some, some-injective}
@@ -12,8 +11,8 @@ use Rattle.wire.specs.Wire.{entry_of}
 use Rattle.rules.specs.Base.{concat_map}
 use Rattle.rules.specs.Outcome.{ok}
 use Rattle.rules.specs.Run.{Report, padded}
-use Rattle.rules.specs.Batch.{sheet_count, batch_good, batch_sheets, parts_fit, sheet_record, BatchReport, batch_report, run_batch}
-use Rattle.rules.specs.BatchAnswered.{BatchMade, Roomy, slice_part, AsSingle, ZeroPast, BatchAnswered}
+use Rattle.rules.specs.Batch.{sheet_count, batch_sheets, sheet_record, BatchReport, batch_report, run_batch}
+use Rattle.rules.specs.BatchAnswered.{slice_part, AsSingle, ZeroPast, BatchAnswered}
 use Rattle.rules.specs.declared.Refused.{Refused}
 use Rattle.rules.proofs.Acceptance.{both}
 use Rattle.rules.proofs.SplitLaws.{ok_injective}
@@ -28,7 +27,7 @@ use Rattle.batch_check.proofs.Sheets.{good_batch}
 use Rattle.batch_run.specs.Sheets.{BatchFits, HoldsParts}
 use Rattle.batch_run.specs.Told.{BatchEnded, batch_answer}
 use Rattle.batch_run.proofs.Parts.{holds_none, holds_next, LengthsKept, has_sheet, record_part_lem, items_part, answers_part}
-use Rattle.careful_batch.specs.Looked.{PartRan, HasPart, LookedPart, BatchRan, HasBatch, SheetsLooked, LookedTo, LookedBatch}
+use Rattle.careful_batch.specs.Looked.{PartRan, HasPart, LookedPart, BatchRan, HasBatch, LookedTo, LookedBatch}
 
 -- ---- what the run of a batch says of its slices
 module _ (b r i a form l : List ℕ) (ran : BatchRan b r i a form l) where

@@ -9,13 +9,13 @@ use lib.Dec.{eqb, ltb, lit<}
 use lib.ListN.{length, get_or, take, drop, replicate}
 use lib.Seq.{get_or-take, get_or-drop}
 use borrow.Author.Tests.{eq-eqb, ne_eqb, ltb-true, ltb-false}
-use Rattle.utf8.specs.Utf8.{if◌then◌else◌}
+use Rattle.std.specs.Prelude.{if◌then◌else◌}
 use Rattle.rules.specs.Outcome.{ok, ◌>>=◌}
 use Rattle.rules.specs.Sheet.{sheet_area, arguments}
 use Rattle.rules.specs.Form.{read_form}
 use Rattle.rules.specs.Accept.{letters_of}
 use Rattle.rules.specs.Split.{Item, items_of}
-use Rattle.rules.specs.Run.{Report, padded, run}
+use Rattle.rules.specs.Run.{Report, padded}
 use Rattle.rules.specs.Calls.{item_from}
 use Rattle.rules_careful.specs.Careful.{first_misread, refused_word, look_at, careful}
 use Rattle.rules.proofs.Acceptance.{lookup_some}
@@ -58,7 +58,7 @@ module _ (words : List ℕ) where
 
 -- a record with no kind is no item
 no_kind : (area w : List ℕ) → get_or w 0 0 ≡ 0 → item_from area w ≡ none
-unfolding item_from if◌then◌else◌
+unfolding item_from
 no_kind area w z = rw z
 
 all_zeros : (n k : ℕ) → ◌≡◌ {A = ℕ} (get_or (replicate n 0) k 0) 0
@@ -132,7 +132,7 @@ module _ (s i form : List ℕ) (x : Report) (u : RunIs s i form x) where
         → (f : Option ℕ)
         → (if eqb p count then none else some p) ≡ f
         → careful_sheet form s ≡ ok (elim f [ none ↦ x | some j ↦ refused_word 8240 192 x j ])
-    unfolding careful_sheet careful look_at ◌>>=◌ if◌then◌else◌
+    unfolding careful_sheet careful look_at ◌>>=◌
     looked p h none e =
         let found : first_misread 0 (arguments s) accepted.given.groups ≡ none = h.same (letters_of (read_form form)) accepted.given counted_line ∙ e in
         rw (u.runs, eq-eqb x.number 0 u.fine, accepted.grouped, found, look_at)
@@ -161,11 +161,11 @@ module _ (s i : List ℕ) (count : ℕ) (c : CountsItems i count) where
 
   module _ (p : ℕ) (h : Finds s i 0 count p) where
     pub none_misread : p ≡ count → MisreadTold s i 0
-    unfolding looked_report if◌then◌else◌
+    unfolding looked_report
     none_misread e = record { same = λ form x u. looked s i form x u count c p h none (rw (eq-eqb p count e)) }
 
     pub one_misread : (p ≡ count → ⊥) → MisreadTold s i (p + 1)
-    unfolding looked_report if◌then◌else◌
+    unfolding looked_report
     one_misread e = let after : p + 1 ≡ suc p = omega arith in rw after (record {
       same = λ form x u. looked s i form x u count c p h (some p) (rw (ne_eqb p count e));
     })

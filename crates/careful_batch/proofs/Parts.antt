@@ -8,9 +8,8 @@ use lib.Dec.{eqb, lit<}
 use lib.ListN.{length, get_or, take, drop, set, replicate, length-replicate, length-append, length-drop, take-append-drop, replicate-append-replicate}
 use lib.Seq.{sets, sets-eq, set-get_or, get_or-set_other, get_or-take, get_or-drop, drop-drop, drop_at, length-take-le}
 use borrow.Author.Tests.{ne_eqb}
-use Rattle.utf8.specs.Utf8.{if◌then◌else◌}
 use Rattle.rules.specs.Outcome.{ok, ◌>>=◌}
-use Rattle.rules.specs.Run.{Report, padded, run}
+use Rattle.rules.specs.Run.{Report, padded}
 use Rattle.rules.specs.Batch.{sheet_record}
 use Rattle.rules.specs.BatchAnswered.{slice_part}
 use Rattle.rules_careful.specs.Careful.{refused_word, careful}
@@ -147,7 +146,7 @@ module _ (s : List ℕ) (k : ℕ) (r i a : List ℕ) where
     }
 
     pub refused_stays : (get_or r (4 * k) 0 ≡ 0 → ⊥) → LookedPart s k r r i a a
-    unfolding careful_sheet careful ◌>>=◌ if◌then◌else◌
+    unfolding careful_sheet careful ◌>>=◌
     refused_stays n = record {
       same = λ form x p.
           let other : eqb x.number 0 ≡ false = ne_eqb x.number 0 (λ z. n (number_is form x p ∙ z)) in

@@ -1,5 +1,6 @@
 // A careful run of a batch: the run of the batch, and then each sheet that was accepted is looked at.
 #![tactic(auto)]
+
 ghost use Rattle.std.specs.Prelude.{◌≡◌, ◌≤◌, length, replicate};
 ghost use Rattle.std.proofs.Math.Option.{some};
 ghost use Rattle.rules_careful.specs.CarefulBatch.{careful_batch};

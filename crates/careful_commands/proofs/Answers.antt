@@ -9,12 +9,12 @@ use lib.Dec.{eqb}
 use lib.ListN.{length, replicate}
 use lib.Seq.{sets}
 use borrow.Author.Tests.{eq-eqb, ne_eqb}
-use Rattle.utf8.specs.Utf8.{if◌then◌else◌}
+use Rattle.std.specs.Prelude.{if◌then◌else◌}
 use Rattle.rules.specs.Outcome.{Outcome, ok, refused, fault, ◌>>=◌}
 use Rattle.rules.specs.Sheet.{arguments}
 use Rattle.rules.specs.Accept.{Letters}
 use Rattle.rules.specs.Split.{Split}
-use Rattle.rules.specs.Run.{Report, padded}
+use Rattle.rules.specs.Run.{padded}
 use Rattle.rules.specs.Codes.{place_code}
 use Rattle.rules.specs.Calls.{to_raw}
 use Rattle.rules.specs.declared.State.{State as Raw}
@@ -26,7 +26,6 @@ use Rattle.rules_careful.proofs.LooksCommandLaws.{AcceptedTable, accepted_table,
 use Rattle.state_marks.specs.Lent.{raw_of}
 use Rattle.split_args.proofs.States.{all_zero}
 use Rattle.run.specs.Runner.{run_answer}
-use Rattle.command_layout.specs.Tables.{HasForms}
 use Rattle.command_run.specs.declared.CommandAnswer.{CommandAnswer}
 use Rattle.command_run.specs.declared.Commanded.{Commanded}
 use Rattle.command_run.specs.Commanded.{Ended, commands_answer, commanded_as}
@@ -133,7 +132,7 @@ module _
         x.items x.answers x.list
 
     answer_refused : (r.number ≡ 0 → ⊥) → careful_commands_answer (careful_commands t s ni na nl) ≡ ended unlooked os
-    unfolding careful_commands ◌>>=◌ if◌then◌else◌
+    unfolding careful_commands ◌>>=◌
     answer_refused n =
         let other : eqb report.report.number 0 ≡ false = ne_eqb report.report.number 0 (λ e. n (x.number ∙ e)) in
         let done : careful_commands t s ni na nl ≡ ok (record { report = report; letter = 0 }) = rw (x.same, other) in
@@ -164,18 +163,17 @@ module _
               | none ↦ record { report = report.report; letter = 0 }
               | some i ↦ record { report = refused_word na nl report.report i; letter = misread_letter l (arguments s) given.groups i }
             ]))
-        unfolding careful_commands look_at ◌>>=◌ if◌then◌else◌
+        unfolding careful_commands look_at ◌>>=◌
         looked p h f e =
             let found : first_misread 1 (arguments s) given.groups ≡ f = h.same l given line ∙ e in
             rw (x.same, eq-eqb report.report.number 0 ended_well, over.tabled, over.formed, over.line.grouped, found, look_at)
 
         answer_clean : (p : ℕ) → Finds s is 1 count p → p ≡ count → careful_commands_answer (careful_commands t s ni na nl) ≡ ended unlooked os
-        unfolding looked_at if◌then◌else◌
+        unfolding looked_at
         answer_clean p h e = ap careful_commands_answer (looked p h none (rw (eq-eqb p count e))) ∙ as_ran
 
         module _ (p : ℕ) (h : Finds s is 1 count p) (e : p ≡ count → ⊥) where
           found : first_misread 1 (arguments s) given.groups ≡ some p
-          unfolding if◌then◌else◌
           found = h.same l given line ∙ rw (ne_eqb p count e)
 
           abbrev place : MisreadPlace t s is p
@@ -198,7 +196,7 @@ module _
               ≡ ended
               (record { number = 50; place = p + 1; tries = r.tries; words = 0; comparisons = r.comparisons; entry = r.entry; letter = k; state = r.state })
               a
-          unfolding careful_commands_answer looked_at refused_word if◌then◌else◌
+          unfolding careful_commands_answer looked_at refused_word
           answer_misread u told k d a z =
               let (answers_long, unlisted) = accepted_filled t s ni na nl report x.same ended_well in
               let long : length os ≡ na = sym (ap length x.answers) ∙ answers_long in

@@ -1,6 +1,7 @@
 // A careful run of a table of commands: as the run, but an argument that looks like options is not taken for a word, unless it is the
 // command word.
 #![tactic(auto)]
+
 ghost use Rattle.std.specs.Prelude.{◌≡◌, length};
 ghost use Rattle.std.proofs.Math.Option.{some};
 ghost use Rattle.rules_careful.specs.CarefulCommands.{careful_commands};

@@ -11,7 +11,7 @@ use lib.ListN.{length, get_or, drop, length-drop}
 use lib.Seq.{get_or-take, get_or-drop, length-take-le}
 use native.Mathlib.Nat.{add-zero}
 use borrow.Author.Tests.{not-true, not-false, eq-eqb, ne_eqb, eqb-true, eqb-false}
-use Rattle.utf8.specs.Utf8.{if◌then◌else◌}
+use Rattle.std.specs.Prelude.{if◌then◌else◌}
 use Rattle.wire.specs.Wire.{area_start, area as wire_area}
 use Rattle.wire.specs.Laws.{good_table, start_most}
 use Rattle.rules.specs.Base.{numbers, first_fault}
@@ -52,12 +52,12 @@ looks_first (b ∷ c ∷ os) h = refl
 module _ (p : ℕ → Bool) where
   -- from k on, n places
   none_fault : (n k : ℕ) → ((i : ℕ) → k ≤ i → i < k + n → p i ≡ false) → first_fault (λ i. not (p i)) k (numbers n k) ≡ none
-  unfolding first_fault numbers if◌then◌else◌
+  unfolding first_fault numbers
   none_fault zero k h = refl
   none_fault (suc n) k h = rw (h k (omega arith) (omega arith)) (none_fault n (suc k) (λ i a b. h i (omega arith) (omega arith)))
 
   one_fault : (n k j : ℕ) → k ≤ j → j < k + n → p j ≡ true → ((i : ℕ) → k ≤ i → i < j → p i ≡ false) → first_fault (λ i. not (p i)) k (numbers n k) ≡ some j
-  unfolding first_fault numbers if◌then◌else◌
+  unfolding first_fault numbers
   one_fault zero k j a b t h = absurd (omega arith)
   one_fault (suc n) k j a b t h = go (λ e. one_fault n (suc k) j (omega arith) (omega arith) t (λ i a b. h i (omega arith) b)) (eqb k j) refl
     where
@@ -89,7 +89,7 @@ module _ (s words : List ℕ) (from count : ℕ) where
           go l x g j a b false e = let d = eqb-false j i e in c.none l x g j a (omega arith)
 
       found_here : r ≡ true → Finds s words from count i
-      unfolding first_misread if◌then◌else◌ items_of
+      unfolding first_misread items_of
       found_here e = record {
         within = omega arith;
         same = λ l x g.
@@ -100,7 +100,7 @@ module _ (s words : List ℕ) (from count : ℕ) where
       }
 
     found_none : count ≤ i → Finds s words from count count
-    unfolding first_misread if◌then◌else◌ items_of
+    unfolding first_misread items_of
     found_none h = record {
       within = omega arith;
       same = λ l x g.
@@ -151,11 +151,11 @@ kind_at_lem words i = word_at_lem words i 0 (lit< tt) ∙ ap (λ (k : ℕ). get_
 
 -- by the kind of its record
 is_the_word : (r : List ℕ) → get_or r 0 0 ≡ 4 → item_of r ≡ Word (part_at r 5)
-unfolding item_of if◌then◌else◌
+unfolding item_of
 is_the_word r e = rw (e, item_of)
 
 word_kind : (r : List ℕ) (t : Part) → item_of r ≡ Word t → get_or r 0 0 ≡ 4
-unfolding item_of if◌then◌else◌
+unfolding item_of
 word_kind r t e = go (eqb (get_or r 0 0) 4) refl
   where
     other : (a b c : Bool) → eqb (get_or r 0 0) 1 ≡ a → eqb (get_or r 0 0) 2 ≡ b → eqb (get_or r 0 0) 3 ≡ c → eqb (get_or r 0 0) 4 ≡ false → ⊥
@@ -309,7 +309,7 @@ ends_fit s words count g = omega (arith, g.line.few)
 -- the place that a search tells is one
 module _ (p : ℕ → Bool) where
   hit : (n k j : ℕ) → first_fault (λ i. not (p i)) k (numbers n k) ≡ some j → p j ≡ true
-  unfolding first_fault numbers if◌then◌else◌
+  unfolding first_fault numbers
   hit zero k j e = absurd (some≢none (sym e))
   hit (suc n) k j e = go (hit n (suc k) j) (p k) refl e
     where

@@ -1,5 +1,6 @@
 // The lowest place at which an argument that looks like options is a word.
 #![tactic(auto)]
+
 ghost use Rattle.std.specs.Prelude.{◌≡◌, ◌≤◌};
 ghost use Rattle.wire.specs.Wire.{area_start};
 ghost use Rattle.rules.specs.Sheet.{argument_count};

@@ -6,7 +6,6 @@ use mathlib.Core.Option.{some, none, some-injective, none-ne-some}
 use mathlib.Core.Path.{◌≡◌, refl, sym, ap}
 use Prim.Native.Nat.{ℕ, ◌≤◌}
 use native.Mathlib.Omega.{arith}
-use Rattle.utf8.specs.Utf8.{if◌then◌else◌}
 use Rattle.rules.specs.Base.{all}
 use Rattle.rules.specs.Outcome.{Outcome, ok, refused, fault, ◌>>=◌, Refusal, refuse}
 use Rattle.rules.specs.Accept.{Checked, Accepted, accepted, refused_at, check_form}
@@ -59,7 +58,7 @@ forms_number (c ∷ cs) x e =
 
 module _ (t : List ℕ) where
   table_number : (x : Refusal) → table_in t ≡ refused x → 1 ≤ x.number
-  unfolding table_in if◌then◌else◌
+  unfolding table_in
   table_number x e = go (offsets_good t && all entry_good (table_entries t)) refl
     where
       go : (b : Bool) → (offsets_good t && all entry_good (table_entries t)) ≡ b → 1 ≤ x.number

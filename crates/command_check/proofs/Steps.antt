@@ -12,7 +12,7 @@ use lib.Dec.{leb, eqb}
 use lib.ListN.{length, get_elem?, length-drop}
 use borrow.Author.Tests.{eq-eqb, ne_eqb, le-leb, leb-true, lt-leb, lt-ltb, le-ltb, not-true, not-false}
 use borrow.Author.Count.{below_more}
-use Rattle.utf8.specs.Utf8.{if◌then◌else◌}
+use Rattle.std.specs.Prelude.{if◌then◌else◌}
 use Rattle.wire.specs.Wire.{table_good, area_start, offset, entry_of}
 use Rattle.wire.specs.Laws.{start_most, placed, entry_length}
 use Rattle.rules.specs.Base.{all, null, concat_map, first_fault}
@@ -122,7 +122,7 @@ abbrev pub not_long : Name → Bool
 not_long x = not (eqb x.type 1)
 
 none_long : (area : List ℕ) (l : List Name) → null (concat_map (λ x. if eqb x.type 1 then name_bytes area x ∷ [] else []) l) ≡ all not_long l
-unfolding null concat_map all if◌then◌else◌
+unfolding null concat_map all
 none_long area [] = refl
 none_long area (x ∷ l) = go (eqb x.type 1) refl (none_long area l)
   where
@@ -234,11 +234,11 @@ module _ (t : List ℕ) (g : Bool) where
       g ≡ (offsets_good t && all entry_good (table_entries t))
       → not g ≡ true
       → table_told (table_forms t) (entry_at_fault t) ≡ some (record { number = 11; place = 0; entry = 0 })
-  unfolding table_told table_in entry_at_fault ◌>>=◌ if◌then◌else◌
+  unfolding table_told table_in entry_at_fault ◌>>=◌
   table_bad e h = rw (← e, not-true g h, entry_at_fault)
 
   pub has_commands : g ≡ (offsets_good t && all entry_good (table_entries t)) → not g ≡ false → HasCommands t
-  unfolding table_in if◌then◌else◌
+  unfolding table_in
   has_commands e h = record { commands = map read_command (table_entries t); reads = rw (← e, not-false g h) }
 
 -- ---- its forms
@@ -266,7 +266,7 @@ forms_refused :
     → get_elem? cs k ≡ some c
     → check_form c.form ≡ refused_at n p
     → (forms_in cs ≡ refused (refuse n p)) × (first_fault form_good i cs ≡ some (i + k))
-unfolding forms_in form_in first_fault form_good ◌>>=◌ if◌then◌else◌
+unfolding forms_in form_in first_fault form_good ◌>>=◌
 forms_refused i [] k c n p before here e = absurd (none-ne-some c here)
 forms_refused i (d ∷ cs) zero c n p before here e =
     let same = some-injective d c here in
@@ -326,7 +326,7 @@ module _ (t : List ℕ) where
 module _ (t : List ℕ) (b : Bool) (tested : b ≡ (offsets_good t && all entry_good (table_entries t))) (k : ℕ) where
   -- 11
   pub part_bad : not b ≡ true → (r : FormPart) → r ≡ record { number = 11; place = 0; offset = 0; length = 0 } → part_told (call_command_form t k) ≡ some r
-  unfolding call_command_form table_in part_told ◌>>=◌ if◌then◌else◌
+  unfolding call_command_form table_in part_told ◌>>=◌
   part_bad h r e = rw (← tested, not-true b h, e)
 
   module _ (h : not b ≡ false) where
@@ -339,7 +339,7 @@ module _ (t : List ℕ) (b : Bool) (tested : b ≡ (offsets_good t && all entry_
     -- 28
     pub part_none : (n : ℕ) → n ≡ entry_count t → n ≤ k → (r : FormPart) → r ≡ record { number = 28; place = 0; offset = 0; length = 0 }
         → part_told (call_command_form t k) ≡ some r
-    unfolding call_command_form part_told ◌>>=◌ if◌then◌else◌
+    unfolding call_command_form part_told ◌>>=◌
     part_none n c l r e =
         let count = commands_count t part_commands.commands part_commands.reads in
         rw (part_commands.reads, le-ltb k (length part_commands.commands) (omega arith), e)
@@ -388,7 +388,7 @@ module _ (t : List ℕ) (b : Bool) (tested : b ≡ (offsets_good t && all entry_
           → f ≡ entry_form_at e
           → r ≡ record { number = 0; place = 0; offset = start + at + f; length = length e - f }
           → part_told (call_command_form t k) ≡ some r
-      unfolding call_command_form form_part part_told read_command ◌>>=◌ if◌then◌else◌
+      unfolding call_command_form form_part part_told read_command ◌>>=◌
       part_there start at f e r s o i g h =
           let count = commands_count t part_commands.commands part_commands.reads in
           rw (part_commands.reads, lt-ltb k (length part_commands.commands) (omega arith), h, g, i, s, o, c, length-drop)

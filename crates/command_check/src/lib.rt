@@ -1,5 +1,6 @@
 // The test of a table of commands: its offsets and the names of all entries, then the forms, one after the other.
 #![tactic(auto)]
+
 ghost use Rattle.std.specs.Prelude.{◌≡◌, true, not, ◌&&◌, leb, length};
 ghost use Rattle.std.proofs.Math.Option.{some};
 ghost use Rattle.wire.specs.Wire.{entry_of};

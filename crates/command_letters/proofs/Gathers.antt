@@ -9,7 +9,7 @@ use lib.Dec.{eqb, ltb}
 use lib.ListN.{length, get_or, take, drop, length-append, length-drop, take-append-drop, drop_of_length-le}
 use lib.Seq.{take_at, drop_at, drop-drop, drop-cons, length-take-le}
 use borrow.Author.Tests.{eqb-true}
-use Rattle.utf8.specs.Utf8.{if◌then◌else◌}
+use Rattle.std.specs.Prelude.{if◌then◌else◌}
 use Rattle.rules.specs.Base.{contains}
 use Rattle.command_letters.specs.Gather.{put_in, put_all, HasRoom, Holds, Inserted}
 
@@ -53,7 +53,7 @@ module _ (o w o' : List ℕ) (n : ℕ) (z : Holds o w o' n) where
 
 -- ---- how many, and which
 put_least : (x : ℕ) (s : List ℕ) → length s ≤ length (put_in x s)
-unfolding put_in if◌then◌else◌
+unfolding put_in
 put_least x [] = omega arith
 put_least x (y ∷ s) = go (put_least x s) (ltb y x) (eqb y x)
   where
@@ -64,7 +64,7 @@ put_least x (y ∷ s) = go (put_least x s) (ltb y x) (eqb y x)
     go h false false = omega arith
 
 put_most : (x : ℕ) (s : List ℕ) → length (put_in x s) ≤ suc (length s)
-unfolding put_in if◌then◌else◌
+unfolding put_in
 put_most x [] = omega arith
 put_most x (y ∷ s) = go (put_most x s) (ltb y x) (eqb y x)
   where
@@ -75,7 +75,7 @@ put_most x (y ∷ s) = go (put_most x s) (ltb y x) (eqb y x)
     go h false false = omega arith
 
 pub put_contains : (x : ℕ) (s : List ℕ) (c : ℕ) → contains (put_in x s) c ≡ (eqb x c || contains s c)
-unfolding put_in contains if◌then◌else◌
+unfolding put_in contains
 put_contains x [] c = refl
 put_contains x (y ∷ s) c = go (put_contains x s c) (ltb y x) (eqb y x) refl
   where

@@ -9,7 +9,6 @@ use lib.Dec.{ltb}
 use lib.ListN.{length, get_or, take, drop, set, length-append, length-set, take-append-drop, get_or-append}
 use lib.Seq.{slice, slice_empty, slice-cons, take-suc, get_or-take, set_at, length-take-le, take-take, length-slice, append_snoc}
 use borrow.Author.Tests.{eq-eqb, ne_eqb, lt-ltb, le-ltb, ltb-true, ltb-false}
-use Rattle.utf8.specs.Utf8.{if◌then◌else◌}
 use Rattle.rules.specs.Base.{contains}
 use Rattle.split_arg.specs.Order.{Parted}
 use Rattle.command_letters.specs.Gather.{put_in, opened, HasRoom, Holds}
@@ -70,7 +69,7 @@ parted_tail x y ys p z = record {
 }
 
 pub put_there : (x : ℕ) (s : List ℕ) (p : ℕ) → Parted s x p → p < length s → get_or s p 0 ≡ x → put_in x s ≡ s
-unfolding put_in if◌then◌else◌
+unfolding put_in
 put_there x [] p z h e = absurd (omega arith)
 put_there x (y ∷ ys) zero z h e = rw (le-ltb y x (omega arith), eq-eqb y x e)
 put_there x (y ∷ ys) (suc p) z h e =
@@ -78,7 +77,7 @@ put_there x (y ∷ ys) (suc p) z h e =
 
 pub put_new :
     (x : ℕ) (s : List ℕ) (p : ℕ) → Parted s x p → (p < length s → get_or s p 0 ≡ x → ⊥) → put_in x s ≡ take p s ++ x ∷ drop p s
-unfolding put_in if◌then◌else◌
+unfolding put_in
 put_new x [] zero z n = refl
 put_new x [] (suc p) z n = absurd (omega (arith, z.within))
 put_new x (y ∷ ys) zero z n = rw (le-ltb y x (z.above 0 (omega arith) (omega arith)), ne_eqb y x (n (omega arith)))

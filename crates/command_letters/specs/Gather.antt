@@ -1,7 +1,7 @@
 -- The letters of all forms together, each once, in rising order.
 use Rattle.std.specs.Prelude.{List, [], ◌∷◌, ◌++◌, ◌≡◌, ℕ, suc, ◌+◌, ◌≤◌, eqb, ltb, length, take, drop}
 use Rattle.std.proofs.Math.Seq.{slice}
-use Rattle.utf8.specs.Utf8.{if◌then◌else◌}
+use Rattle.std.specs.Prelude.{if◌then◌else◌}
 use Rattle.rules.specs.Outcome.{ok}
 use Rattle.rules.specs.Form.{read_form}
 use Rattle.rules.specs.Commands.{Command, table_in}

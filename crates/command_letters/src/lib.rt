@@ -1,5 +1,6 @@
 // From a table of commands and a checked sheet to items: the letters that are looked up are those of all forms together.
 #![tactic(auto)]
+
 ghost use Rattle.std.specs.Prelude.{◌≡◌, List, ◌*◌, ◌≤◌, ◌<◌, length, take, replicate};
 ghost use Rattle.rules.specs.Outcome.{ok};
 ghost use Rattle.rules.specs.Form.{read_form};

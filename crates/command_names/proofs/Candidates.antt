@@ -7,7 +7,7 @@ use Prim.Native.Nat.{ℕ, suc, ◌<◌}
 use lib.Dec.{eqb}
 use lib.ListN.{length, take, drop, get_elem?}
 use borrow.Author.Tests.{eq-eqb, ne_eqb}
-use Rattle.utf8.specs.Utf8.{if◌then◌else◌}
+use Rattle.std.specs.Prelude.{if◌then◌else◌}
 use Rattle.rules.specs.Base.{concat_map}
 use Rattle.rules.specs.Form.{Name, name_bytes}
 use Rattle.rules.specs.Commands.{Command, of_type, tried_names, Candidate, candidates_of, candidates_from}
@@ -25,7 +25,6 @@ module _ (t number : ℕ) (area : List ℕ) where
   one x = if eqb x.type t then candidate number (name_bytes area x) ∷ [] else []
 
   name_is : (x : Name) → map (candidate number) (named x) ≡ one x
-  unfolding if◌then◌else◌
   name_is x = go (eqb x.type t)
     where
       go : (b : Bool) → map (candidate number) (if b then name_bytes area x ∷ [] else []) ≡ (if b then candidate number (name_bytes area x) ∷ [] else [])
@@ -44,11 +43,9 @@ module _ (t number : ℕ) (area : List ℕ) where
     name_there = rw (drop_below l k x here) (append-nil (one x))
 
     pub name_of_type : x.type ≡ t → type_candidates t number area (take 1 (drop k l)) ≡ candidate number (name_bytes area x) ∷ []
-    unfolding if◌then◌else◌
     name_of_type e = name_there ∙ rw (eq-eqb x.type t e)
 
     pub name_of_other : (x.type ≡ t → ⊥) → type_candidates t number area (take 1 (drop k l)) ≡ []
-    unfolding if◌then◌else◌
     name_of_other e = name_there ∙ rw (ne_eqb x.type t e)
 
     -- and those behind it

@@ -19,7 +19,8 @@ use Rattle.rules.specs.Sheet.{sheet_area, sheet_fault}
 use Rattle.rules.specs.Split.{Item}
 use Rattle.rules.specs.State.{command_mark}
 use Rattle.rules.specs.Take.{took, take_cmd}
-use Rattle.rules.specs.Commands.{Command, entry_count, entry_names, entry_good, read_command, command_name_good, table_entries, table_in, Candidate, candidates_of, candidates_from, try_names}
+use Rattle.rules.specs.Commands.{Command, entry_count, entry_names, entry_good, read_command, command_name_good, table_entries, table_in, Candidate, candidates_of, candidates_from}
+use Rattle.rules.specs.Commands.{try_names}
 use Rattle.rules.proofs.Acceptance.{and-true, all_true, All-at}
 use Rattle.rules.proofs.CodeLaws.{place_next}
 use Rattle.rules.proofs.SplitLaws.{ok_injective}

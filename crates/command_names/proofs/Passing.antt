@@ -6,7 +6,6 @@ use mathlib.Core.Path.{◌≡◌, refl, sym, ap, ◌∙◌}
 use Prim.Native.Nat.{ℕ, suc, ◌+◌, ◌-◌, ◌≤◌}
 use native.Mathlib.Nat.{zero-add}
 use native.Mathlib.Omega.{arith}
-use Rattle.utf8.specs.Utf8.{if◌then◌else◌}
 use Rattle.rules.specs.Outcome.{ok, ◌>>=◌}
 use Rattle.rules.specs.Codes.{place_of}
 use Rattle.rules.specs.Split.{Item}
@@ -25,11 +24,11 @@ use Rattle.command_names.specs.Trying.{none_taken, tried_behind, then_tries, Tri
 module _ (is : List Item) (n : ℕ) (c : Candidate) (rest : List Candidate) (s t : State) where
   pub try_taken : take_cmd command_mark is c.word s ≡ took true t
       → try_names is n (c ∷ rest) s ≡ ok (record { entry = some c.entry; comparisons = suc n; state = t })
-  unfolding try_names took if◌then◌else◌ ◌>>=◌
+  unfolding try_names took ◌>>=◌
   try_taken e = rw e
 
   pub try_passed : take_cmd command_mark is c.word s ≡ took false t → try_names is n (c ∷ rest) s ≡ try_names is (suc n) rest t
-  unfolding try_names took if◌then◌else◌ ◌>>=◌
+  unfolding try_names took ◌>>=◌
   try_passed e = rw e
 
 -- ---- what follows

@@ -1,7 +1,7 @@
 -- What trying names asks for, and what it answers, in the rules' words.
 use Rattle.std.specs.Prelude.{true, List, [], ◌∷◌, ◌++◌, ◌≡◌, ℕ, ◌+◌, ◌≤◌, ◌<◌, eqb}
 use Rattle.std.proofs.Math.Option.{some, none}
-use Rattle.utf8.specs.Utf8.{if◌then◌else◌}
+use Rattle.std.specs.Prelude.{if◌then◌else◌}
 use Rattle.rules.specs.Base.{concat_map}
 use Rattle.rules.specs.Outcome.{Outcome, ok}
 use Rattle.rules.specs.Codes.{place_of}

@@ -1,6 +1,7 @@
 // The names of a table are tried in order: entry by entry, in each the long names before the short ones. The first that is taken
 // ends it.
 #![tactic(auto)]
+
 ghost use Rattle.std.specs.Prelude.{◌≡◌, List, ◌+◌, ◌<◌, take, drop};
 ghost use Rattle.rules.specs.Outcome.{ok};
 ghost use Rattle.rules.specs.Sheet.{sheet_area, sheet_fault};

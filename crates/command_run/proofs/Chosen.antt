@@ -1,6 +1,6 @@
 -- The form that a line chooses: its place in the table, and the state that it runs on.
 use mathlib.Core.List.{List}
-use mathlib.Core.Option.{Option, some, none, some-injective}
+use mathlib.Core.Option.{some, some-injective}
 use mathlib.Core.Path.{◌≡◌, sym, ap, subst, ◌∙◌}
 use Prim.Native.Nat.{ℕ, ◌+◌, ◌<◌}
 use native.Mathlib.Omega.{arith}

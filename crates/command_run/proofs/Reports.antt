@@ -7,7 +7,6 @@ use native.Mathlib.Omega.{arith}
 use lib.ListN.{length, get_or, get_elem?, replicate, length-replicate}
 use lib.Seq.{sets}
 use borrow.Author.Tests.{eq-eqb, ne_eqb, le-leb, lt-leb}
-use Rattle.utf8.specs.Utf8.{if◌then◌else◌}
 use Rattle.rules.specs.Outcome.{Outcome, ok, refused, fault, ◌>>=◌, Refusal, refuse}
 use Rattle.rules.specs.Codes.{place_code, place_of}
 use Rattle.rules.specs.Sheet.{sheet_area, sheet_fault}
@@ -63,7 +62,7 @@ module _ (n e : ℕ) (k : Option ℕ) (r : Reached) (m i a l : List ℕ) (d : Do
 module _ (t s : List ℕ) (ni na nl : ℕ) where
   -- 6 and 5, 7, 14
   tests_bad : HasForms t → (n : ℕ) → LineFault s ni na nl n → commands_in t s ni na nl ≡ refused (refuse n none)
-  unfolding commands_in sheet_in room_in list_room_in ◌>>=◌ if◌then◌else◌
+  unfolding commands_in sheet_in room_in list_room_in ◌>>=◌
   tests_bad h n (sheet x) = rw (h.reads, h.accepts, ne_eqb (sheet_fault s) 0 x)
   tests_bad h n (items c x) = rw (h.reads, h.accepts, eq-eqb (sheet_fault s) 0 c, lt-leb 1792 ni x)
   tests_bad h n (answers c i x) = rw (h.reads, h.accepts, eq-eqb (sheet_fault s) 0 c, le-leb 1792 ni i, lt-leb 8240 na x)

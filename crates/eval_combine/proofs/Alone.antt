@@ -6,7 +6,7 @@ use mathlib.Core.Path.{◌≡◌, refl, sym, ap, subst, ◌∙◌}
 use Prim.Native.Nat.{ℕ, ◌+◌}
 use native.Mathlib.Omega.{arith}
 use lib.Dec.{eqb}
-use Rattle.utf8.specs.Utf8.{if◌then◌else◌}
+use Rattle.std.specs.Prelude.{if◌then◌else◌}
 use Rattle.rules.specs.Base.{contains}
 use Rattle.rules.specs.Outcome.{refuse, wrong_input, combine_with}
 use Rattle.rules.specs.declared.Refused.{Refused}
@@ -25,7 +25,7 @@ abbrev missing : Refused
 missing = record { number = 20; place = 0 }
 
 not_wrong : (g l : ℕ) (k : Pick) → k ≡ (if eqb g l && wrong_input (refuse 20 none) then Neither missing else k)
-unfolding wrong_input contains if◌then◌else◌
+unfolding wrong_input contains
 not_wrong g l k = go (eqb g l)
   where
     go : (b : Bool) → k ≡ (if b && wrong_input (refuse 20 none) then Neither missing else k)

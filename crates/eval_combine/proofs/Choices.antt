@@ -2,14 +2,14 @@
 use mathlib.Core.Bool.{Bool, true, false, ◌&&◌, false≢true}
 use mathlib.Core.List.{List, [], ◌∷◌, ◌++◌}
 use mathlib.Core.Logic.{◌⊎◌, ⊎_elim}
-use mathlib.Core.Option.{Option, some, none, none-ne-some}
+use mathlib.Core.Option.{some, none, none-ne-some}
 use mathlib.Core.Path.{◌≡◌, refl, sym, ap, ap₂, ◌∙◌}
 use Prim.Native.Nat.{ℕ, zero, suc, ◌+◌, ◌-◌, ◌≤◌, ◌<◌}
 use native.Mathlib.Omega.{arith}
 use lib.Dec.{eqb}
 use lib.ListN.{length, take, drop, length-take}
 use borrow.Author.Tests.{eq-eqb, ne_eqb, eqb-true, eqb-false}
-use Rattle.utf8.specs.Utf8.{if◌then◌else◌}
+use Rattle.std.specs.Prelude.{if◌then◌else◌}
 use Rattle.rules.specs.Outcome.{Outcome, ok, refused, fault, at, or_else305, or_else307, Refusal, is_missing, can_catch, wrong_input, combine_with}
 use Rattle.rules.specs.Calls.{from_raw}
 use Rattle.rules.specs.Value.{Value, absent, words}
@@ -39,7 +39,7 @@ use Rattle.eval_combine.proofs.Tells.{run_of, told_same, value_told, refusal_tol
 -- ---- the winner's marks
 module _ (place n : ℕ) (m l : List ℕ) where
   pub marks_kept : place ≡ 0 → m ≡ won_marks place n m l
-  unfolding won_marks if◌then◌else◌
+  unfolding won_marks
   marks_kept z = rw (eq-eqb place 0 z)
 
   pub marks_saved :
@@ -50,12 +50,12 @@ module _ (place n : ℕ) (m l : List ℕ) where
       → (m' : List ℕ)
       → m' ≡ conflicts (w - 1) (take k m) (take k l) ++ drop k m
       → m' ≡ won_marks place n m l
-  unfolding won_marks if◌then◌else◌
+  unfolding won_marks
   marks_saved z k w a b m' e = rw (e, a, b, ne_eqb place 0 z)
 
 module _ (m l : List ℕ) (p q : Numbers) (place : ℕ) (f : Fine m p) (e : q.count ≡ p.count) where
   won_is : won (state_of m p) (state_of l q) (place_of place) ≡ state_of (won_marks place p.count m l) p
-  unfolding won place_of won_marks if◌then◌else◌
+  unfolding won place_of won_marks
   won_is = go (eqb place 0) refl
     where
       go :
@@ -67,7 +67,7 @@ module _ (m l : List ℕ) (p q : Numbers) (place : ℕ) (f : Fine m p) (e : q.co
       go false t = rw (place_some place (eqb-false place 0 t)) (marked_is m l p q (place - 1) f e)
 
   won_long : length (won_marks place p.count m l) ≡ length m
-  unfolding won_marks if◌then◌else◌
+  unfolding won_marks
   won_long = go (eqb place 0)
     where
       go : (b : Bool) → length (if b then m else conflicts (place - 1) (take p.count m) (take p.count l) ++ drop p.count m) ≡ length m
@@ -75,7 +75,7 @@ module _ (m l : List ℕ) (p q : Numbers) (place : ℕ) (f : Fine m p) (e : q.co
       go false = marked_whole m l p q (place - 1) f e
 
   won_fine : place ≤ p.count → Fine (won_marks place p.count m l) p
-  unfolding won_marks if◌then◌else◌
+  unfolding won_marks
   won_fine h = go (eqb place 0) refl
     where
       go : (b : Bool) → eqb place 0 ≡ b → Fine (if b then m else conflicts (place - 1) (take p.count m) (take p.count l) ++ drop p.count m) p
@@ -149,7 +149,7 @@ forgot_refused (fault x) c e = absurd (let z : ◌≡◌ {A = ℕ} 0 1 = cc in o
 
 -- a refused side does not win
 refused_first : (e : Refusal) (u : Outcome Value) (s a b : State) (k : Picked) → picks_first s a b (refused e) u ≡ ok k → k.first ≡ true → ⊥
-unfolding picks_first side if◌then◌else◌
+unfolding picks_first side
 refused_first e (ok w) s a b k h t = go (eqb s.remaining b.remaining && wrong_input e) h
   where
     go : (x : Bool) → (if x then refused e else ok (record { first = false; place = none })) ≡ ok k → ⊥
@@ -159,7 +159,7 @@ refused_first e (refused f) s a b k h t = let z : ◌≡◌ {A = ℕ} 0 1 = cc i
 refused_first e (fault f) s a b k h t = let z : ◌≡◌ {A = ℕ} 0 1 = cc in omega arith
 
 refused_second : (o : Outcome Value) (f : Refusal) (s a b : State) (k : Picked) → picks_first s a b o (refused f) ≡ ok k → k.first ≡ false → ⊥
-unfolding picks_first side if◌then◌else◌
+unfolding picks_first side
 refused_second (ok v) f s a b k h t = go (eqb s.remaining a.remaining && wrong_input f) h
   where
     go : (x : Bool) → (if x then refused f else ok (record { first = true; place = none })) ≡ ok k → ⊥
@@ -178,9 +178,12 @@ combine_numbered e f i j =
 
 picks_numbered : (o u : Outcome Value) (s a b : State) → Numbered o → Numbered u → Numbered (picks_first s a b o u)
 unfolding picks_first side
-picks_numbered (ok v) (ok w) s a b i j = if_elim (λ (o : Outcome Picked). Numbered o) _ _ _ (λ _. tt) (λ _. tt)
-picks_numbered (ok v) (refused f) s a b i j = if_elim (λ (o : Outcome Picked). Numbered o) _ _ _ (λ _. j) (λ _. tt)
-picks_numbered (refused e) (ok w) s a b i j = if_elim (λ (o : Outcome Picked). Numbered o) _ _ _ (λ _. i) (λ _. tt)
+picks_numbered (ok v) (ok w) s a b i j =
+    if_elim (λ (o : Outcome Picked). Numbered o) (eqb s.remaining a.remaining && eqb s.remaining b.remaining) (side true none) (ok (pick_winner a b)) (λ _. tt) (λ _. tt)
+picks_numbered (ok v) (refused f) s a b i j =
+    if_elim (λ (o : Outcome Picked). Numbered o) (eqb s.remaining a.remaining && wrong_input f) (refused f) (side true none) (λ _. j) (λ _. tt)
+picks_numbered (refused e) (ok w) s a b i j =
+    if_elim (λ (o : Outcome Picked). Numbered o) (eqb s.remaining b.remaining && wrong_input e) (refused e) (side false none) (λ _. i) (λ _. tt)
 picks_numbered (refused e) (refused f) s a b i j = combine_numbered e f i j
 picks_numbered (fault x) u s a b i j = tt
 picks_numbered (ok v) (fault x) s a b i j = tt
@@ -191,7 +194,7 @@ ended_by : Refused → Outcome Value
 ended_by x = if eqb x.number 0 then ok absent else refused (refusal_of x)
 
 ended_by_lem : (x : Refused) → EndedBy (ended_by x) x × Numbered (ended_by x)
-unfolding ended_by refusal_of if◌then◌else◌
+unfolding ended_by refusal_of
 ended_by_lem x = go (eqb x.number 0) refl
   where
     go : (b : Bool) → eqb x.number 0 ≡ b
@@ -241,14 +244,14 @@ module _ (s : State) (A B : Run Value) where
   module _ (k : Picked) (h : picks ≡ ok k) where
     by_first : k.first ≡ true → told (after A (after B (chosen s A B)))
         ≡ told (after A (after B (ended (at or_else305 (value_of A.outcome)) (won A.state B.state k.place))))
-    unfolding by if◌then◌else◌
+    unfolding by
     by_first t = by_picked h ∙ ap (λ (u : Bool). told (after A (after B (if u
         then ended (at or_else305 (value_of A.outcome)) (won A.state B.state k.place)
         else ended (at or_else307 (value_of B.outcome)) (won B.state A.state k.place))))) t
 
     by_second : k.first ≡ false → told (after A (after B (chosen s A B)))
         ≡ told (after A (after B (ended (at or_else307 (value_of B.outcome)) (won B.state A.state k.place))))
-    unfolding by if◌then◌else◌
+    unfolding by
     by_second t = by_picked h ∙ ap (λ (u : Bool). told (after A (after B (if u
         then ended (at or_else305 (value_of A.outcome)) (won A.state B.state k.place)
         else ended (at or_else307 (value_of B.outcome)) (won B.state A.state k.place))))) t
@@ -369,7 +372,7 @@ module _ (before : List ℕ) (p : Numbers) (first : List ℕ) (x : Ran) (m : Lis
   module _ (place : ℕ) (within : place ≤ p.count) where
     made_first : Pick·is true place
         → ChoiceOf before p first x m y (won_marks place p.count first m) (record { ran = won_of both x; first = true })
-    unfolding choice_words if◌then◌else◌
+    unfolding choice_words
     made_first e = record {
       same = λ A B a b i j ha hb.
           tells_first A B a b i j ha hb place (e A.state B.state (left_first A B a b i j ha hb) (left_second A B a b i j ha hb));
@@ -381,7 +384,7 @@ module _ (before : List ℕ) (p : Numbers) (first : List ℕ) (x : Ran) (m : Lis
 
     made_second : Pick·is false place
         → ChoiceOf before p first x m y (won_marks place p.count m first) (record { ran = won_of both y; first = false })
-    unfolding choice_words if◌then◌else◌
+    unfolding choice_words
     made_second e = record {
       same = λ A B a b i j ha hb.
           tells_second A B a b i j ha hb place (e A.state B.state (left_first A B a b i j ha hb) (left_second A B a b i j ha hb));
@@ -393,11 +396,11 @@ module _ (before : List ℕ) (p : Numbers) (first : List ℕ) (x : Ran) (m : Lis
 
   module _ (r : Ran) where
     pub choice_first : k ≡ First → r ≡ won_of both x → ChoiceOf before p first x m y first (record { ran = r; first = true })
-    unfolding pick_by side place_of won_marks if◌then◌else◌
+    unfolding pick_by side place_of won_marks
     choice_first e w = rw w (made_first 0 (omega arith) (λ t t' _ _. rw e))
 
     pub choice_second : k ≡ Second → r ≡ won_of both y → ChoiceOf before p first x m y m (record { ran = r; first = false })
-    unfolding pick_by side place_of won_marks if◌then◌else◌
+    unfolding pick_by side place_of won_marks
     choice_second e w = rw w (made_second 0 (omega arith) (λ t t' _ _. rw e))
 
     pub choice_neither :
@@ -405,7 +408,7 @@ module _ (before : List ℕ) (p : Numbers) (first : List ℕ) (x : Ran) (m : Lis
         → k ≡ Neither c
         → r ≡ refusal_ran c.number c.place both p
         → ChoiceOf before p first x m y before (record { ran = r; first = false })
-    unfolding pick_by choice_words if◌then◌else◌
+    unfolding pick_by choice_words
     choice_neither c e w =
         let z : c.number ≡ 0 → ⊥ = neither_numbered u v _ _ _ c (rw e at d) in
         rw w (record {

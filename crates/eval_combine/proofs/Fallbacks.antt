@@ -7,7 +7,7 @@ use Prim.Native.Nat.{ℕ}
 use native.Mathlib.Omega.{arith}
 use lib.Dec.{eqb}
 use borrow.Author.Tests.{eq-eqb, eqb-true}
-use Rattle.utf8.specs.Utf8.{if◌then◌else◌}
+use Rattle.std.specs.Prelude.{if◌then◌else◌}
 use Rattle.rules.specs.Outcome.{Outcome, ok, refused, fault, Refusal, refuse, can_catch}
 use Rattle.rules.specs.Value.{BaseValue, Value, word, words}
 use Rattle.rules.specs.State.{State}
@@ -27,7 +27,7 @@ use Rattle.eval_combine.proofs.Tells.{run_of, told_same, value_told, refusal_tol
 
 -- ---- the number, by what was decided
 child_number : (number : ℕ) → Child ≡ fallback_way number → number ≡ 0
-unfolding fallback_way if◌then◌else◌
+unfolding fallback_way
 child_number number h = go (eqb number 0) refl
   where
     other : (b : Bool) → Child ≡ (if b then Own else Passed) → ⊥
@@ -39,7 +39,7 @@ child_number number h = go (eqb number 0) refl
     go false t = absurd (other (can_catch (refuse number none)) (rw t at h))
 
 value_way : (number : ℕ) → number ≡ 0 → fallback_way number ≡ Child
-unfolding fallback_way if◌then◌else◌
+unfolding fallback_way
 value_way number z = rw (eq-eqb number 0 z)
 
 -- ---- what is told
@@ -78,7 +78,7 @@ module _ (v : BaseValue) (before : List ℕ) (p : Numbers) (ran : Ran) (m : List
           ∙ ap (λ (y : Fallback). fallback_by y v s (run_of (refused e) t n l)) (rw x.number (sym q))
 
       own_same : Own ≡ fallback_way ran.number → told (eval_fallback v s (run_of (refused e) t n l)) ≡ some (answered (value_ran ran.tries 1 (word v) p) before)
-      unfolding told fallback_by after ended words scalar_words if◌then◌else◌
+      unfolding told fallback_by after ended words scalar_words
       own_same q =
           let x = refusal_told ran m w t n l e h in
           ap told (by_way q) ∙ told_same refl refl (omega (arith, x.tries)) refl refl
@@ -87,7 +87,7 @@ module _ (v : BaseValue) (before : List ℕ) (p : Numbers) (ran : Ran) (m : List
           Passed ≡ fallback_way ran.number
           → told (eval_fallback v s (run_of (refused e) t n l))
           ≡ some (answered (refusal_ran ran.number ran.place ran.tries p) before)
-      unfolding told fallback_by after ended scalar_words if◌then◌else◌
+      unfolding told fallback_by after ended scalar_words
       passed_same q =
           let x = refusal_told ran m w t n l e h in
           ap told (by_way q) ∙ told_same x.number x.place (omega (arith, x.tries)) refl refl

@@ -7,7 +7,7 @@ use Prim.Native.Nat.{ℕ, ◌+◌}
 use native.Mathlib.Omega.{arith}
 use lib.Dec.{eqb}
 use borrow.Author.Tests.{eq-eqb, ne_eqb}
-use Rattle.utf8.specs.Utf8.{if◌then◌else◌}
+use Rattle.std.specs.Prelude.{if◌then◌else◌}
 use Rattle.rules.specs.Outcome.{Outcome, ok, refused, fault, refuse}
 use Rattle.rules.specs.Codes.{place_code}
 use Rattle.rules.specs.Calls.{from_raw}
@@ -26,7 +26,7 @@ use Rattle.eval_combine.proofs.Tells.{run_of, told_same, value_told, refusal_tol
 
 -- one word is the word of a value that is no list
 one_word : (k len w : ℕ) → k ∷ [] ≡ scalar_words len w → k ≡ w
-unfolding scalar_words if◌then◌else◌
+unfolding scalar_words
 one_word k len w = go (eqb len 0) (eqb len 1)
   where
     go : (a b : Bool) → k ∷ [] ≡ (if a then [] else (if b then w ∷ [] else 1 ∷ w ∷ [])) → k ≡ w
@@ -72,7 +72,7 @@ module _ (lo hi : ℕ) (ran : Ran) where
           ap (λ (x : Outcome Value). told (run_of x t (n + 0) l)) (d ∙ e)
 
       within_same : g ≡ 0 → told (eval_guard lo hi (run_of (ok (base (is_number k))) t n l)) ≡ some (answered ran m)
-      unfolding told guard_by if◌then◌else◌
+      unfolding told guard_by
       within_same e =
           let x = value_told ran m words_of t n l (base (is_number k)) h in
           by_number {o = ok (base (is_number k))} (rw (eq-eqb g 0 e))
@@ -82,7 +82,7 @@ module _ (lo hi : ℕ) (ran : Ran) where
           (g ≡ 0 → ⊥)
           → told (eval_guard lo hi (run_of (ok (base (is_number k))) t n l))
           ≡ some (answered (refusal_ran g ran.numbers.current ran.tries ran.numbers) m)
-      unfolding told guard_by scalar_words if◌then◌else◌
+      unfolding told guard_by scalar_words
       failed_same f =
           let x = value_told ran m words_of t n l (base (is_number k)) h in
           let c : place_code t.current ≡ ran.numbers.current = rw x.state (current_place m ran.numbers) in

@@ -10,7 +10,7 @@ use lib.Dec.{eqb}
 use borrow.Author.Tests.{eq-eqb, ne_eqb, eqb-true}
 use types.Run.{OneOf}
 use denote.Enum.Declared.{tag_of}
-use Rattle.utf8.specs.Utf8.{if◌then◌else◌}
+use Rattle.std.specs.Prelude.{if◌then◌else◌}
 use Rattle.rules.specs.Outcome.{Outcome, ok, refused, fault, Refusal, refuse}
 use Rattle.rules.specs.Value.{Value, absent, present, words}
 use Rattle.rules.specs.Calls.{from_raw}
@@ -40,7 +40,7 @@ module _ (number given left : ℕ) (catch : Bool) (len : Option ℕ) where
   refusing PassedOn = Unit {0}
 
   refusing_number : refusing (option_way number catch given left len) → number ≡ 0 → ⊥
-  unfolding option_way refusing if◌then◌else◌
+  unfolding option_way refusing
   refusing_number h z = go (fewer left len) (rw (eq-eqb number 0 z) at h)
     where
       go : (b : Bool) → refusing (if b then Counted else Uncounted) → ⊥
@@ -48,7 +48,7 @@ module _ (number given left : ℕ) (catch : Bool) (len : Option ℕ) where
       go false k = k
 
   way_value : (k : Counting) → k ≡ option_way number catch given left len → OneOf (0 ∷ 1 ∷ []) (tag_of T.the_type k) → number ≡ 0
-  unfolding option_way if◌then◌else◌
+  unfolding option_way
   way_value k e o = go (eqb number 0) refl
     where
       tags : (j : Counting) (b : Bool) → j ≡ (if b then Absent else PassedOn) → OneOf (0 ∷ 1 ∷ []) (tag_of T.the_type j) → ⊥
@@ -83,7 +83,7 @@ module _ (catch : Bool) (before : List ℕ) (p : Numbers) (ran : Ran) (m : List 
       → (len word : ℕ)
       → told (eval_optional catch s (run_of o t n l))
       ≡ some (told_with (value_ran ran.tries len word ran.numbers) m (optional_words 0 true w))
-  unfolding told eval_optional parse_option after ended ◌then◌ fewer optional_words words if◌then◌else◌
+  unfolding told eval_optional parse_option after ended ◌then◌ fewer optional_words words
   value_same z (ok v) t n l w i h len word =
       let x = value_told ran m w t n l v h in
       told_same refl refl (omega (arith, x.tries)) (ap (λ (k : List ℕ). 1 ∷ k) x.words) x.state
@@ -114,7 +114,7 @@ module _ (catch : Bool) (before : List ℕ) (p : Numbers) (ran : Ran) (m : List 
           k ≡ Absent
           → told (eval_optional catch s (run_of (refused e) t n l))
           ≡ some (told_with (value_ran ran.tries 1 0 p) before (optional_words 0 false w))
-      unfolding told eval_optional option_by after ended ◌then◌ hand optional_words words if◌then◌else◌
+      unfolding told eval_optional option_by after ended ◌then◌ hand optional_words words
       absent_same a =
           let x = refusal_told ran m w t n l e h in
           ap (λ (u : Run (Option Value)). told (u then hand)) (by_way a)
@@ -126,7 +126,7 @@ module _ (catch : Bool) (before : List ℕ) (p : Numbers) (ran : Ran) (m : List 
           → told (eval_optional catch s (run_of (refused e) t n l))
           ≡ some (told_with (refusal_ran ran.number ran.place ran.tries ran.numbers) m
           (optional_words ran.number false w))
-      unfolding told eval_optional option_by some_of after ended ◌then◌ hand optional_words if◌then◌else◌
+      unfolding told eval_optional option_by some_of after ended ◌then◌ hand optional_words
       passed_same a z =
           let x = refusal_told ran m w t n l e h in
           ap (λ (u : Run (Option Value)). told (u then hand)) (by_way a)

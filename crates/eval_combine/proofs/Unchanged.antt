@@ -8,7 +8,6 @@ use native.Mathlib.Omega.{arith}
 use borrow.Author.Tests.{eq-eqb, ne_eqb}
 use types.Run.{OneOf}
 use denote.Enum.Declared.{tag_of}
-use Rattle.utf8.specs.Utf8.{if◌then◌else◌}
 use Rattle.rules.specs.Outcome.{combine_with}
 use Rattle.rules.specs.declared.Refused.{Refused}
 use Rattle.eval_error.specs.Refusals as error
@@ -71,21 +70,21 @@ missing = record { number = 20; place = 0 }
 
 module _ (p : Numbers) (ran : Ran) (r : Ran) where
   pub made_first : ran.number ≡ 0 → r ≡ won_of (ran.tries + 1) ran → ◌≡◌ {A = Chosen} (record { ran = r; first = true }) (first_made p ran)
-  unfolding first_made side_made if◌then◌else◌
+  unfolding first_made side_made
   made_first z w = rw (eq-eqb ran.number 0 z, w)
 
   pub made_second : ran.number ≡ 0 → r ≡ won_of (ran.tries + 1) ran → ◌≡◌ {A = Chosen} (record { ran = r; first = false }) (second_made p ran)
-  unfolding second_made side_made if◌then◌else◌
+  unfolding second_made side_made
   made_second z w = rw (eq-eqb ran.number 0 z, w)
 
   module _ (z : ran.number ≡ 0 → ⊥) (u : Refused) (eu : u ≡ ended_of ran) (c : Refused)
       (w : r ≡ refusal_ran c.number c.place (ran.tries + 1) p) where
     pub made_first_refused : c ≡ error.refused_of (combine_with (error.refusal_of u) (error.refusal_of missing))
         → ◌≡◌ {A = Chosen} (record { ran = r; first = false }) (first_made p ran)
-    unfolding first_made side_made combined if◌then◌else◌
+    unfolding first_made side_made combined
     made_first_refused h = rw (ne_eqb ran.number 0 z, w, h, eu)
 
     pub made_second_refused : c ≡ error.refused_of (combine_with (error.refusal_of missing) (error.refusal_of u))
         → ◌≡◌ {A = Chosen} (record { ran = r; first = false }) (second_made p ran)
-    unfolding second_made side_made combined if◌then◌else◌
+    unfolding second_made side_made combined
     made_second_refused h = rw (ne_eqb ran.number 0 z, w, h, eu)

@@ -8,14 +8,15 @@ use native.Mathlib.Omega.{arith}
 use lib.Dec.{leb, eqb}
 use lib.ListN.{length, take, get_elem?}
 use borrow.Author.Tests.{eqb-true, eqb-false, leb-true}
-use Rattle.utf8.specs.Utf8.{if◌then◌else◌}
+use Rattle.std.specs.Prelude.{if◌then◌else◌}
 use Rattle.rules.specs.Base.{is_some}
 use Rattle.rules.specs.Codes.{base_code, kind_code}
 use Rattle.rules.specs.Form.{Node, Name, Form, node_count, name_count, read_form}
 use Rattle.rules.specs.Value.{yes_no, text, number, Kind, one, optional, list, list_of_optional, optional_list, name, BaseValue, is_yes, is_text, is_number, base_of, word}
 use Rattle.rules.specs.Tree.{Tree, Flag, Argument, Positional, Optional, Many, Some, Count, Last, Choice, Fallback, Guard, kind_of, zeros, fallback_value}
 use Rattle.rules.specs.Accept.{Accepted, accepted, length_good, check_form}
-use Rattle.rules.proofs.Acceptance.{if_some, bind_some, and-true, zeros_unused, lookup_inside, Made, flag_made, argument_made, positional_made, optional_made, many_made, some_made, count_made}
+use Rattle.rules.proofs.Acceptance.{if_some, bind_some, and-true, zeros_unused, lookup_inside, Made, flag_made, argument_made, positional_made, optional_made, many_made, some_made}
+use Rattle.rules.proofs.Acceptance.{count_made}
 use Rattle.rules.proofs.Acceptance.{last_made, choice_made, fallback_made, guard_made, inside_same, tree_made, trees_length, accepted_length, accepted_passed}
 use Rattle.rules.proofs.KindLaws.{base_kind_lem}
 use Rattle.form_layout.specs.declared.Node as layout
@@ -32,7 +33,7 @@ Own f x (is_text t) = (word (is_text t) ≡ 256 + x.r) × (x.lo ≡ 0) × (x.r <
 Own f x (is_number n) = (word (is_number n) ≡ x.lo) × (x.r ≡ 0)
 
 yes_word : (n : ℕ) → n ≤ 1 → word (is_yes (eqb n 1)) ≡ n
-unfolding word if◌then◌else◌
+unfolding word
 yes_word n h = go (eqb n 1) refl
   where
     go : (b : Bool) → eqb n 1 ≡ b → (if b then 1 else 0) ≡ n

@@ -1,7 +1,7 @@
 -- What the functions of this crate make, by the rules.
 use Rattle.std.specs.Prelude.{Bool, true, false, List, [], ◌∷◌, ◌++◌, ◌≡◌, ℕ, ◌+◌, ◌-◌, ◌^◌, ◌≤◌, ◌<◌, eqb, length, take, drop}
 use Rattle.std.proofs.Math.Option.{some}
-use Rattle.utf8.specs.Utf8.{if◌then◌else◌}
+use Rattle.std.specs.Prelude.{if◌then◌else◌}
 use Rattle.rules.specs.Outcome.{ok}
 use Rattle.rules.specs.Value as values
 use Rattle.rules.specs.Value.{BaseValue, Value, has_kind}

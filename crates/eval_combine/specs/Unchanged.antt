@@ -1,6 +1,6 @@
 -- What the functions that are handed no marks make: one outcome for every result, whatever left it.
 use Rattle.std.specs.Prelude.{Bool, true, false, ℕ, ◌+◌, eqb}
-use Rattle.utf8.specs.Utf8.{if◌then◌else◌}
+use Rattle.std.specs.Prelude.{if◌then◌else◌}
 use Rattle.rules.specs.Outcome.{combine_with}
 use Rattle.rules.specs.declared.Refused.{Refused}
 use Rattle.eval_error.specs.Refusals as error

@@ -1,5 +1,6 @@
 // What a combinator makes of its children's results. Where the rules put the state back, the marks are put back.
 #![tactic(auto)]
+
 ghost use Rattle.std.specs.Prelude.{◌≡◌, List, ℕ, ◌+◌, ◌^◌, ◌<◌};
 ghost use Rattle.std.proofs.Math.Option.{some};
 ghost use Rattle.rules.specs.Value.{BaseValue, word};

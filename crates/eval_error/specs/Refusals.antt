@@ -5,7 +5,7 @@ use Rattle.std.proofs.Common.{sym, ap, subst, ⊎_elim, eq-or-lt_of_le, arith}
 use Rattle.std.proofs.Math.Bool.{false≢true}
 use Rattle.std.proofs.Math.Option.{Option, none}
 use borrow.Author.Tests.{eq-eqb, ne_eqb}
-use Rattle.utf8.specs.Utf8.{if◌then◌else◌}
+use Rattle.std.specs.Prelude.{if◌then◌else◌}
 use Rattle.rules.specs.Base.{contains}
 use Rattle.rules.specs.Outcome.{Refusal, refuse, is_missing, can_catch, wrong_input, combine_with}
 use Rattle.rules.specs.Codes.{place_code, place_of}
@@ -40,7 +40,7 @@ wrong_input_number e = refl
 pub combine_forgets :
     (e f : Refusal)
     → refused_of (combine_with e f) ≡ refused_of (combine_with (refusal_of (refused_of e)) (refusal_of (refused_of f)))
-unfolding refused_of refusal_of combine_with is_missing can_catch if◌then◌else◌
+unfolding refused_of refusal_of combine_with is_missing can_catch
 combine_forgets e f = go (is_missing e) (is_missing f) (can_catch e)
   where
     go :
@@ -93,17 +93,17 @@ module _ (a b : Refused) where
   combined = refused_of (combine_with (refusal_of a) (refusal_of b))
 
   pub combine_missing : a.number ≡ 20 → eqb b.number 20 ≡ true → record { number = 20; place = 0 } ≡ combined
-  unfolding refused_of refusal_of combine_with is_missing if◌then◌else◌
+  unfolding refused_of refusal_of combine_with is_missing
   combine_missing p q = rw (eq-eqb _ _ p, q)
 
   pub combine_second : a.number ≡ 20 → eqb b.number 20 ≡ false → b ≡ combined
-  unfolding refused_of refusal_of combine_with is_missing if◌then◌else◌
+  unfolding refused_of refusal_of combine_with is_missing
   combine_second p q = rw (eq-eqb _ _ p, q) (sym (refused_refusal b))
 
   pub combine_caught : (a.number ≡ 20 → ⊥) → can_catch (refuse a.number none) ≡ true → b ≡ combined
-  unfolding refused_of refusal_of combine_with is_missing can_catch if◌then◌else◌
+  unfolding refused_of refusal_of combine_with is_missing can_catch
   combine_caught p h = rw (ne_eqb _ _ p, h) (sym (refused_refusal b))
 
   pub combine_first : can_catch (refuse a.number none) ≡ false → a ≡ combined
-  unfolding refused_of refusal_of combine_with is_missing can_catch if◌then◌else◌
+  unfolding refused_of refusal_of combine_with is_missing can_catch
   combine_first h = rw (ne_eqb _ _ (missing_caught a.number h), h) (sym (refused_refusal a))

@@ -1,5 +1,6 @@
 // Refusals, by their number: which can be caught, which are for wrong input, and two as one.
 #![tactic(auto)]
+
 ghost use Rattle.std.proofs.Math.Option.{none};
 ghost use Rattle.std.specs.Prelude.{◌≡◌};
 ghost use Rattle.rules.specs.Outcome.{refuse, can_catch, wrong_input, combine_with};

@@ -8,7 +8,6 @@ use native.Mathlib.Omega.{arith}
 use lib.ListN.{length, take, drop}
 use lib.Seq.{sets, length-sets}
 use borrow.Author.Tests.{eq-eqb, ne_eqb}
-use Rattle.utf8.specs.Utf8.{if◌then◌else◌}
 use Rattle.rules.specs.Outcome.{Outcome, ok, refused}
 use Rattle.rules.specs.Value.{Value, words}
 use Rattle.rules.specs.Sheet.{sheet_area}
@@ -36,15 +35,15 @@ use Rattle.eval_list.proofs.Runs.{told_none, node_runs, node_short}
 -- ---- words
 module _ (number : ℕ) (present : Bool) (w : List ℕ) where
   words_present : number ≡ 0 → present ≡ true → optional_words number present w ≡ 1 ∷ w
-  unfolding optional_words if◌then◌else◌
+  unfolding optional_words
   words_present z e = rw (eq-eqb number 0 z, e)
 
   words_absent : number ≡ 0 → present ≡ false → optional_words number present w ≡ 0 ∷ []
-  unfolding optional_words if◌then◌else◌
+  unfolding optional_words
   words_absent z e = rw (eq-eqb number 0 z, e)
 
   words_refused : (number ≡ 0 → ⊥) → optional_words number present w ≡ []
-  unfolding optional_words if◌then◌else◌
+  unfolding optional_words
   words_refused z = rw (ne_eqb number 0 z)
 
 -- a value is present
@@ -54,7 +53,7 @@ present_words :
     → (y : Told)
     → told (eval_optional catch s r) ≡ some y
     → y.words ≡ 1 ∷ words v
-unfolding eval_optional parse_option ◌then◌ after ended fewer told words if◌then◌else◌
+unfolding eval_optional parse_option ◌then◌ after ended fewer told words
 present_words catch s r v q y e =
     let there : told (eval_optional catch s (record { outcome = ok v; state = r.state; tries = r.tries; trace = r.trace })) ≡ some y =
     subst (λ (o : Outcome Value). told (eval_optional catch s (record { outcome = o; state = r.state; tries = r.tries; trace = r.trace })) ≡ some y) q e in

@@ -10,7 +10,7 @@ use lib.Dec.{eqb}
 use lib.ListN.{length}
 use lib.Seq.{sets, length-sets}
 use borrow.Author.Tests.{eqb-true}
-use Rattle.utf8.specs.Utf8.{if◌then◌else◌}
+use Rattle.std.specs.Prelude.{if◌then◌else◌}
 use Rattle.rules.specs.Outcome.{Outcome, ok, refused, fault, refuse}
 use Rattle.rules.specs.Value.{Value, words, list_of}
 use Rattle.rules.specs.Sheet.{sheet_area}
@@ -57,7 +57,7 @@ repeat_numbered :
     → (s : State)
     → Good n s
     → Numbered (repeated catch stops run s).outcome
-unfolding most if◌then◌else◌
+unfolding most
 repeat_numbered n t run catch stops flat child s g =
     fine_numbered 26 _ (repeated catch stops run s).outcome
     (repeated_went Any n (λ v. Unit {0}) (leaves t) s.remaining catch stops run each s g (le_refl _)).ends
@@ -145,7 +145,7 @@ module _
     own = (state.table, state.same)
 
     put_none : h.values ≡ [] → o' ≡ o
-    unfolding if◌then◌else◌ flatten
+    unfolding flatten
     put_none e = h.put ∙ ap (λ (vs : List (List ℕ)). sets o (at + 1) (flatten vs)) e
 
     values_none : (all.number ≡ 0 → ⊥) → h.values ≡ []
@@ -174,7 +174,6 @@ module _
         → (o'' : List ℕ) (q : Ran)
         → CountedList all o' at o'' q
         → Writes mark area items u m p m' o at o'' q
-    unfolding if◌then◌else◌
     counted_writes u same o'' q c =
         subst (λ (r : Ran). Writes mark area items u m p m' o at o'' r) (sym c.same)
         (record {
@@ -193,7 +192,6 @@ module _
             ∙ sets_head (flatten h.values) o at (length h.values)
 
     pub count_ready : Room o at → (all.size ≤ 514) × (at < length o')
-    unfolding if◌then◌else◌
     count_ready s =
         let f = h.fits in
         let z = h.size refl in
@@ -246,7 +244,7 @@ module _
         run = eval mark state.items t
 
         by_told : (vs : List Value) (u : State) → (y : Told) × (told (some_by r vs u) ≡ some y) × (y.number ≡ r)
-        unfolding some_by told ended if◌then◌else◌
+        unfolding some_by told ended
         by_told vs u = go (eqb r 0) refl
           where
             go : (b : Bool) → eqb r 0 ≡ b → (y : Told) × (told (ended (if b then ok (list_of vs) else refused (refuse r none)) u) ≡ some y) × (y.number ≡ r)

@@ -8,7 +8,7 @@ use native.Mathlib.Nat.{le_trans, mul-le-mul}
 use native.Mathlib.Omega.{arith}
 use lib.ListN.{length}
 use lib.Seq.{length-sets}
-use Rattle.utf8.specs.Utf8.{if◌then◌else◌}
+use Rattle.std.specs.Prelude.{if◌then◌else◌}
 use Rattle.rules.specs.Outcome.{Outcome, ok, refused, fault}
 use Rattle.rules.specs.Value.{Kind, Value, words}
 use Rattle.rules.specs.Tree.{Tree, kind_of, has_repeat}
@@ -53,7 +53,7 @@ told_short m k r x l w h = go r.outcome w h
     go (fault v) w e = absurd w
 
 most_few : (t : Tree) (r : ℕ) → leaves t ≤ 64 → r ≤ 256 → most t r ≤ 16512
-unfolding most if◌then◌else◌
+unfolding most
 most_few t r l h = go (has_repeat t)
   where
     all : (r + 2) * leaves t ≤ 258 * 64

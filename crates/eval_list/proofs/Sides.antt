@@ -8,7 +8,6 @@ use native.Mathlib.Omega.{arith}
 use lib.ListN.{length, take, replicate}
 use lib.Seq.{sets}
 use borrow.Author.Tests.{eq-eqb, ne_eqb}
-use Rattle.utf8.specs.Utf8.{if◌then◌else◌}
 use Rattle.rules.specs.Sheet.{sheet_area}
 use Rattle.rules.specs.Tree.{Tree, Choice}
 use Rattle.rules.specs.Split.{Item}
@@ -34,15 +33,15 @@ use Rattle.eval_list.proofs.Runs.{node_runs, node_short, node_tries, writes_long
 -- ---- words
 module _ (number : ℕ) (first : Bool) (a b : List ℕ) where
   words_first : number ≡ 0 → first ≡ true → choice_words number first a b ≡ a
-  unfolding choice_words if◌then◌else◌
+  unfolding choice_words
   words_first z e = rw (eq-eqb number 0 z, e)
 
   words_second : number ≡ 0 → first ≡ false → choice_words number first a b ≡ b
-  unfolding choice_words if◌then◌else◌
+  unfolding choice_words
   words_second z e = rw (eq-eqb number 0 z, e)
 
   words_neither : (number ≡ 0 → ⊥) → choice_words number first a b ≡ []
-  unfolding choice_words if◌then◌else◌
+  unfolding choice_words
   words_neither z = rw (ne_eqb number 0 z)
 
 -- ---- the first side

@@ -7,11 +7,11 @@ use Prim.Native.Nat.{ℕ, zero, suc, ◌<◌}
 use native.Mathlib.Omega.{arith}
 use lib.Dec.{eqb, leb}
 use lib.ListN.{length, take, get_elem?}
-use Rattle.utf8.specs.Utf8.{if◌then◌else◌}
 use Rattle.rules.specs.Base.{is_some, ◌>>?◌}
 use Rattle.rules.specs.Value.{Base, Kind, one, optional, list, list_of_optional, optional_list, base_of, number}
 use Rattle.rules.specs.Form.{Node, Form, read_form}
-use Rattle.rules.specs.Tree.{Tree, Many, Some, kind_of, shape_of, has_repeat, optional_kind, list_kind, count_kind, last_kind, base_kind, zeros, fitting, repeat_of, child_of, caught_of, tree_of}
+use Rattle.rules.specs.Tree.{Tree, Many, Some, kind_of, shape_of, has_repeat, optional_kind, list_kind, count_kind, last_kind, base_kind, zeros, fitting, repeat_of, child_of, caught_of}
+use Rattle.rules.specs.Tree.{tree_of}
 use Rattle.rules.specs.Accept.{Accepted, accepted, check_form}
 use Rattle.rules.proofs.Acceptance.{if_some, if_not_some, bind_some, Made, flag_made, argument_made, positional_made, optional_made, many_made, some_made, count_made, last_made, choice_made}
 use Rattle.rules.proofs.Acceptance.{fallback_made, guard_made, inside_same, tree_made}
@@ -100,11 +100,11 @@ repeat_some make c t e =
 
 module _ (f : Form) (below : List Tree) (x : Node) (t : Tree) where
   many_by : x.kind ≡ 5 → tree_of f below x ≡ some t → caught_of below x (λ c. repeat_of (Many c)) ≡ some t
-  unfolding tree_of caught_of child_of if◌then◌else◌
+  unfolding tree_of caught_of child_of
   many_by k e = rw (k, tree_of) at e
 
   some_by_lem : x.kind ≡ 6 → tree_of f below x ≡ some t → caught_of below x (λ c. repeat_of (Some c)) ≡ some t
-  unfolding tree_of caught_of child_of if◌then◌else◌
+  unfolding tree_of caught_of child_of
   some_by_lem k e = rw (k, tree_of) at e
 
 -- ---- a node that has a tree

@@ -1,8 +1,7 @@
 -- What the run of a node whose value is a list asks for, and what it answers.
-use Rattle.std.specs.Prelude.{Bool, false, List, [], ◌∷◌, ◌≡◌, ℕ, ◌+◌, ◌≤◌, eqb, length, take, drop, replicate}
+use Rattle.std.specs.Prelude.{false, List, ◌≡◌, ℕ, ◌≤◌, length}
 use Rattle.std.proofs.Math.Option.{some}
 use Rattle.std.proofs.lemmas.List.Edits.{sets}
-use Rattle.utf8.specs.Utf8.{if◌then◌else◌}
 use Rattle.rules.specs.Sheet.{sheet_area}
 use Rattle.rules.specs.Tree.{Tree, Choice, kind_of}
 use Rattle.rules.specs.Split.{Item}
@@ -12,7 +11,6 @@ use Rattle.state_marks.specs.declared.Numbers.{Numbers}
 use Rattle.state_marks.specs.Lent.{state_of}
 use Rattle.take_search.specs.States.{LeftState, Items}
 use Rattle.eval_told.specs.declared.Ran.{Ran}
-use Rattle.eval_told.specs.Results.{value_ran}
 use Rattle.eval_told.specs.Told.{told, told_with}
 use Rattle.eval_told.specs.Nodes.{tree_at, is_scalar}
 use Rattle.eval_shortcut.specs.Stands.{Standing, Scalar}

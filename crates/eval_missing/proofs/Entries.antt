@@ -10,7 +10,7 @@ use lib.Dec.{eqb}
 use lib.ListN.{length, set, take, get_elem?}
 use lib.Seq.{sets, length-take-le}
 use borrow.Author.Tests.{ne_eqb}
-use Rattle.utf8.specs.Utf8.{if◌then◌else◌}
+use Rattle.std.specs.Prelude.{if◌then◌else◌}
 use Rattle.rules.specs.Base.{is_some, concat_map}
 use Rattle.rules.specs.Outcome.{Outcome, ok, refused, fault, MissingItem, entry_words, list_words, is_missing}
 use Rattle.rules.specs.Value.{Value, number}
@@ -157,7 +157,6 @@ module _ (mark : ℕ) (is : List Item) (s : State) where
 
   -- a node whose value is a list has none
   either_none : (b : Bool) → ◌≡◌ {A = List MissingItem} ((if b then [] else []) ++ []) []
-  unfolding if◌then◌else◌
   either_none true = refl
   either_none false = refl
 

@@ -8,7 +8,7 @@ use Prim.Native.Nat.{ℕ, suc, ◌+◌, ◌*◌, ◌≤◌, ◌<◌}
 use native.Mathlib.Omega.{arith}
 use lib.ListN.{length, length-append, get_elem?}
 use lib.Seq.{sets, length-sets}
-use Rattle.utf8.specs.Utf8.{if◌then◌else◌}
+use Rattle.std.specs.Prelude.{if◌then◌else◌}
 use Rattle.rules.specs.Base.{concat_map}
 use Rattle.rules.specs.Outcome.{list_words}
 use Rattle.rules.specs.Form.{read_form, node_count}
@@ -61,12 +61,11 @@ module _ (mark : ℕ) (area words : List ℕ) (t : Tree) (m : List ℕ) (p : Num
   module _ (r : Bool) (says : (is : List Item) → Items area words p is → r ≡ ends_missing (eval mark is t (state_of m p)).outcome) where
     begun_kept :
         r ≡ true → {l₀ l' : List ℕ} {at₀ stop : ℕ} → Lists mark area words t m p at l l₀ at₀ → l' ≡ l₀ → stop ≡ at₀ → Begun mark area words t m p at l l' stop
-    unfolding if◌then◌else◌
     begun_kept e w q k =
         record { entries = w.entries; same = λ is i. rw (sym (says is i) ∙ e) (w.same is i); put = q ∙ w.put; count = k ∙ w.count; few = w.few }
 
     begun_none : r ≡ false → {l' : List ℕ} {stop : ℕ} → l' ≡ l → stop ≡ at → Begun mark area words t m p at l l' stop
-    unfolding if◌then◌else◌ list_words concat_map
+    unfolding list_words concat_map
     begun_none e q k =
         record { entries = []; same = λ is i. rw (sym (says is i) ∙ e); put = q; count = omega arith; few = omega arith }
 

@@ -2,6 +2,7 @@
 // 20, a node leaves the state that it was given, so its tree is walked again on that state: nothing is evaluated but the first side of
 // a choice, to see whether it was refused with 20 too, and that on a copy of the marks.
 #![tactic(auto)]
+
 ghost use Rattle.std.specs.Prelude.{◌≡◌, List, [], ◌∷◌, suc, ◌+◌, ◌≤◌, ◌<◌, length};
 ghost use Rattle.std.proofs.Math.Option.{some};
 ghost use Rattle.std.proofs.lemmas.List.Edits.{sets};

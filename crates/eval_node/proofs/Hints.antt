@@ -10,7 +10,7 @@ use native.Mathlib.Nat.{eq-or-lt_of_le}
 use native.Mathlib.Omega.{arith}
 use lib.ListN.{length, get_or, take}
 use borrow.Author.Tests.{lt-ltb, le-ltb}
-use Rattle.utf8.specs.Utf8.{if◌then◌else◌}
+use Rattle.std.specs.Prelude.{if◌then◌else◌}
 use Rattle.rules.specs.Outcome.{Outcome, ok, refused, fault, Refusal, ◌>>=◌, refuse}
 use Rattle.rules.specs.Value.{Base, Value, absent, present}
 use Rattle.rules.specs.Tree.{Named, Position, Tree, Flag, Argument, Positional, Optional, Many, Some, Count, Last, Choice, Fallback, Guard}
@@ -24,7 +24,8 @@ use Rattle.rules.specs.Sound.{Good}
 use Rattle.rules.proofs.Acceptance.{lookup_some}
 use Rattle.rules.proofs.Places.{mark_present}
 use Rattle.rules.proofs.Steps.{Step}
-use Rattle.rules.proofs.StepLaws.{Free, Finds, find_good, removed, removed_other, removed_gone, removed_left, removed_good, removed_step, remove_free, get_free, free_below_lem, current_good_lem}
+use Rattle.rules.proofs.StepLaws.{Free, Finds, find_good, removed, removed_other, removed_gone, removed_left, removed_good, removed_step, remove_free, get_free, free_below_lem}
+use Rattle.rules.proofs.StepLaws.{current_good_lem}
 use Rattle.rules.proofs.CodeLaws.{code_place}
 use Rattle.rules.specs.Codes.{place_code}
 use Rattle.state_marks.specs.declared.Numbers.{Numbers}
@@ -225,7 +226,7 @@ guard_state lo hi r = go r.outcome
 -- its child's state, or the one that it was given
 optional_state : (catch : Bool) (s : State) (r : Run Value)
     → ((eval_optional catch s r).state ≡ r.state) ⊎ ((eval_optional catch s r).state ≡ s)
-unfolding eval_optional parse_option ◌then◌ after ended if◌then◌else◌
+unfolding eval_optional parse_option ◌then◌ after ended
 optional_state catch s r = go r.outcome
   where
     swallows : (e : Refusal) (b : Bool)
@@ -289,7 +290,7 @@ module _ (area words m : List ℕ) (p : Numbers) (mark : ℕ) (z : CanTake area 
   -- nothing was used
   skip_still : (test : Item → Bool) (f : ℕ) → Skips area words test m p f → q.remaining ≡ p.remaining
       → Skips area words test m' q (next_from f p.remaining q)
-  unfolding next_from if◌then◌else◌
+  unfolding next_from
   skip_still test f k e =
       let a = start_kept in
       let b = end_kept in
@@ -303,7 +304,7 @@ module _ (area words m : List ℕ) (p : Numbers) (mark : ℕ) (z : CanTake area 
 
   skip_moved : (test : Item → Bool) (f : ℕ) → Moved z.items test (state_of m p) (state_of m' q)
       → Skips area words test m' q (next_from f p.remaining q)
-  unfolding next_from state_of from_raw if◌then◌else◌
+  unfolding next_from state_of from_raw
   skip_moved test f w =
       let a = start_kept in
       let b = end_kept in

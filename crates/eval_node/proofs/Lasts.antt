@@ -7,7 +7,6 @@ use Prim.Native.Nat.{ℕ, ◌+◌, ◌≤◌, ◌<◌}
 use native.Mathlib.Nat.{le_refl}
 use native.Mathlib.Omega.{arith}
 use lib.ListN.{length}
-use Rattle.utf8.specs.Utf8.{if◌then◌else◌}
 use Rattle.rules.specs.Outcome.{Outcome, ok, refused, fault}
 use Rattle.rules.specs.Value.{Value}
 use Rattle.rules.specs.Sheet.{sheet_area}
@@ -56,7 +55,7 @@ pub repeated_numbered :
     → has_repeat t ≡ false
     → Good (length is) s
     → Numbered (repeated catch stops (eval mark is t) s).outcome
-unfolding most if◌then◌else◌
+unfolding most
 repeated_numbered mark is t s catch stops told sound flat good =
     fine_numbered 26 (Listed (λ v. Unit {0}) (s.remaining + 1)) (repeated catch stops (eval mark is t) s).outcome
     (repeated_went Any (length is) (λ v. Unit {0}) (leaves t) s.remaining catch stops (eval mark is t) child s good (le_refl _)).ends
@@ -99,17 +98,17 @@ module _
           tells = answer.same is i
 
           count_denied : (all.number ≡ 0 → ⊥) → told (eval_count run (state_of m p)) ≡ some (answered (denied_list all) m')
-          unfolding scalar_words if◌then◌else◌
+          unfolding scalar_words
           count_denied e = count_refused run (state_of m p) (listed all m' answer.values) tells numbered e
 
           count_counted : all.number ≡ 0 → told (eval_count run (state_of m p)) ≡ some (answered (counted_values all) m')
-          unfolding scalar_words if◌then◌else◌
+          unfolding scalar_words
           count_counted e =
               count_value run (state_of m p) (listed all m' answer.values) tells numbered e
               ∙ ap (λ (k : ℕ). some (list_told (listed all m' answer.values) (k ∷ []))) (sym answer.count)
 
           last_denied : (all.number ≡ 0 → ⊥) → told (eval_last run (state_of m p)) ≡ some (answered (denied_list all) m')
-          unfolding scalar_words if◌then◌else◌
+          unfolding scalar_words
           last_denied e = last_refused run (state_of m p) (listed all m' answer.values) tells numbered e
 
           last_there : all.number ≡ 0 → (all.count ≡ 0 → ⊥) → told (eval_last run (state_of m p)) ≡ some (answered (last_value all) m')

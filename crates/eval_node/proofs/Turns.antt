@@ -9,7 +9,7 @@ use lib.Dec.{eqb}
 use lib.ListN.{length, replicate, get_elem?, length-append}
 use lib.Seq.{sets, length-sets}
 use borrow.Author.Tests.{eqb-true, ltb-true}
-use Rattle.utf8.specs.Utf8.{if◌then◌else◌}
+use Rattle.std.specs.Prelude.{if◌then◌else◌}
 use Rattle.rules.specs.Outcome.{ok, refuse}
 use Rattle.rules.specs.Value.{Value, words}
 use Rattle.rules.specs.Sheet.{sheet_area}
@@ -99,7 +99,7 @@ map_length (v ∷ vs) = ap suc (map_length vs)
 
 -- ---- what is decided
 counted_fewer : (n : ℕ) (catch : Bool) (given left : ℕ) (len : Option ℕ) → option_way n catch given left len ≡ Counted → fewer left len ≡ true
-unfolding option_way if◌then◌else◌
+unfolding option_way
 counted_fewer n catch given left len = go (eqb n 0) (fewer left len) (swallowed catch (refuse n none) (with_remaining given) (with_remaining left))
   where
     go : (a b c : Bool) → (if a then (if b then Counted else Uncounted) else (if c then Absent else PassedOn)) ≡ Counted → b ≡ true
@@ -110,7 +110,7 @@ counted_fewer n catch given left len = go (eqb n 0) (fewer left len) (swallowed 
 
 -- fewer remain than after the last that counted
 fewer_less : (l last : ℕ) → l ≤ 256 → fewer l (counted_of last) ≡ true → l < last
-unfolding fewer counted_of if◌then◌else◌
+unfolding fewer counted_of
 fewer_less l last h = go (eqb last 4294967295) refl
   where
     go : (b : Bool) → eqb last 4294967295 ≡ b → fewer l (if b then none else some last) ≡ true → l < last
@@ -128,7 +128,7 @@ pub record Kept (writes : Bool) (at : ℕ) (o₀ o : List ℕ) (vs : List Value)
   pub latest : last_words (map words vs) ≡ scalar_words all.len all.word
 
 kept_first : (writes : Bool) (at : ℕ) (o : List ℕ) (p : Numbers) → Kept writes at o o [] (no_value p)
-unfolding flatten last_words scalar_words if◌then◌else◌
+unfolding flatten last_words scalar_words
 kept_first writes at o p = record {
   count = refl;
   cost = omega arith;
@@ -148,15 +148,12 @@ kept_first writes at o p = record {
     unwritten false = refl
 
 if_size : (b : Bool) (n k : ℕ) → b ≡ true → n ≡ (if b then k else 0) → n ≡ k
-unfolding if◌then◌else◌
 if_size b n k t h = subst (λ (c : Bool). n ≡ (if c then k else 0)) t h
 
 pub if_taken : {A : Type 0} (b : Bool) (x y z : A) → x ≡ (if b then y else z) → b ≡ true → x ≡ y
-unfolding if◌then◌else◌
 if_taken {A} b x y z h t = subst (λ (c : Bool). x ≡ (if c then y else z)) t h
 
 if_length : (b : Bool) (o w : List ℕ) (at : ℕ) → length (if b then sets o at w else o) ≡ length o
-unfolding if◌then◌else◌
 if_length true o w at = length-sets o at w
 if_length false o w at = refl
 
@@ -167,7 +164,6 @@ kept_more :
     → ran.tries ≤ 64
     → WroteValue writes o (at + 1 + all.size) ran.len ran.word o' width
     → Kept writes at o₀ o' (vs ++ (v ∷ [])) (one_more all ran width)
-unfolding if◌then◌else◌
 kept_more writes at o₀ o vs all v ran o' width k e few w =
     let n = length_more vs v in
     let l : length (all_words (vs ++ (v ∷ []))) ≡ length (all_words vs) + length (scalar_words ran.len ran.word) =
@@ -340,7 +336,7 @@ module _ (b known sh ws m₀ : List ℕ) (how : Repeat) (o₀ : List ℕ) (mark 
 
         -- an evaluation of a child without a repeat
         ran_cheap : ran.tries ≤ 64
-        unfolding most if◌then◌else◌
+        unfolding most
         ran_cheap =
             let h = told_tries (run (state_of m s)) (answered ran m') ran_told in
             let k : (run (state_of m s)).tries ≤ leaves tree = rw i.asked.flat at ran_runs.cost in
@@ -465,7 +461,6 @@ module _ (b known sh ws m₀ : List ℕ) (how : Repeat) (o₀ : List ℕ) (mark 
             → (before : List ℕ)
             → (keeps ≡ true → before ≡ m)
             → (if keeps then before else m') ≡ m
-        unfolding if◌then◌else◌
         put_back w true k before f = f refl
         put_back w false k before f =
             absent_by b known sh ws m s mark n turn_ready m' ran said catch false k refl (counted_of last) w
@@ -493,7 +488,6 @@ module _ (b known sh ws m₀ : List ℕ) (how : Repeat) (o₀ : List ℕ) (mark 
             (o' : List ℕ)
             → o' ≡ (if writes then sets o (at + 1) (replicate all.size 0) else o)
             → o' ≡ (if writes then sets o₀ (at + 1) [] else o₀)
-        unfolding if◌then◌else◌
         wiped o' e = go writes i.asked.space i.kept.size i.kept.put e
           where
             go :
@@ -516,7 +510,7 @@ module _ (b known sh ws m₀ : List ℕ) (how : Repeat) (o₀ : List ℕ) (mark 
             → (r : Repeated)
             → r ≡ passed_on all ran
             → Answers m' o' r
-        unfolding state_of from_raw flatten last_words scalar_words if◌then◌else◌
+        unfolding state_of from_raw flatten last_words scalar_words
         turn_refused w o' g r e =
             let x = turn_passed catch stops fuelled.0 (counted_of last) run (state_of m s) (answered ran m') ran_told ran_numbered all.tries i.trace i.values w in
             rw e
@@ -551,7 +545,6 @@ module _ (b known sh ws m₀ : List ℕ) (how : Repeat) (o₀ : List ℕ) (mark 
 
           module _ (o' : List ℕ) (width : ℕ) (g : WroteValue writes o (at + 1 + all.size) ran.len ran.word o' width) where
             pub turn_adds : OneMoreFits all ran width
-            unfolding if◌then◌else◌
             turn_adds = record {
               tries = turn_fits;
               count = omega (arith, i.kept.count, i.few);

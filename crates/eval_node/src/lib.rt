@@ -1,11 +1,12 @@
 // The run of a node and the run of a repeat, which call each other: a child has a lower number than its node, and within a
 // repeat fewer places remain at every turn. The members call and hand on; what there is to decide is decided outside.
 #![tactic(auto)]
+
 ghost use Rattle.std.specs.Prelude.{◌≡◌, true, ◌+◌, ◌≤◌, ◌<◌, length, replicate};
 ghost use Rattle.std.proofs.Math.Option.{some};
 ghost use Rattle.std.proofs.Math.ListN.{get_elem?};
 ghost use Rattle.std.proofs.lemmas.List.Edits.{sets};
-ghost use Rattle.utf8.specs.Utf8.{if◌then◌else◌};
+ghost use Rattle.std.specs.Prelude.{if◌then◌else◌};
 ghost use Rattle.rules.specs.Form.{read_form};
 ghost use Rattle.rules.specs.Sheet.{sheet_area};
 ghost use Rattle.rules.specs.Tree.{Tree, Optional, Count, Last, Choice, Guard};

@@ -3,7 +3,7 @@ use Rattle.std.specs.Prelude.{◌≡◌, refl, Bool, true, false, ◌&&◌, List
 use Rattle.std.proofs.Common.{sym, ap, ◌∙◌, le_refl, le_trans, add-one, arith, drop_of_length-le, take_all, drop-cons}
 use Rattle.std.proofs.Math.Option.{Option, some, none}
 use borrow.Author.Tests.{eq-eqb, ne_eqb, le-leb, lt-leb, ltb-true, ltb-false}
-use Rattle.utf8.specs.Utf8.{if◌then◌else◌}
+use Rattle.std.specs.Prelude.{if◌then◌else◌}
 use Rattle.rules.specs.Base.{null, all}
 use Rattle.rules.specs.Eval.{is_digit, digits, unsigned, number_of}
 use Rattle.eval_number.specs.declared.Number.{Number}
@@ -24,7 +24,7 @@ digits_grow n [] = le_refl n
 digits_grow n (b ∷ s) = le_trans (omega arith) (digits_grow (n * 10 + (b - 48)) s)
 
 pub too_large_lem : (n : ℕ) (s : List ℕ) → 4294967295 < n → read_on n s ≡ none
-unfolding read_on if◌then◌else◌
+unfolding read_on
 too_large_lem n s h = go (all is_digit s)
   where
     go : (t : Bool) → (if t && leb (digits n s) 4294967295 then some (digits n s) else none) ≡ none
@@ -41,20 +41,20 @@ module _ (n : ℕ) (s : List ℕ) (i b : ℕ) (h : i < length s) (e : b ≡ get_
   digit_next l g = rw (cons, le-leb 48 b l, le-leb b 57 (ltb-false 57 b g))
 
   pub digit_low : b < 48 → read_on n (drop i s) ≡ none
-  unfolding read_on all is_digit if◌then◌else◌
+  unfolding read_on all is_digit
   digit_low l = rw (cons, lt-leb 48 b l)
 
   pub digit_high : 48 ≤ b → ltb 57 b ≡ true → read_on n (drop i s) ≡ none
-  unfolding read_on all is_digit if◌then◌else◌
+  unfolding read_on all is_digit
   digit_high l g = rw (cons, le-leb 48 b l, lt-leb b 57 (ltb-true 57 b g))
 
 pub digits_end : (n : ℕ) (s : List ℕ) (i : ℕ) → length s ≤ i → n ≤ 4294967295 → read_on n (drop i s) ≡ some n
-unfolding read_on all digits if◌then◌else◌
+unfolding read_on all digits
 digits_end n s i h l = rw (drop_of_length-le s h, le-leb n 4294967295 l)
 
 -- ---- the whole text
 pub unsigned_empty : (s : List ℕ) → length s ≡ 0 → unsigned s ≡ none
-unfolding unsigned null if◌then◌else◌
+unfolding unsigned null
 unsigned_empty [] e = refl
 unsigned_empty (b ∷ s) e = absurd (omega arith)
 
@@ -73,11 +73,11 @@ number_empty [] e = refl
 number_empty (b ∷ s) e = absurd (omega arith)
 
 pub number_plus : (s : List ℕ) → get_or s 0 0 ≡ 43 → unsigned (take (length s - 1) (drop 1 s)) ≡ number_of s
-unfolding number_of if◌then◌else◌
+unfolding number_of
 number_plus [] e = absurd (omega arith)
 number_plus (b ∷ s) e = rw (eq-eqb b 43 e) (ap unsigned (take_all (length (b ∷ s) - 1) s (omega arith)))
 
 pub number_plain : (s : List ℕ) → (length s ≡ 0 → ⊥) → (get_or s 0 0 ≡ 43 → ⊥) → unsigned s ≡ number_of s
-unfolding number_of if◌then◌else◌
+unfolding number_of
 number_plain [] h e = absurd (h refl)
 number_plain (b ∷ s) h e = rw (ne_eqb b 43 e)

@@ -1,5 +1,6 @@
 // A text as a number, as the Rust's `u32::from_str` reads it.
 #![tactic(auto)]
+
 ghost use Rattle.std.specs.Prelude.{◌≡◌};
 ghost use Rattle.rules.specs.Eval.{unsigned, number_of};
 ghost use Rattle.eval_number.specs.Number.{option_of};

@@ -6,7 +6,7 @@ use mathlib.Core.Path.{◌≡◌, refl, sym, ap, subst, ◌∙◌}
 use Prim.Native.Nat.{ℕ, ◌+◌, ◌-◌}
 use native.Mathlib.Numerals.{add-one}
 use borrow.Author.Tests.{ne_eqb, not-true, not-false}
-use Rattle.utf8.specs.Utf8.{if◌then◌else◌}
+use Rattle.std.specs.Prelude.{if◌then◌else◌}
 use Rattle.rules.specs.Outcome.{Spot, Outcome, ok, refused, parse_flag559, take_argument679, ◌>>=◌, Refusal, refuse}
 use Rattle.rules.specs.Value.{Base, text, number, is_number, Value, base, word, words}
 use Rattle.rules.specs.Tree.{Named, Position, Tree, Flag, Argument, Positional}
@@ -14,7 +14,8 @@ use Rattle.rules.specs.Split.{Item}
 use Rattle.rules.specs.State.{State}
 use Rattle.rules.specs.Take.{Took, took, Taken, Operand, take_flag, take_arg, take_positional_word}
 use Rattle.rules.specs.Calls.{from_raw}
-use Rattle.rules.specs.Eval.{visit, leaf, refuse_missing, not_found, flag_value, eval_flag, number_of, parse_text, argument_value, eval_argument, wrong_position, placed_value, positional_value}
+use Rattle.rules.specs.Eval.{visit, leaf, refuse_missing, not_found, flag_value, eval_flag, number_of, parse_text, argument_value, eval_argument, wrong_position, placed_value}
+use Rattle.rules.specs.Eval.{positional_value}
 use Rattle.rules.specs.Eval.{eval_positional, eval}
 use Rattle.rules.specs.Sound.{is_named}
 use Rattle.rules.proofs.Nodes.{named_shown}
@@ -54,13 +55,13 @@ module _ (place : ℕ) (bytes : List ℕ) (s : State) where
 module _ (place : ℕ) (bytes : List ℕ) (p : Numbers) (numeric : Bool) where
   pub text_tells : not numeric ≡ true → (r : Ran) → r ≡ leaf_value place p
       → LeafTells (parse_text (if numeric then number else text) place bytes) p r
-  unfolding told leaf_run parse_text words word scalar_words if◌then◌else◌
+  unfolding told leaf_run parse_text words word scalar_words
   text_tells e r er = rw (er, not-true numeric e) (record { same = λ m. refl; kept = refl })
 
   module _ (e : not numeric ≡ false) (found : Number) (read : option_of found ≡ number_of bytes) where
     pub number_tells : (n : ℕ) → found ≡ Number-as-Value n → (r : Ran) → r ≡ leaf_value n p
         → LeafTells (parse_text (if numeric then number else text) place bytes) p r
-    unfolding told leaf_run words word scalar_words if◌then◌else◌
+    unfolding told leaf_run words word scalar_words
     number_tells n h r er = rw (er, not-false numeric e) (record {
       same = λ m. ap (λ (o : Outcome Value). told (leaf_run o (state_of m p))) (is_number_lem place bytes (state_of m p) n (sym read ∙ ap option_of h));
       kept = refl;
@@ -68,7 +69,7 @@ module _ (place : ℕ) (bytes : List ℕ) (p : Numbers) (numeric : Bool) where
 
     pub bad_tells : found ≡ Bad → (r : Ran) → r ≡ leaf_refusal 25 p.current p
         → LeafTells (parse_text (if numeric then number else text) place bytes) p r
-    unfolding told leaf_run scalar_words state_of from_raw if◌then◌else◌
+    unfolding told leaf_run scalar_words state_of from_raw
     bad_tells h r er = rw (er, not-false numeric e) (record {
       same = λ m.
           ap (λ (o : Outcome Value). told (leaf_run o (state_of m p))) (no_number place bytes (state_of m p) (sym read ∙ ap option_of h))
@@ -87,7 +88,7 @@ module _ (p : Numbers) (at : Position) (b : Base) (x : Operand) (wrong : ℕ) (e
   placed_at s = ap (placing s) e
 
   pub wrong_tells : (wrong ≡ 0 → ⊥) → (r : Ran) → r ≡ leaf_refusal wrong (x.place + 1) p → LeafTells (placed_value at b x) p r
-  unfolding told leaf_run position_refusal scalar_words if◌then◌else◌
+  unfolding told leaf_run position_refusal scalar_words
   wrong_tells h r er =
       let z : position_refusal wrong ≡ some wrong = rw (ne_eqb wrong 0 h) in
       rw (er, add-one) (record {
@@ -96,7 +97,7 @@ module _ (p : Numbers) (at : Position) (b : Base) (x : Operand) (wrong : ℕ) (e
       })
 
   pub right_tells : wrong ≡ 0 → (r : Ran) → LeafTells (parse_text b x.place x.text) p r → LeafTells (placed_value at b x) p r
-  unfolding position_refusal if◌then◌else◌
+  unfolding position_refusal
   right_tells h r d =
       let z : position_refusal wrong ≡ none = rw h in
       record {
@@ -121,7 +122,7 @@ leaf_refused {A} t s o f e h = ap (λ (x : Outcome (Took A)). told (visit t s (l
 -- a leaf that has a name is refused with 20
 named_missing : (unnamed : Spot) (n : ℕ) (names : Named) (s : State) → is_named names ≡ true
     → not_found unnamed n names s ≡ refused (refuse_missing n s)
-unfolding not_found ◌>>=◌ if◌then◌else◌
+unfolding not_found ◌>>=◌
 named_missing unnamed n names s h = rw (named_shown names h)
 
 module _ (mark : ℕ) (area words m : List ℕ) (p : Numbers) (m' : List ℕ) where
@@ -137,17 +138,17 @@ module _ (mark : ℕ) (area words m : List ℕ) (p : Numbers) (m' : List ℕ) wh
           (d.same is t ∙ ap (λ (x : Bool). took x (state_of m' r.numbers)) h)
 
       pub flag_yes : r.found ≡ true → q ≡ leaf_value 1 r.numbers → (n : ℕ) → Evaluates mark area words (Flag n names switch) m p m' q
-      unfolding told leaf_run flag_value words word scalar_words if◌then◌else◌
+      unfolding told leaf_run flag_value words word scalar_words
       flag_yes h eq n = rw eq (record { same = λ is t. flag_told true h n is t; left = d.left })
 
       pub flag_no : r.found ≡ false → switch ≡ true → q ≡ leaf_value 0 r.numbers
           → (n : ℕ) → Evaluates mark area words (Flag n names switch) m p m' q
-      unfolding told leaf_run flag_value words word scalar_words if◌then◌else◌
+      unfolding told leaf_run flag_value words word scalar_words
       flag_no h w eq n = rw eq (record { same = λ is t. flag_told false h n is t ∙ rw w; left = d.left })
 
       pub flag_refused : r.found ≡ false → switch ≡ false → q ≡ leaf_refusal 20 0 r.numbers
           → (n : ℕ) → Evaluates mark area words (Flag n names switch) m p m' q
-      unfolding told leaf_run flag_value refuse_missing scalar_words if◌then◌else◌
+      unfolding told leaf_run flag_value refuse_missing scalar_words
       flag_refused h w eq n =
           let u : State = state_of m' r.numbers in
           rw eq (record {
@@ -170,7 +171,7 @@ module _ (mark : ℕ) (area words m : List ℕ) (p : Numbers) (m' : List ℕ) wh
 
       pub argument_missing : r.value ≡ Missing → q ≡ leaf_refusal 20 0 r.numbers
           → (n : ℕ) → Evaluates mark area words (Argument n names b adjacent) m p m' q
-      unfolding told leaf_run argument_value refuse_missing scalar_words if◌then◌else◌
+      unfolding told leaf_run argument_value refuse_missing scalar_words
       argument_missing h eq n =
           let u : State = state_of m' r.numbers in
           rw eq (record {
@@ -194,7 +195,7 @@ module _ (mark : ℕ) (area words m : List ℕ) (p : Numbers) (m' : List ℕ) wh
       -- 22: the state is the one that was given
       pub argument_refused : (i : ℕ) → r.value ≡ NoArgument i → q ≡ leaf_refusal 22 (i + 1) r.numbers
           → (n : ℕ) → Evaluates mark area words (Argument n names b adjacent) m p m' q
-      unfolding told leaf_run eval eval_argument scalar_words if◌then◌else◌
+      unfolding told leaf_run eval eval_argument scalar_words
       argument_refused i h eq n =
           let k : (m' ≡ m) × (r.numbers ≡ p) = subst (ValueUnchanged m p m' r.numbers) h d.unchanged in
           rw (eq, add-one) (record {
@@ -218,7 +219,7 @@ module _ (mark : ℕ) (area words m : List ℕ) (p : Numbers) (m' : List ℕ) wh
 
     pub positional_missing : r.operand ≡ Operand-as-Missing → q ≡ leaf_refusal 20 0 r.numbers
         → (n : ℕ) → Evaluates mark area words (Positional n at b) m p m' q
-    unfolding told leaf_run positional_value refuse_missing scalar_words if◌then◌else◌
+    unfolding told leaf_run positional_value refuse_missing scalar_words
     positional_missing h eq n = rw eq (record {
       same = λ is t. positional_told none (ap (operand_of area m' r.numbers) h) n is t;
       left = d.left;

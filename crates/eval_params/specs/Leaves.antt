@@ -1,7 +1,7 @@
 -- What the evaluation of a leaf asks for, and what it answers.
 use Rattle.std.specs.Prelude.{Bool, true, false, List, [], ◌≡◌, ℕ, eqb}
 use Rattle.std.proofs.Math.Option.{Option, some, none}
-use Rattle.utf8.specs.Utf8.{if◌then◌else◌}
+use Rattle.std.specs.Prelude.{if◌then◌else◌}
 use Rattle.rules.specs.Outcome.{Outcome}
 use Rattle.rules.specs.Value.{Base, Value}
 use Rattle.rules.specs.Tree.{Named, Flag, Argument}

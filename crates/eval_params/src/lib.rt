@@ -1,8 +1,9 @@
 // The evaluation of leaves: flags, arguments and positionals. Each is one try, and is told the mark of what it uses. One that is
 // told where to search from answers the same: its caller knows that no earlier place is the one that is sought.
 #![tactic(auto)]
+
 ghost use Rattle.std.specs.Prelude.{◌≡◌, Bool, true, false, not, List, ℕ, ◌≤◌, ◌<◌, min, length, get_or};
-ghost use Rattle.utf8.specs.Utf8.{if◌then◌else◌};
+ghost use Rattle.std.specs.Prelude.{if◌then◌else◌};
 ghost use Rattle.rules.specs.Sheet.{sheet_area, sheet_fault};
 ghost use Rattle.rules.specs.Value.{text, number};
 ghost use Rattle.rules.specs.State.{parsed as mark_parsed};

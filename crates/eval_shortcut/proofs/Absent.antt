@@ -9,19 +9,19 @@ use native.Mathlib.Omega.{arith}
 use lib.Dec.{leb, eqb}
 use lib.ListN.{length, get_elem?}
 use borrow.Author.Tests.{ne_eqb, eqb-true, eqb-false, lt-leb, le-leb}
-use Rattle.utf8.specs.Utf8.{if◌then◌else◌}
+use Rattle.std.specs.Prelude.{if◌then◌else◌}
 use Rattle.rules.specs.Base.{contains}
 use Rattle.rules.specs.Outcome.{Spot, Outcome, ok, refused, fault, take_argument679, ◌>>=◌, refuse, is_missing, can_catch}
-use Rattle.rules.specs.Value.{Base, yes_no, text, number, Kind, is_yes, is_text, is_number, Value, base, absent, present, nil, cons}
-use Rattle.rules.specs.Form.{node_count, read_form}
+use Rattle.rules.specs.Value.{Base, yes_no, text, number, is_yes, is_text, is_number, Value, base, absent, present, nil, cons}
+use Rattle.rules.specs.Form.{read_form}
 use Rattle.rules.specs.Sheet.{sheet_area}
 use Rattle.rules.specs.Tree.{Named, Position, unrestricted, strict, non_strict, Tree, Flag, Argument, Positional, Optional, Many, Some, Count, Last, Choice, Fallback, Guard, position_of}
-use Rattle.rules.specs.Tree.{kind_of}
 use Rattle.rules.specs.Split.{Item}
 use Rattle.rules.specs.State.{State, parsed}
 use Rattle.rules.specs.Take.{Took, Taken, Operand, take_arg, take_positional_word}
 use Rattle.rules.specs.Calls.{from_raw}
-use Rattle.rules.specs.Eval.{Ran as Run, visit, leaf, refuse_missing, not_found, number_of, parse_text, argument_value, eval_argument, wrong_position, placed_value, positional_value, eval_positional}
+use Rattle.rules.specs.Eval.{Ran as Run, visit, leaf, refuse_missing, not_found, number_of, parse_text, argument_value, eval_argument, wrong_position, placed_value, positional_value}
+use Rattle.rules.specs.Eval.{eval_positional}
 use Rattle.rules.specs.Eval.{fewer, swallowed, ended, after, ◌then◌, guarded, eval_guard, eval}
 use Rattle.rules.specs.Sound.{Good, is_named, is_read, well_built}
 use Rattle.rules.proofs.Nodes.{named_shown}
@@ -44,7 +44,7 @@ use Rattle.eval_combine.specs.Made.{ChildGiven, Undone, OptionalOf}
 use Rattle.eval_combine.specs.declared.Optioned.{Optioned}
 use Rattle.eval_shortcut.specs.Children.{Wraps, Wrapped}
 use Rattle.eval_shortcut.specs.Marks.{undoes, is_non_strict, keeps_leaf, keeps_under, keeps_marks, HasTree}
-use Rattle.eval_shortcut.proofs.Trees.{kind_number, node_inside, sound_at, argument_tree, positional_tree, guard_tree, tree_number}
+use Rattle.eval_shortcut.proofs.Trees.{kind_number, sound_at, argument_tree, positional_tree, guard_tree, tree_number}
 use Rattle.eval_shortcut.specs.Children.{NodeSays}
 use Rattle.eval_shortcut.proofs.Steps.{child_runs, child_told, optional_given, optional_ends}
 use Rattle.eval_shortcut.proofs.Undone.{state_kept, undone_same}
@@ -57,7 +57,7 @@ Plain (refused e) = (e.number ≡ 21 → ⊥) × (e.number ≡ 24 → ⊥)
 Plain (fault x) = Unit {0}
 
 plain_missing : (unnamed : Spot) (n : ℕ) (names : Named) (s : State) → is_named names ≡ true → Plain (not_found unnamed n names s)
-unfolding not_found refuse_missing ◌>>=◌ if◌then◌else◌
+unfolding not_found refuse_missing ◌>>=◌
 plain_missing unnamed n names s h = rw (named_shown names h) (λ e. omega arith, λ e. omega arith)
 
 plain_text : (b : Base) (i : ℕ) (t : List ℕ) (s : State) → Plain (parse_text b i t s)
@@ -76,7 +76,7 @@ plain_argument_lem n names b none s h = plain_missing take_argument679 n names s
 plain_argument_lem n names b (some x) s h = plain_text b x.place x.text s
 
 plain_placed : (q : Position) → (q ≡ non_strict → ⊥) → (b : Base) (x : Operand) (s : State) → Plain (placed_value q b x s)
-unfolding placed_value wrong_position if◌then◌else◌
+unfolding placed_value wrong_position
 plain_placed unrestricted h b x s = plain_text b x.place x.text s
 plain_placed strict h b x s = go x.strict
   where
@@ -174,7 +174,7 @@ module _ (k : ℕ) (told : parsed k ≡ true) (is : List Item) (s : State) (g : 
 
 absent_swallowed : (n : ℕ) (catch : Bool) (given left : ℕ) (len : Option ℕ) → option_way n catch given left len ≡ Absent
     → swallowed catch (refuse n none) (with_remaining given) (with_remaining left) ≡ true
-unfolding option_way if◌then◌else◌
+unfolding option_way
 absent_swallowed n catch given left len =
     go (eqb n 0) (fewer left len) (swallowed catch (refuse n none) (with_remaining given) (with_remaining left))
   where
@@ -185,7 +185,7 @@ absent_swallowed n catch given left len =
     go false f false e = let z : ◌≡◌ {A = ℕ} 0 1 = cc in absurd (omega arith)
 
 absent_refused : (n : ℕ) (catch : Bool) (given left : ℕ) (len : Option ℕ) → option_way n catch given left len ≡ Absent → n ≡ 0 → ⊥
-unfolding option_way if◌then◌else◌
+unfolding option_way
 absent_refused n catch given left len w z = go (fewer left len) (rw z at w)
   where
     go : (f : Bool) → (if f then Counted else Uncounted) ≡ Absent → ⊥
@@ -199,7 +199,7 @@ caught_not n a b c = rw (ne_eqb 20 n (λ e. a (sym e)), ne_eqb 21 n (λ e. b (sy
 -- where no refusal is caught, it was missing, and used nothing
 missing_unused : (n given left : ℕ) → swallowed false (refuse n none) (with_remaining given) (with_remaining left) ≡ true
     → (n ≡ 21 → ⊥) → (n ≡ 24 → ⊥) → left ≡ given
-unfolding swallowed with_remaining is_missing if◌then◌else◌
+unfolding swallowed with_remaining is_missing
 missing_unused n given left e h k = go (eqb n 20) refl e
   where
     go : (t : Bool) → eqb n 20 ≡ t → (if t then eqb given left else can_catch (refuse n none)) ≡ true → left ≡ given
@@ -258,7 +258,7 @@ module _
 
     pub absent_same : (catch : Bool) (len : Option ℕ) → option_way ran.number catch p.remaining ran.numbers.remaining len ≡ Absent
         → keeps_marks catch tree ≡ false → m' ≡ m
-    unfolding keeps_marks if◌then◌else◌
+    unfolding keeps_marks
     absent_same catch len w e = go (undoes tree) refl catch w e
       where
         go :
@@ -309,7 +309,7 @@ module _
 
 -- ---- whose marks are kept, by the node as the code reads it
 leaf_place : (p : ℕ) → leb 2 p ≡ is_non_strict (position_of p)
-unfolding position_of is_non_strict if◌then◌else◌
+unfolding position_of is_non_strict
 leaf_place p = go (eqb p 0) refl (eqb p 1) refl
   where
     go : (c : Bool) → eqb p 0 ≡ c → (d : Bool) → eqb p 1 ≡ d → leb 2 p ≡ is_non_strict (if c then unrestricted else (if d then strict else non_strict))
@@ -361,16 +361,16 @@ module _ (b : List ℕ) (n : ℕ) (y : LaidOut) (h : get_elem? (read_form b).nod
 
 module _ (b : List ℕ) (n : ℕ) (u : Bool) (f : (t : Tree) → tree_at b n ≡ some t → u ≡ undoes t) (catch : Bool) where
   pub keeps_undone : u ≡ true → (t : Tree) → tree_at b n ≡ some t → false ≡ keeps_marks catch t
-  unfolding keeps_marks if◌then◌else◌
+  unfolding keeps_marks
   keeps_undone e t q = rw (← f t q, e)
 
   pub keeps_caught : u ≡ false → catch ≡ true → (t : Tree) → tree_at b n ≡ some t → true ≡ keeps_marks catch t
-  unfolding keeps_marks if◌then◌else◌
+  unfolding keeps_marks
   keeps_caught e c t q = rw (← f t q, e, c)
 
   module _ (e : u ≡ false) (c : catch ≡ false) where
     keeps_by : (t : Tree) → tree_at b n ≡ some t → keeps_under t ≡ keeps_marks catch t
-    unfolding keeps_marks if◌then◌else◌
+    unfolding keeps_marks
     keeps_by t q = rw (← f t q, e, c)
 
     module _ (y : LaidOut) (h : get_elem? (read_form b).nodes n ≡ some (node_of y)) where

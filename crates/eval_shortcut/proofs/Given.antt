@@ -7,13 +7,14 @@ use Prim.Native.Nat.{ℕ, ◌+◌, ◌%◌, ◌≤◌, ◌<◌}
 use native.Mathlib.Omega.{arith}
 use lib.Dec.{leb, eqb}
 use lib.ListN.{get_elem?}
-use Rattle.utf8.specs.Utf8.{if◌then◌else◌}
+use Rattle.std.specs.Prelude.{if◌then◌else◌}
 use Rattle.rules.specs.Base.{is_some, ◌>>?◌}
 use Rattle.rules.specs.Value.{Base, text, number, Kind, one, optional, list, list_of_optional, optional_list, BaseValue, base_of}
 use Rattle.rules.specs.Form.{node_count, read_form}
 use Rattle.rules.specs.Sheet.{sheet_area, sheet_fault}
 use Rattle.rules.specs.Tree as rules
-use Rattle.rules.specs.Tree.{Tree, Flag, Argument, Positional, Optional, Count, Last, Choice, Fallback, Guard, optional_kind, list_kind, count_kind, last_kind, shape_of, kind_of, position_of}
+use Rattle.rules.specs.Tree.{Tree, Flag, Argument, Positional, Optional, Count, Last, Choice, Fallback, Guard, optional_kind, list_kind, count_kind, last_kind, shape_of, kind_of}
+use Rattle.rules.specs.Tree.{position_of}
 use Rattle.rules.specs.Split.{Item}
 use Rattle.rules.specs.State.{parsed}
 use Rattle.rules.specs.Take.{matches_arg, is_operand}

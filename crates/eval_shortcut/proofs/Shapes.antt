@@ -13,7 +13,8 @@ use Rattle.rules.specs.Value.{Kind, one, optional, list, list_of_optional, optio
 use Rattle.rules.specs.Form.{Node, Form, read_form}
 use Rattle.rules.specs.Tree.{Tree, optional_kind, list_kind, count_kind, last_kind, shape_of, kind_of}
 use Rattle.rules.specs.Accept.{Accepted, accepted, check_form}
-use Rattle.rules.proofs.Acceptance.{Made, flag_made, argument_made, positional_made, optional_made, many_made, some_made, count_made, last_made, choice_made, fallback_made, guard_made, Child, TreeAt}
+use Rattle.rules.proofs.Acceptance.{Made, flag_made, argument_made, positional_made, optional_made, many_made, some_made, count_made, last_made, choice_made, fallback_made, guard_made}
+use Rattle.rules.proofs.Acceptance.{Child, TreeAt}
 use Rattle.rules.proofs.Acceptance.{TreesAt, trees_made, accepted_passed}
 use Rattle.rules.proofs.KindLaws.{choice_kind_lem, base_kind_lem}
 use Rattle.form_layout.specs.Layout.{node_of}

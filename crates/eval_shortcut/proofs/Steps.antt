@@ -9,9 +9,10 @@ use native.Mathlib.Omega.{arith}
 use lib.Dec.{eqb}
 use lib.ListN.{length}
 use borrow.Author.Tests.{eqb-true, eqb-false}
-use Rattle.utf8.specs.Utf8.{if◌then◌else◌}
+use Rattle.std.specs.Prelude.{if◌then◌else◌}
 use Rattle.rules.specs.Outcome.{Outcome, ok, refused, fault, Refusal}
-use Rattle.rules.specs.Value.{Base, number, Kind, one, optional, list, list_of_optional, optional_list, BaseValue, Value, base, absent, present, nil, cons, is_base, has_kind, word, words, of_kind}
+use Rattle.rules.specs.Value.{Base, number, Kind, one, optional, list, list_of_optional, optional_list, BaseValue, Value, base, absent, present, nil, cons, is_base, has_kind, word, words}
+use Rattle.rules.specs.Value.{of_kind}
 use Rattle.rules.specs.Sheet.{sheet_area}
 use Rattle.rules.specs.Base.{is_some, ◌>>?◌}
 use Rattle.rules.specs.Tree.{Tree, Optional, Choice, Fallback, Guard, optional_kind, shape_of, kind_of, has_repeat}
@@ -48,7 +49,7 @@ ran r o = record { outcome = o; state = r.state; tries = r.tries; trace = r.trac
 -- ---- the words of a value that is no list
 -- at most one word: as many as `len` says
 short_len : (len word : ℕ) → length (scalar_words len word) ≤ 1 → len ≡ length (scalar_words len word)
-unfolding scalar_words if◌then◌else◌
+unfolding scalar_words
 short_len len word = go (eqb len 0) refl (eqb len 1) refl
   where
     go :
@@ -90,15 +91,15 @@ base_word n b r x = go r.outcome
     go (fault f) k e q = absurd k
 
 words_none : (len word : ℕ) → len ≡ 0 → [] ≡ scalar_words len word
-unfolding scalar_words if◌then◌else◌
+unfolding scalar_words
 words_none len word e = rw e
 
 words_absent : (len word : ℕ) → len ≡ 1 → word ≡ 0 → 0 ∷ [] ≡ scalar_words len word
-unfolding scalar_words if◌then◌else◌
+unfolding scalar_words
 words_absent len word e q = rw (e, q)
 
 words_present : (l w len word : ℕ) → l ≡ 1 → len ≡ l + 1 → word ≡ w → 1 ∷ scalar_words l w ≡ scalar_words len word
-unfolding scalar_words if◌then◌else◌
+unfolding scalar_words
 words_present l w len word e q k = rw (q, e, k)
 
 words_same : (l w len word : ℕ) → len ≡ l → word ≡ w → scalar_words l w ≡ scalar_words len word
@@ -114,7 +115,7 @@ unfolding state_of from_raw
 few_left m p f = let h = remaining_within p.count (state_of m p) f.good in omega (arith, f.small)
 
 most_few : (t : Tree) (r : ℕ) → leaves t ≤ 64 → r ≤ 256 → most t r ≤ 16512
-unfolding most if◌then◌else◌
+unfolding most
 most_few t r l h = go (has_repeat t)
   where
     product : (r + 2) * leaves t ≤ 258 * 64
@@ -188,7 +189,7 @@ optional_present :
     → y.number ≡ 0
     → y.words ≡ 1 ∷ w
     → x.number ≡ 0
-unfolding told eval_optional parse_option ◌then◌ after ended words if◌then◌else◌
+unfolding told eval_optional parse_option ◌then◌ after ended words
 optional_present catch s r x y w = go r.outcome
   where
     swallows :
@@ -284,7 +285,7 @@ module _
         optioned = h.same child (scalar_words ran.len ran.word) numbered tells
 
         present_one : o.ran.number ≡ 0 → o.present ≡ true → ran.len ≡ 1
-        unfolding kind_of optional_words if◌then◌else◌
+        unfolding kind_of optional_words
         present_one e q =
             let k = under_optional (kind_of z.below.stands.tree) z.below.scalar z.sound.kind in
             let w : optional_words o.ran.number o.present (scalar_words ran.len ran.word) ≡ 1 ∷ scalar_words ran.len ran.word = rw (e, q) in
@@ -292,7 +293,7 @@ module _
             len ∙ base_one b known s words m p mark n z.below m₁ ran said k.0 k.1 zero
 
         same_words : optional_words o.ran.number o.present (scalar_words ran.len ran.word) ≡ scalar_words o.ran.len o.ran.word
-        unfolding optional_words if◌then◌else◌
+        unfolding optional_words
         same_words = go (eqb o.ran.number 0) refl o.present refl
           where
             go :
@@ -394,7 +395,7 @@ module _
 
     module _ (m' : List ℕ) (o : Chosen) (h : ChoiceOf m p m₁ x m₂ y m' o) where
       chosen_words : choice_words o.ran.number o.first (scalar_words x.len x.word) (scalar_words y.len y.word) ≡ scalar_words o.ran.len o.ran.word
-      unfolding choice_words if◌then◌else◌
+      unfolding choice_words
       chosen_words = go (eqb o.ran.number 0) refl o.first refl
         where
           go :

@@ -8,7 +8,7 @@ use native.Mathlib.Omega.{arith}
 use lib.Dec.{leb, eqb}
 use lib.ListN.{length, take, get_elem?}
 use borrow.Author.Tests.{eqb-true}
-use Rattle.utf8.specs.Utf8.{if◌then◌else◌}
+use Rattle.std.specs.Prelude.{if◌then◌else◌}
 use Rattle.rules.specs.Base.{is_some, contains, ◌>>?◌}
 use Rattle.rules.specs.Value.{text, number, Kind, one, optional, list, list_of_optional, optional_list, BaseValue}
 use Rattle.rules.specs.Form.{Node, Form, node_count, name_count, read_form}
@@ -164,7 +164,7 @@ module _ (b : List ℕ) (n : ℕ) (t : Tree) (e : tree_at b n ≡ some t) where
         record { place = k; same = ap (make k) (sym same) ∙ some-injective (make k m) t z; inside = room }
 
     pub flag_tree : x.kind ≡ 1 → Leaf (λ k m. Flag k m (eqb x.r 1)) b x.p x.q t
-    unfolding flag_of if◌then◌else◌
+    unfolding flag_of
     flag_tree q =
         named_leaf (λ k m. Flag k m (eqb x.r 1)) (length below)
         (if_some (leb x.r 1 && zeros (x.lo ∷ x.hi ∷ [])) _ (made_by 1 q)).1
@@ -172,7 +172,7 @@ module _ (b : List ℕ) (n : ℕ) (t : Tree) (e : tree_at b n ≡ some t) where
     pub argument_tree :
         x.kind ≡ 2
         → Leaf (λ k m. Argument k m (if leb 2 x.r then number else text) (eqb (x.r % 2) 1)) b x.p x.q t
-    unfolding argument_of if◌then◌else◌
+    unfolding argument_of
     argument_tree q =
         named_leaf (λ k m. Argument k m (if leb 2 x.r then number else text) (eqb (x.r % 2) 1)) (length below)
         (if_some (leb x.r 3 && zeros (x.lo ∷ x.hi ∷ [])) _ (made_by 2 q)).1
@@ -180,7 +180,7 @@ module _ (b : List ℕ) (n : ℕ) (t : Tree) (e : tree_at b n ≡ some t) where
     pub positional_tree :
         x.kind ≡ 3
         → (k : ℕ) × (Positional k (position_of x.p) (if eqb x.r 2 then number else text) ≡ t)
-    unfolding positional_of if◌then◌else◌
+    unfolding positional_of
     positional_tree q =
         let good = leb x.p 2 && contains (0 ∷ 2 ∷ []) x.r && zeros (x.q ∷ x.lo ∷ x.hi ∷ []) in
         (length below, some-injective _ t (if_some good _ (made_by 3 q)).1)
@@ -199,22 +199,20 @@ module _ (b : List ℕ) (n : ℕ) (t : Tree) (e : tree_at b n ≡ some t) where
         record { child = c; less = p.0; node = p.1; same = same c z }
 
     pub optional_tree : x.kind ≡ 4 → Single (Optional (eqb x.r 1)) b n x.p t
-    unfolding caught_of if◌then◌else◌
+    unfolding caught_of
     optional_tree q =
         single (Optional (eqb x.r 1)) (x.lo ∷ x.hi ∷ []) (λ c. fitting (Optional (eqb x.r 1) c))
         (λ c. fitting_is (Optional (eqb x.r 1) c) t)
         (if_some (leb x.r 1) _ (made_by 4 q)).1
 
     pub count_tree : x.kind ≡ 7 → Single Count b n x.p t
-    unfolding if◌then◌else◌
     count_tree q = single Count (x.r ∷ x.lo ∷ x.hi ∷ []) (repeat_of Count) (λ c. repeat_is Count c t) (made_by 7 q)
 
     pub last_tree : x.kind ≡ 8 → Single Last b n x.p t
-    unfolding if◌then◌else◌
     last_tree q = single Last (x.r ∷ x.lo ∷ x.hi ∷ []) (repeat_of Last) (λ c. repeat_is Last c t) (made_by 8 q)
 
     pub choice_tree : x.kind ≡ 9 → Double b n x.p x.q t
-    unfolding choice_of if◌then◌else◌
+    unfolding choice_of
     choice_tree q =
         let a = if_some (zeros (x.r ∷ x.lo ∷ x.hi ∷ [])) (get_elem? below x.p >>? λ c. get_elem? below x.q >>? λ d. fitting (Choice c d)) (made_by 9 q) in
         let (c, g, z) = bind_some (get_elem? below x.p) (λ c. get_elem? below x.q >>? λ d. fitting (Choice c d)) a.1 in
@@ -224,7 +222,7 @@ module _ (b : List ℕ) (n : ℕ) (t : Tree) (e : tree_at b n ≡ some t) where
         record { first = c; second = d; less = l.0; less₂ = r.0; node = l.1; node₂ = r.1; same = fitting_is (Choice c d) t w }
 
     pub fallback_tree : x.kind ≡ 10 → Fallen b n x.p t
-    unfolding child_of fallback_of if◌then◌else◌
+    unfolding child_of fallback_of
     fallback_tree q =
         let f = read_form b in
         let a = if_some (zeros (x.q ∷ [])) (get_elem? below x.p >>? fallback_of f x) (made_by 10 q) in
@@ -235,7 +233,7 @@ module _ (b : List ℕ) (n : ℕ) (t : Tree) (e : tree_at b n ≡ some t) where
         record { own = v; single = record { child = c; less = l.0; node = l.1; same = fitting_is (Fallback v c) t w } }
 
     pub guard_tree : x.kind ≡ 11 → Single (Guard x.lo x.hi) b n x.p t
-    unfolding if◌then◌else◌ guard_of
+    unfolding guard_of
     guard_tree q =
         single (Guard x.lo x.hi) (x.r ∷ []) (guard_of x)
         (λ c z. fitting_is (Guard x.lo x.hi c) t (if_some (leb x.lo x.hi) _ z).1)

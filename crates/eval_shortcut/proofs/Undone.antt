@@ -8,7 +8,7 @@ use native.Mathlib.Omega.{arith}
 use lib.Dec.{leb, eqb, ltb}
 use lib.ListN.{length, take, drop, get_elem?, length-drop, take-append-drop}
 use borrow.Author.Tests.{lt-ltb, le-ltb, eqb-true, leb-true, leb-false}
-use Rattle.utf8.specs.Utf8.{if◌then◌else◌}
+use Rattle.std.specs.Prelude.{if◌then◌else◌}
 use Rattle.rules.specs.Base.{all}
 use Rattle.rules.specs.Outcome.{Outcome, ok, refused, fault, ◌>>=◌, at, can_catch, or_else305, or_else307}
 use Rattle.rules.specs.Value.{yes_no, text, number, BaseValue, Value, base}
@@ -53,7 +53,7 @@ kept_same s (fault x) = tt
 -- ---- a flag, and an argument of text
 module _ (k : ℕ) (is : List Item) (s : State) where
   flag_undone : (n : ℕ) (names : Named) (switch : Bool) → Undone s (eval_flag k is n names switch s)
-  unfolding eval_flag take_flag leaf flag_value took ◌>>=◌ if◌then◌else◌
+  unfolding eval_flag take_flag leaf flag_value took ◌>>=◌
   flag_undone n names switch = go (find is (matches_arg names false) s)
     where
       gone : (o : Outcome State) → Undone s (leaf s (o >>= λ t. took true t) (flag_value n names switch))
@@ -221,7 +221,7 @@ module _
 
 -- ---- who undoes, by the node as the code reads it
 text_below : (r : ℕ) → ltb r 2 ≡ takes_text (if leb 2 r then number else text)
-unfolding takes_text if◌then◌else◌
+unfolding takes_text
 text_below r = go (leb 2 r) refl
   where
     go : (c : Bool) → leb 2 r ≡ c → ltb r 2 ≡ takes_text (if c then number else text)

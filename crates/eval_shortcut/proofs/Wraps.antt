@@ -9,7 +9,6 @@ use native.Mathlib.Omega.{arith}
 use lib.Dec.{leb, eqb}
 use lib.ListN.{get_elem?}
 use Rattle.rules.specs.Value.{number}
-use Rattle.utf8.specs.Utf8.{if◌then◌else◌}
 use Rattle.rules.specs.Form.{Node, read_form}
 use Rattle.rules.specs.Sheet.{sheet_area}
 use Rattle.rules.specs.Tree.{Tree, Flag, Argument, Positional, Optional, Many, Some, Count, Last, Choice, Fallback, Guard, kind_of}
@@ -72,11 +71,11 @@ module _ (b : List ℕ) (n : ℕ) (x : LaidOut) (h : get_elem? (read_form b).nod
   is_leaf_by = rw (← tree_number b n t e (node_of x) h) (leaf_number t)
 
   below_yes : starts_below t ≡ true → x.p ≡ leaf_below b n t
-  unfolding leaf_below if◌then◌else◌
+  unfolding leaf_below
   below_yes z = rw (h, leaf_below, z)
 
   below_no : starts_below t ≡ false → n ≡ leaf_below b n t
-  unfolding leaf_below if◌then◌else◌
+  unfolding leaf_below
   below_no z = rw (h, leaf_below, z)
 
   module _ (leaf : Bool) (f : (c : Tree) → tree_at b x.p ≡ some c → leaf ≡ is_leaf c) where

@@ -2,7 +2,7 @@
 use Rattle.std.specs.Prelude.{Bool, false, not, ◌&&◌, List, ◌⊎◌, ◌≡◌, ℕ, ◌<◌, eqb}
 use Rattle.std.proofs.Math.Option.{some, none}
 use Rattle.std.proofs.Math.ListN.{get_elem?}
-use Rattle.utf8.specs.Utf8.{if◌then◌else◌}
+use Rattle.std.specs.Prelude.{if◌then◌else◌}
 use Rattle.rules.specs.Value.{BaseValue}
 use Rattle.rules.specs.Form.{read_form}
 use Rattle.rules.specs.Sheet.{sheet_area}

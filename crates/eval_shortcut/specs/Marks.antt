@@ -1,7 +1,7 @@
 -- Which nodes leave the marks as they were.
 use Rattle.std.specs.Prelude.{Bool, true, false, List, ◌≡◌, ℕ}
 use Rattle.std.proofs.Math.Option.{some}
-use Rattle.utf8.specs.Utf8.{if◌then◌else◌}
+use Rattle.std.specs.Prelude.{if◌then◌else◌}
 use Rattle.rules.specs.Value.{Base, yes_no, text, number}
 use Rattle.rules.specs.Tree.{Position, unrestricted, strict, non_strict, Tree, Flag, Argument, Positional, Optional, Many, Some, Count, Last, Choice, Fallback, Guard}
 use Rattle.eval_told.specs.Nodes.{tree_at}

@@ -1,5 +1,6 @@
 // What is known of a node before it is run, and what a node makes of the result of the leaf beneath it.
 #![tactic(auto)]
+
 ghost use Rattle.std.specs.Prelude.{◌≡◌, true, not};
 ghost use Rattle.std.proofs.Math.Option.{some};
 ghost use Rattle.rules.specs.Tree.{Tree, kind_of};

@@ -1,7 +1,7 @@
 -- What the answers of the decisions stand for.
 use Rattle.std.specs.Prelude.{◌≡◌, Bool, true, false, List, [], ℕ, eqb}
 use Rattle.std.proofs.Math.Option.{Option, some, none}
-use Rattle.utf8.specs.Utf8.{if◌then◌else◌}
+use Rattle.std.specs.Prelude.{if◌then◌else◌}
 use Rattle.rules.specs.Outcome.{Outcome, ok, refused, fault, at, or_else305, or_else307, refuse, can_catch}
 use Rattle.rules.specs.Value.{BaseValue, is_number, Value, base, list_of}
 use Rattle.rules.specs.State.{State, Picked, pick_winner}

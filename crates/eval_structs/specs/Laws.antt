@@ -7,7 +7,7 @@ use mathlib.Core.List.{List, [], ◌∷◌}
 use Rattle.std.proofs.Math.Option.{Option, some, none}
 use Rattle.std.proofs.Math.ListN.{length}
 use borrow.Author.Tests.{ne_eqb}
-use Rattle.utf8.specs.Utf8.{if◌then◌else◌}
+use Rattle.std.specs.Prelude.{if◌then◌else◌}
 use Rattle.rules.specs.Base.{null}
 use Rattle.rules.specs.Outcome.{Spot, or_else305, or_else307, Outcome, ok, refused, fault, at, Refusal, refuse, is_missing, can_catch, wrong_input, combine_with}
 use Rattle.rules.specs.Value.{BaseValue, Value, base, list_of}
@@ -19,15 +19,16 @@ use Rattle.eval_structs.specs.declared.Counting.TheVariants.{Counted, Uncounted,
 use Rattle.eval_structs.specs.declared.Fallback.TheVariants.{Own, Refusal as Passed}
 use Rattle.eval_structs.specs.declared.Pick.{Pick}
 use Rattle.eval_structs.specs.declared.Pick.TheVariants.{First, Second, Winner, Neither}
-use Rattle.eval_structs.specs.Decisions.{with_remaining, counted_of, option_way, some_of, option_by, some_by, fallback_way, fallback_by, EndedBy, forgotten, pick_by, chosen_by, forgotten_ran}
+use Rattle.eval_structs.specs.Decisions.{with_remaining, counted_of, option_way, some_of, option_by, some_by, fallback_way, fallback_by, EndedBy, forgotten, pick_by, chosen_by}
+use Rattle.eval_structs.specs.Decisions.{forgotten_ran}
 
 -- ---- what was counted last
 pub counted_none : counted_of 4294967295 ≡ none
-unfolding counted_of if◌then◌else◌
+unfolding counted_of
 counted_none = refl
 
 pub counted_some : (n : ℕ) → n < 4294967295 → counted_of n ≡ some n
-unfolding counted_of if◌then◌else◌
+unfolding counted_of
 counted_some n h = rw (ne_eqb n 4294967295 (λ e. omega arith))
 
 -- ---- only `remaining` counts
@@ -45,7 +46,7 @@ module _ (catch : Bool) (len : Option ℕ) (s : State) (r : Ran Value) where
       (v : Value)
       → r.outcome ≡ ok v
       → parse_option catch len s r ≡ option_by (option_way 0 catch s.remaining r.state.remaining len) s r
-  unfolding parse_option option_way option_by some_of if◌then◌else◌
+  unfolding parse_option option_way option_by some_of
   option_ok v h = rw h (go (fewer r.state.remaining len))
     where
       go :
@@ -60,7 +61,7 @@ module _ (catch : Bool) (len : Option ℕ) (s : State) (r : Ran Value) where
       → r.outcome ≡ refused e
       → (e.number ≡ 0 → ⊥)
       → parse_option catch len s r ≡ option_by (option_way e.number catch s.remaining r.state.remaining len) s r
-  unfolding parse_option option_way option_by some_of swallowed wrong_input is_missing can_catch with_remaining if◌then◌else◌
+  unfolding parse_option option_way option_by some_of swallowed wrong_input is_missing can_catch with_remaining
   option_refused e h n = rw (h, ne_eqb e.number 0 n) (go (swallowed catch e s r.state))
     where
       go :
@@ -73,7 +74,7 @@ module _ (catch : Bool) (len : Option ℕ) (s : State) (r : Ran Value) where
 -- ---- fallback, after a success and after a refusal
 module _ (v : BaseValue) (s : State) (r : Ran Value) where
   pub fallback_ok : (w : Value) → r.outcome ≡ ok w → eval_fallback v s r ≡ fallback_by (fallback_way 0) v s r
-  unfolding eval_fallback fallback_way fallback_by if◌then◌else◌
+  unfolding eval_fallback fallback_way fallback_by
   fallback_ok w h = rw h
 
   pub fallback_refused :
@@ -81,7 +82,7 @@ module _ (v : BaseValue) (s : State) (r : Ran Value) where
       → r.outcome ≡ refused e
       → (e.number ≡ 0 → ⊥)
       → eval_fallback v s r ≡ fallback_by (fallback_way e.number) v s r
-  unfolding eval_fallback fallback_way fallback_by can_catch if◌then◌else◌
+  unfolding eval_fallback fallback_way fallback_by can_catch
   fallback_refused e h n = rw (h, ne_eqb e.number 0 n) (go (can_catch e))
     where
       go :
@@ -111,7 +112,7 @@ module _
     given = repeated catch false run s
 
     pub some_none : length vs ≡ 0 → eval_some catch run s ≡ (given then some_by 21)
-    unfolding eval_some some_by ended null if◌then◌else◌
+    unfolding eval_some some_by ended null
     some_none e = then_alike given _ (some_by 21) vs h (go vs e)
       where
         go :
@@ -122,7 +123,7 @@ module _
         go (w ∷ ws) z = absurd (omega arith)
 
     pub some_any : (length vs ≡ 0 → ⊥) → eval_some catch run s ≡ (given then some_by 0)
-    unfolding eval_some some_by ended null if◌then◌else◌
+    unfolding eval_some some_by ended null
     some_any e = then_alike given _ (some_by 0) vs h (go vs e)
       where
         go :
@@ -143,7 +144,6 @@ if_forgets :
     → forgotten_ran q ≡ q
     → forgotten_ran r ≡ r
     → forgotten_ran (if t then q else r) ≡ (if t then q else r)
-unfolding if◌then◌else◌
 if_forgets true q r h k = h
 if_forgets false q r h k = k
 
@@ -163,7 +163,7 @@ module _ (s : State) (a b : Ran Value) where
   by_forgets (fault x) = refl
 
   by_pick : (r : Pick) → by (pick_by r a.state b.state) ≡ chosen_by r s a b
-  unfolding by pick_by chosen_by picked side won if◌then◌else◌
+  unfolding by pick_by chosen_by picked side won
   by_pick First = refl
   by_pick Second = refl
   by_pick Winner = refl
@@ -200,7 +200,7 @@ pub picks_two :
     → y.number ≡ 0
     → r ≡ (if eqb g l && eqb g m then First else Winner)
     → Picks o u s a b x y g l m r
-unfolding picks_first forgotten pick_by side if◌then◌else◌
+unfolding picks_first forgotten pick_by side
 picks_two (ok v) (ok w') s a b x y g l m r z w i h k p q t = rw (i, same p q, same p t) (go (eqb g l && eqb g m))
   where
     go : (u : Bool) → forgotten (if u then side true none else ok (pick_winner a b)) ≡ pick_by (if u then First else Winner) a b
@@ -217,7 +217,7 @@ pub picks_first_lem :
     → (y.number ≡ 0 → ⊥)
     → r ≡ (if eqb g l && wrong_input (refuse y.number none) then Neither y else First)
     → Picks o u s a b x y g l m r
-unfolding picks_first forgotten pick_by side if◌then◌else◌
+unfolding picks_first forgotten pick_by side
 picks_first_lem (ok v) (ok w') s a b x y g l m r z w i h k p q t = absurd (w k)
 picks_first_lem (ok v) (refused e) s a b x y g l m r z w i h k p q t =
     rw (i, same p q, wrong_number e y k.0) (go (eqb g l && wrong_input (refuse y.number none)))
@@ -235,7 +235,7 @@ pub picks_second :
     → y.number ≡ 0
     → r ≡ (if eqb g m && wrong_input (refuse x.number none) then Neither x else Second)
     → Picks o u s a b x y g l m r
-unfolding picks_first forgotten pick_by side if◌then◌else◌
+unfolding picks_first forgotten pick_by side
 picks_second (ok v) u s a b x y g l m r z w i h k p q t = absurd (z h)
 picks_second (refused e) (ok w') s a b x y g l m r z w i h k p q t =
     rw (i, same p t, wrong_number e x h.0) (go (eqb g m && wrong_input (refuse x.number none)))

@@ -1,8 +1,9 @@
 // What each combinator decides, from numbers alone: the run only calls and hands on. A number is 0 for a success, else the refusal's.
 #![tactic(auto)]
+
 ghost use Rattle.std.proofs.Math.Option.{none};
 ghost use Rattle.std.specs.Prelude.{◌≡◌, Bool, true, false, not, ◌&&◌, List, eqb, length};
-ghost use Rattle.utf8.specs.Utf8.{if◌then◌else◌};
+ghost use Rattle.std.specs.Prelude.{if◌then◌else◌};
 ghost use Rattle.rules.specs.Outcome.{Outcome, ok, refuse, wrong_input};
 ghost use Rattle.rules.specs.Value.{Value, base, is_number};
 ghost use Rattle.rules.specs.State.{State};

@@ -6,7 +6,7 @@ use mathlib.Core.Path.{◌≡◌, refl, sym, ◌∙◌, ap, ap₂, subst}
 use Prim.Native.Nat.{ℕ, suc, ◌+◌}
 use native.Mathlib.Omega.{arith}
 use lib.ListN.{length}
-use Rattle.utf8.specs.Utf8.{if◌then◌else◌}
+use Rattle.std.specs.Prelude.{if◌then◌else◌}
 use Rattle.rules.specs.Base.{null}
 use Rattle.rules.specs.Outcome.{Outcome, ok, refused, fault, Refusal, refuse}
 use Rattle.rules.specs.Value.{Value, base, is_number, list_of, word, words, elements, size}
@@ -266,7 +266,7 @@ module _ (f : State → Run Value) (s : State) (x : ToldList) where
         x.number ≡ 0
         → (length x.values ≡ 0 → ⊥)
         → told (eval_some catch f s) ≡ some (list_told x (length x.values ∷ flatten x.values))
-    unfolding eval_some told ended null if◌then◌else◌
+    unfolding eval_some told ended null
     some_value z l =
         list_value_on (repeated catch false f s) x h nb (λ vs. if null vs then refused (refuse 21 none) else ok (list_of vs))
         (length x.values ∷ flatten x.values) z
@@ -286,7 +286,7 @@ module _ (f : State → Run Value) (s : State) (x : ToldList) where
         → length x.values ≡ 0
         → told (eval_some catch f s)
         ≡ some (record { number = 21; place = 0; tries = x.tries; words = []; state = x.state })
-    unfolding eval_some told ended null if◌then◌else◌
+    unfolding eval_some told ended null
     some_none z l =
         let r = repeated catch false f s in
         let d = list_value r x h nb z in

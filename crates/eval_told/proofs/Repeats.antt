@@ -7,7 +7,7 @@ use Prim.Native.Nat.{ℕ, zero, suc, ◌+◌}
 use native.Mathlib.Omega.{arith}
 use lib.Dec.{eqb}
 use borrow.Author.Tests.{eq-eqb, eqb-true}
-use Rattle.utf8.specs.Utf8.{if◌then◌else◌}
+use Rattle.std.specs.Prelude.{if◌then◌else◌}
 use Rattle.rules.specs.Outcome.{Outcome, ok, refused, fault, Refusal, refuse}
 use Rattle.rules.specs.Value.{Value, words}
 use Rattle.rules.specs.Codes.{place_code}
@@ -151,7 +151,7 @@ is_success Absent = false
 is_success PassedOn = false
 
 way_number : (n : ℕ) (catch : Bool) (given left : ℕ) (len : Option ℕ) → is_success (option_way n catch given left len) ≡ eqb n 0
-unfolding option_way is_success if◌then◌else◌
+unfolding option_way is_success
 way_number n catch given left len = go (eqb n 0) (fewer left len) (swallowed catch (refuse n none) (with_remaining given) (with_remaining left))
   where
     go :
@@ -305,7 +305,7 @@ module _
 
     -- one of `count` and `last` that used nothing
     pub turn_idle : idle stops s x.state ≡ true → Way catch len s (f s) x h nb Counted → Counts (ended (ok []) x.state)
-    unfolding if◌then◌else◌ prefixed ended
+    unfolding prefixed ended
     turn_idle i e = counts (λ t. ended (ok []) t) (λ v. rest v) e
       where
         idles : idle stops s (f s).state ≡ true
@@ -318,7 +318,6 @@ module _
         idle stops s x.state ≡ false
         → Way catch len s (f s) x h nb Counted
         → Counts (repeat catch stops fuel (some x.state.remaining) f x.state)
-    unfolding if◌then◌else◌
     turn_counted i e = counts (λ t. repeat catch stops fuel (some t.remaining) f t) (λ v. rest v) e
       where
         idles : idle stops s (f s).state ≡ false

@@ -1,5 +1,5 @@
 -- Nodes of an accepted form.
-use Rattle.std.specs.Prelude.{Bool, false, List, ◌≡◌, ℕ, leb}
+use Rattle.std.specs.Prelude.{Bool, false, List, ℕ, leb}
 use Rattle.std.proofs.Math.Option.{Option, some, none}
 use Rattle.std.proofs.Math.ListN.{get_elem?}
 use Rattle.rules.specs.Value.{Kind}

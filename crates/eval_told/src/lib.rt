@@ -1,5 +1,6 @@
 // How the evaluation of a node ended, as numbers.
 #![tactic(auto)]
+
 ghost use Rattle.std.specs.Prelude.{◌≡◌, ◌+◌, ◌<◌};
 ghost use Rattle.eval_told.specs.Results.{value_ran, refusal_ran, more_tries, written};
 

@@ -9,7 +9,7 @@ use native.Mathlib.Omega.{arith}
 use lib.ListN.{length, length-drop, get_or, set, take, drop, replicate}
 use lib.Seq.{sets, set_comm, set-set, set-get_or, sets-eq, drop_at, length-take-le, take-append_seam}
 use borrow.Author.Tests.{eq-eqb, ne_eqb}
-use Rattle.utf8.specs.Utf8.{if◌then◌else◌}
+use Rattle.std.specs.Prelude.{if◌then◌else◌}
 use Rattle.eval_told.specs.Told.{scalar_words}
 use Rattle.eval_words.specs.Stored.{Put, WroteValue, settled}
 
@@ -66,15 +66,15 @@ sets_read w o o' at n q e h = rw (q, e) (sets_part w o at h)
 
 -- ---- the words of a value
 pub put_none : (o : List ℕ) (at len word : ℕ) → len ≡ 0 → Put o at len word o 0
-unfolding scalar_words if◌then◌else◌
+unfolding scalar_words
 put_none o at len word e = rw e (record { width = refl; same = refl })
 
 pub put_one : (o : List ℕ) (at len word : ℕ) → len ≡ 1 → Put o at len word (set o at word) 1
-unfolding scalar_words if◌then◌else◌
+unfolding scalar_words
 put_one o at len word e = rw e (record { width = refl; same = refl })
 
 pub put_two : (o : List ℕ) (at len word : ℕ) → (len ≡ 0 → ⊥) → (len ≡ 1 → ⊥) → Put o at len word (set (set o at 1) (at + 1) word) 2
-unfolding scalar_words if◌then◌else◌
+unfolding scalar_words
 put_two o at len word a b = record { width = rw (ne_eqb len 0 a, ne_eqb len 1 b); same = rw (ne_eqb len 0 a, ne_eqb len 1 b, add-one at) }
 
 -- ---- where values are written
@@ -84,20 +84,16 @@ pub wrote_put :
     → n ≡ size
     → Put o (at + 1 + n) len word o' r
     → WroteValue writes o (at + 1 + size) len word o' r
-unfolding if◌then◌else◌
 wrote_put writes o at size len word o' r n e k h = rw (e, ← k) (record { width = h.width; same = h.same })
 
 pub wrote_none : (writes : Bool) (o : List ℕ) (at len word : ℕ) → writes ≡ false → WroteValue writes o at len word o 0
-unfolding if◌then◌else◌
 wrote_none writes o at len word e = rw e (record { width = refl; same = refl })
 
 pub zeroed : (writes : Bool) (o : List ℕ) (at size : ℕ) (o' : List ℕ) (n : ℕ) → writes ≡ true → n ≡ size → o' ≡ sets o (at + 1) (replicate n 0)
     → o' ≡ (if writes then sets o (at + 1) (replicate size 0) else o)
-unfolding if◌then◌else◌
 zeroed writes o at size o' n e k h = rw (e, ← k) h
 
 pub untouched : (writes : Bool) (o : List ℕ) (at size : ℕ) → writes ≡ false → o ≡ (if writes then sets o (at + 1) (replicate size 0) else o)
-unfolding if◌then◌else◌
 untouched writes o at size e = rw e
 
 -- ---- words set aside
@@ -126,13 +122,13 @@ shifted o kept at n r k e = e ∙ rw (add-one at, k)
 -- ---- which words of a choice stand
 module _ (o : List ℕ) (at : ℕ) (kept : List ℕ) (n : ℕ) where
   pub settled_refused : (number : ℕ) (first : Bool) → (number ≡ 0 → ⊥) → settled number first o at kept n ≡ sets o at (replicate n 0)
-  unfolding settled if◌then◌else◌
+  unfolding settled
   settled_refused number first z = rw (ne_eqb number 0 z)
 
   pub settled_first : (number : ℕ) (first : Bool) → number ≡ 0 → first ≡ true → settled number first o at kept n ≡ sets (sets o at (replicate n 0)) at kept
-  unfolding settled if◌then◌else◌
+  unfolding settled
   settled_first number first z e = rw (eq-eqb number 0 z, e)
 
   pub settled_second : (number : ℕ) (first : Bool) → number ≡ 0 → first ≡ false → settled number first o at kept n ≡ o
-  unfolding settled if◌then◌else◌
+  unfolding settled
   settled_second number first z e = rw (eq-eqb number 0 z, e)

@@ -1,6 +1,6 @@
 -- What the small functions of a repeat make.
 use Rattle.std.specs.Prelude.{ℕ, ◌+◌, ◌≤◌, ltb}
-use Rattle.utf8.specs.Utf8.{if◌then◌else◌}
+use Rattle.std.specs.Prelude.{if◌then◌else◌}
 use Rattle.state_marks.specs.declared.Numbers.{Numbers}
 use Rattle.eval_told.specs.declared.Ran.{Ran}
 use Rattle.eval_told.specs.Results.{value_ran, refusal_ran}

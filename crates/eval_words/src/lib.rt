@@ -1,8 +1,9 @@
 // The values that a repeat counts, and the words of values in the answer slice: written, set aside, moved and cleared.
 #![tactic(auto)]
+
 ghost use Rattle.std.specs.Prelude.{◌≡◌, true, ◌∷◌, ◌+◌, ◌≤◌, ◌<◌, length, take, drop, replicate};
 ghost use Rattle.std.proofs.lemmas.List.Edits.{sets};
-ghost use Rattle.utf8.specs.Utf8.{if◌then◌else◌};
+ghost use Rattle.std.specs.Prelude.{if◌then◌else◌};
 ghost use Rattle.eval_words.specs.Values.{no_value, OneMoreFits, one_more, ended_with, passed_on, denied_list, counted_values, last_value, next_from};
 ghost use Rattle.eval_words.specs.Stored.{Put, WroteValue, CountedList, Aside, settled};
 

@@ -1,5 +1,6 @@
 // The library for C and Rust: whole forms and lines. A slice is passed as two arguments, the pointer and the count.
 #![tactic(auto)]
+
 ghost use Rattle.std.specs.Prelude.{◌≡◌, length};
 ghost use Rattle.std.proofs.Math.Option.{some};
 ghost use Rattle.rules.specs.Outcome.{ok};

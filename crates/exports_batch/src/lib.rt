@@ -1,5 +1,6 @@
 // The library for C and Rust: batches. It stands apart from `exports` for the reason that `exports_commands` does.
 #![tactic(auto)]
+
 ghost use Rattle.std.specs.Prelude.{◌≡◌, length};
 ghost use Rattle.std.proofs.Math.Option.{some};
 ghost use Rattle.rules.specs.Batch.{run_batch};

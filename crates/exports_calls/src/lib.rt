@@ -1,6 +1,7 @@
 // The library for C and Rust: single calls on states, items, nodes and refusals, and the step through all short sheets. A slice is
 // passed as two arguments, the pointer and the count.
 #![tactic(auto)]
+
 ghost use Rattle.std.specs.Prelude.{◌≡◌, length};
 ghost use Rattle.std.proofs.Math.Option.{some, none};
 ghost use Rattle.rules.specs.Outcome.{refuse, can_catch, wrong_input, combine_with};

@@ -1,6 +1,7 @@
 // The library for C and Rust: tables of commands. It stands apart from `exports`: with a second caller the compiler would leave
 // calls in the run of a single form that it now puts in place.
 #![tactic(auto)]
+
 ghost use Rattle.std.specs.Prelude.{◌≡◌, length};
 ghost use Rattle.std.proofs.Math.Option.{some};
 ghost use Rattle.rules.specs.Commands.{table_forms, entry_at_fault, call_command_form, run_commands};

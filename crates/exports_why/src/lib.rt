@@ -1,6 +1,7 @@
 // The library for C and Rust: what looks at a line that was run, the careful run and why a place was left over. It stands apart from
 // `exports` for the reason that `exports_commands` does.
 #![tactic(auto)]
+
 ghost use Rattle.std.specs.Prelude.{◌≡◌, length};
 ghost use Rattle.std.proofs.Math.Option.{some};
 ghost use Rattle.rules_careful.specs.Careful.{careful as careful_of};

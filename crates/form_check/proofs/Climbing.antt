@@ -12,14 +12,14 @@ use lib.ListN.{length, get_or, get_elem?, drop, replicate, length-map, drop_of_l
 use lib.Seq.{drop-cons, ext_get_or}
 use borrow.Author.Tests.{eq-eqb, ne_eqb, eqb-true, eqb-false}
 use borrow.Author.Count.{below_more}
-use Rattle.utf8.specs.Utf8.{if◌then◌else◌}
 use Rattle.rules.specs.Base.{is_some, numbers, first_fault}
 use Rattle.rules.specs.Form.{Node, Form}
 use Rattle.rules.specs.Codes.{check_code}
 use Rattle.rules.specs.Tree.{Tree, kind_of, tree_of}
 use Rattle.rules.specs.Accept.{refused_at, trees_from}
 use Rattle.rules.specs.declared.Refused.{Refused}
-use Rattle.rules.proofs.Acceptance.{Made, flag_made, argument_made, positional_made, optional_made, many_made, some_made, count_made, last_made, choice_made, fallback_made, guard_made, inside_same}
+use Rattle.rules.proofs.Acceptance.{Made, flag_made, argument_made, positional_made, optional_made, many_made, some_made, count_made, last_made, choice_made, fallback_made, guard_made}
+use Rattle.rules.proofs.Acceptance.{inside_same}
 use Rattle.rules.proofs.Acceptance.{tree_made, lookup_some}
 use Rattle.form_kinds.specs.Known.{code_by, codes, code_at, SoundCodes, Done}
 use Rattle.form_names.specs.Names.{fault_or}
@@ -168,7 +168,7 @@ module _ (f : Form) where
   count k ts b = sym (length-map ts tree_code) ∙ sym (ap length b) ∙ codes_length f k
 
   climb_node : (n k : ℕ) (ts : List Tree) (x : Node) → get_elem? f.nodes k ≡ some x → ((us : List Tree) → Climbs n (suc k) us) → Climbs (suc n) k ts
-  unfolding first_fault numbers if◌then◌else◌
+  unfolding first_fault numbers
   climb_node n k ts x e later b = rw (drop_there f.nodes k x e) (go (eqb (code_at f k) 32) refl)
     where
       code : code_at f k ≡ code_of (tree_of f ts x)

@@ -12,7 +12,6 @@ use lib.ListN.{length, get_or, get_elem?, set, drop, replicate, length-set, leng
 use lib.Seq.{get_or-set_same, get_or-set_other}
 use borrow.Author.Tests.{eq-eqb, ne_eqb, le-leb, lt-leb, lt-ltb, le-ltb, ltb-true, ltb-false, eqb-true, eqb-false}
 use borrow.Author.Count.{below_more}
-use Rattle.utf8.specs.Utf8.{if◌then◌else◌}
 use Rattle.rules.specs.Base.{all, occurrences, numbers, concat_map, first_fault, ◌>>?◌}
 use Rattle.rules.specs.Form.{Node, Form}
 use Rattle.rules.specs.Tree.{Tree}
@@ -28,15 +27,15 @@ use Rattle.form_check.specs.Uses.{added, tally, FieldsCounted}
 
 -- ---- one more use
 pub added_more : (c : List ℕ) (k : ℕ) → k < 64 → get_or c k 0 < 2 → set c k (get_or c k 0 + 1) ≡ added c k
-unfolding added if◌then◌else◌
+unfolding added
 added_more c k l h = rw (lt-ltb k 64 l, lt-ltb (get_or c k 0) 2 h)
 
 pub added_full : (c : List ℕ) (k : ℕ) → k < 64 → 2 ≤ get_or c k 0 → c ≡ added c k
-unfolding added if◌then◌else◌
+unfolding added
 added_full c k l h = rw (lt-ltb k 64 l, le-ltb (get_or c k 0) 2 h)
 
 pub added_outside : (c : List ℕ) (k : ℕ) → 64 ≤ k → c ≡ added c k
-unfolding added if◌then◌else◌
+unfolding added
 added_outside c k h = rw (le-ltb k 64 h)
 
 pub tally_append : (c l m : List ℕ) → tally c (l ++ m) ≡ tally (tally c l) m
@@ -47,16 +46,16 @@ tally_append c (k ∷ l) m = tally_append (added c k) l m
 -- ---- children
 module _ (x : layout.Node) (c : List ℕ) where
   pub children_none : x.kind ≤ 3 → c ≡ tally c (children_of (node_of x))
-  unfolding children_of tally if◌then◌else◌
+  unfolding children_of tally
   children_none h = rw (le-leb x.kind 3 h)
 
   module _ (h : 3 < x.kind) (d : List ℕ) (e : d ≡ added c x.p) where
     pub children_two : x.kind ≡ 9 → (g : List ℕ) → g ≡ added d x.q → g ≡ tally c (children_of (node_of x))
-    unfolding children_of tally if◌then◌else◌
+    unfolding children_of tally
     children_two k g r = rw (lt-leb x.kind 3 h, eq-eqb x.kind 9 k, ← e) r
 
     pub children_one : (x.kind ≡ 9 → ⊥) → d ≡ tally c (children_of (node_of x))
-    unfolding children_of tally if◌then◌else◌
+    unfolding children_of tally
     children_one k = rw (lt-leb x.kind 3 h, ne_eqb x.kind 9 k) e
 
 -- ---- the loop over the fields: those below i are nodes, and are counted
@@ -115,7 +114,7 @@ uses_tally f c d g e r s = s ∙ rw (r, e) (sym (tally_append (replicate 64 0) f
 
 -- ---- the table holds what the rules count, up to 2
 added_length : (c : List ℕ) (k : ℕ) → length (added c k) ≡ length c
-unfolding added if◌then◌else◌
+unfolding added
 added_length c k = go (ltb k 64 && ltb (get_or c k 0) 2) refl
   where
     go : (t : Bool) → (ltb k 64 && ltb (get_or c k 0) 2) ≡ t → length (added c k) ≡ length c
@@ -123,7 +122,7 @@ added_length c k = go (ltb k 64 && ltb (get_or c k 0) 2) refl
     go false e = rw e
 
 added_here : (c : List ℕ) (k : ℕ) → k < 64 → k < length c → get_or c k 0 ≤ 2 → get_or (added c k) k 0 ≡ min 2 (get_or c k 0 + 1)
-unfolding added if◌then◌else◌
+unfolding added
 added_here c k s h l = go (ltb (get_or c k 0) 2) refl
   where
     go : (t : Bool) → ltb (get_or c k 0) 2 ≡ t → get_or (added c k) k 0 ≡ min 2 (get_or c k 0 + 1)
@@ -131,7 +130,7 @@ added_here c k s h l = go (ltb (get_or c k 0) 2) refl
     go false e = rw (lt-ltb k 64 s, e) (omega (arith, ltb-false (get_or c k 0) 2 e))
 
 added_other : (c : List ℕ) (k j : ℕ) → j ≢ k → get_or (added c k) j 0 ≡ get_or c j 0
-unfolding added if◌then◌else◌
+unfolding added
 added_other c k j n = go (ltb k 64 && ltb (get_or c k 0) 2) refl
   where
     go : (t : Bool) → (ltb k 64 && ltb (get_or c k 0) 2) ≡ t → get_or (added c k) j 0 ≡ get_or c j 0
@@ -139,7 +138,7 @@ added_other c k j n = go (ltb k 64 && ltb (get_or c k 0) 2) refl
     go false e = rw e
 
 tally_at : (ks c : List ℕ) (j : ℕ) → j < 64 → j < length c → get_or c j 0 ≤ 2 → get_or (tally c ks) j 0 ≡ min 2 (get_or c j 0 + occurrences j ks)
-unfolding tally occurrences if◌then◌else◌
+unfolding tally occurrences
 tally_at [] c j s h l = omega arith
 tally_at (k ∷ ks) c j s h l =
     ⊎_elim

@@ -9,7 +9,7 @@ use native.Mathlib.Numerals.{add-one}
 use native.Mathlib.Omega.{arith}
 use lib.ListN.{length, drop, replicate}
 use borrow.Author.Tests.{not-true, not-false}
-use Rattle.utf8.specs.Utf8.{if◌then◌else◌}
+use Rattle.std.specs.Prelude.{if◌then◌else◌}
 use Rattle.rules.specs.Base.{numbers, concat_map, first_fault}
 use Rattle.rules.specs.Codes.{check_code}
 use Rattle.rules.specs.Form.{Node, Form, node_count, name_count, area_at, names_at, read_form, read_name, name_good}
@@ -64,7 +64,7 @@ map_same g h e [] = refl
 map_same g h e (a ∷ l) = ap₂ (λ (y : _) (ys : List _). y ∷ ys) (e a) (map_same g h e l)
 
 fault_below : {A : Type 0} (p : A → Bool) (l : List A) (j i : ℕ) → first_fault p j l ≡ some i → i < j + length l
-unfolding first_fault if◌then◌else◌
+unfolding first_fault
 fault_below p [] j i e = absurd (let z : ◌≡◌ {A = ℕ} 0 1 = cc in omega arith)
 fault_below p (a ∷ l) j i e = go (p a) refl e (λ h. fault_below p l (suc j) i h)
   where
@@ -110,12 +110,12 @@ trees_refused f below (x ∷ xs) n k e = go (tree_of f below x) refl (λ t. tree
 
 module _ (b : List ℕ) (g : Bool) (eg : g ≡ length_good b) where
   pub check_length : not g ≡ true → (r : Refused) → r ≡ said 1 0 → r ≡ check_code (check_form b)
-  unfolding check_form if◌then◌else◌
+  unfolding check_form
   check_length z r s = s ∙ rw (← eg, not-true g z)
 
   module _ (z : not g ≡ false) where
     form_records : check_form b ≡ check_records (read_form b)
-    unfolding check_form if◌then◌else◌
+    unfolding check_form
     form_records = rw (← eg, not-false g z)
 
     module _ (i : ℕ) (ei : i ≡ records_fault (read_form b)) (m : ℕ) (em : m ≡ name_count b) where

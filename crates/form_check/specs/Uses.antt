@@ -1,6 +1,6 @@
 -- The greatest code, how often each node is used, and the lowest name record at fault.
 use Rattle.std.specs.Prelude.{Bool, true, ◌&&◌, List, [], ◌∷◌, ◌≡◌, ℕ, ◌+◌, max, ltb, length, get_or, set}
-use Rattle.utf8.specs.Utf8.{if◌then◌else◌}
+use Rattle.std.specs.Prelude.{if◌then◌else◌}
 use Rattle.rules.specs.Base.{all, first_fault}
 use Rattle.rules.specs.Form.{Form, name_good}
 use Rattle.form_names.specs.Names.{fault_or}

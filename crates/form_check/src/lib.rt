@@ -1,5 +1,6 @@
 // The form check.
 #![tactic(auto)]
+
 ghost use Rattle.std.specs.Prelude.{◌≡◌, true, not, List, [], ◌≤◌, ◌<◌, eqb, length, get_or, replicate};
 ghost use Rattle.rules.specs.Base.{numbers, concat_map, first_fault};
 ghost use Rattle.rules.specs.Codes.{check_code};

@@ -11,7 +11,7 @@ use lib.Dec.{eqb, eqb-zero-suc, eqb-suc-suc}
 use lib.ListN.{length, get_or, take, drop, set, get_elem?, replicate, length-map, length-replicate}
 use lib.Seq.{sets, length-sets, sets-eq, take_at, get_or-take}
 use borrow.Author.Tests.{eq-eqb, ne_eqb}
-use Rattle.utf8.specs.Utf8.{if◌then◌else◌}
+use Rattle.std.specs.Prelude.{if◌then◌else◌}
 use Rattle.wire.proofs.Stores.{Stored, stored_first, stored_next, stored_last}
 use Rattle.rules.specs.Base.{contains, same, concat_map}
 use Rattle.rules.specs.Codes.{place_code}
@@ -61,12 +61,12 @@ get_d_of (y ∷ l) (suc i) x e = get_d_of l i x e
 
 module _ (b : List ℕ) (k : ℕ) (x : declared.Name) (e : get_elem? (read_form b).names k ≡ some (name_of x)) where
   pub code_other : (x.kind ≡ 0 → ⊥) → get_elem? (codes_of (read_form b)) k ≡ some 0
-  unfolding codes_of code_of if◌then◌else◌
+  unfolding codes_of code_of
   code_other h = map_at (code_of (read_form b).area) (read_form b).names k (name_of x) e ∙ rw (ne_eqb x.kind 0 h)
 
   pub code_short : x.kind ≡ 0 → (s : List ℕ) → name_bytes_at (read_form b) k ≡ some s → (r : ℕ) → r ≡ place_code (one_character s)
       → get_elem? (codes_of (read_form b)) k ≡ some r
-  unfolding codes_of code_of if◌then◌else◌ name_bytes_at
+  unfolding codes_of code_of name_bytes_at
   code_short h s t r q =
       let z : some (name_bytes (read_form b).area (name_of x)) ≡ some s = rw (e, name_bytes_at) at t in
       let w : name_bytes (read_form b).area (name_of x) ≡ s = cc in
@@ -119,7 +119,7 @@ code_at b codes k x z h e =
 
 short_shape : (t : Bool) (o : Option ℕ) (c : ℕ)
     → contains (if t then (elim o [ none ↦ [] | some d ↦ d ∷ [] ]) else []) c ≡ eqb (if t then place_code o else 0) (suc c)
-unfolding contains if◌then◌else◌
+unfolding contains
 short_shape true none c = sym (eqb-zero-suc c)
 short_shape true (some d) c = or-false (eqb d c) ∙ sym (eqb-suc-suc d c)
 short_shape false o c = sym (eqb-zero-suc c)

@@ -1,7 +1,7 @@
 -- The short names of a form as numbers, a word for each name record.
 use Rattle.std.specs.Prelude.{List, map, ◌≡◌, ℕ, ◌≤◌, eqb, length, take, drop}
 use Rattle.std.proofs.lemmas.List.Edits.{sets}
-use Rattle.utf8.specs.Utf8.{if◌then◌else◌}
+use Rattle.std.specs.Prelude.{if◌then◌else◌}
 use Rattle.rules.specs.Codes.{place_code}
 use Rattle.rules.specs.Form.{Name, Form, name_count, read_form, name_bytes, one_character}
 use Rattle.rules.specs.Tree.{Named, named_by}

@@ -1,15 +1,15 @@
 -- Which node has a node as a child, and which field has it in its tree.
 use mathlib.Core.Path.{◌≡◌, refl, sym, ◌∙◌, ap}
 use mathlib.Core.Bool.{Bool, true, false}
-use mathlib.Core.List.{List, [], ◌∷◌}
+use mathlib.Core.List.{List, ◌∷◌}
 use mathlib.Core.Option.{some, some-injective}
 use Prim.Native.Nat.{ℕ, suc, ◌+◌, ◌≤◌, ◌<◌}
 use native.Mathlib.Numerals.{add-one}
 use native.Mathlib.Omega.{arith}
-use lib.Dec.{leb, eqb}
-use lib.ListN.{length, get_elem?, drop, drop_of_length-le}
+use lib.Dec.{eqb}
+use lib.ListN.{get_elem?, drop, drop_of_length-le}
 use borrow.Author.Tests.{eq-eqb, ne_eqb, le-leb, lt-leb}
-use Rattle.utf8.specs.Utf8.{if◌then◌else◌}
+use Rattle.std.specs.Prelude.{if◌then◌else◌}
 use Rattle.rules.specs.Base.{contains}
 use Rattle.rules.specs.Form.{Node, node_count, field_count, read_form}
 use Rattle.rules.specs.Accept.{children_of, top_from, top_of, index_of, field_of}
@@ -27,12 +27,12 @@ module _ (nodes : List Node) (m n : ℕ) (y : Node) (here : get_elem? nodes m �
   told r e x h = e ∙ ap (λ (z : Node). contains (children_of z) n) (some-injective y x (sym here ∙ h))
 
   pub no_child : y.kind ≤ 3 → HasChild nodes m n false
-  unfolding children_of contains if◌then◌else◌
+  unfolding children_of contains
   no_child l = told false (rw (le-leb y.kind 3 l))
 
   module _ (inner : 3 < y.kind) where
     pub first_child : y.p ≡ n → HasChild nodes m n true
-    unfolding children_of contains if◌then◌else◌
+    unfolding children_of contains
     first_child e = told true (go (eqb y.kind 9) refl)
       where
         go : (b : Bool) → eqb y.kind 9 ≡ b → true ≡ contains (children_of y) n
@@ -41,16 +41,16 @@ module _ (nodes : List Node) (m n : ℕ) (y : Node) (here : get_elem? nodes m �
 
     module _ (other : y.p ≡ n → ⊥) where
       pub only_child : (y.kind ≡ 9 → ⊥) → HasChild nodes m n false
-      unfolding children_of contains if◌then◌else◌
+      unfolding children_of contains
       only_child k = told false (rw (lt-leb y.kind 3 inner, ne_eqb y.kind 9 k, ne_eqb y.p n other))
 
       module _ (k : y.kind ≡ 9) where
         pub second_child : y.q ≡ n → HasChild nodes m n true
-        unfolding children_of contains if◌then◌else◌
+        unfolding children_of contains
         second_child e = told true (rw (lt-leb y.kind 3 inner, eq-eqb y.kind 9 k, ne_eqb y.p n other, eq-eqb y.q n e))
 
         pub neither_child : (y.q ≡ n → ⊥) → HasChild nodes m n false
-        unfolding children_of contains if◌then◌else◌
+        unfolding children_of contains
         neither_child e = told false (rw (lt-leb y.kind 3 inner, eq-eqb y.kind 9 k, ne_eqb y.p n other, ne_eqb y.q n e))
 
 -- ---- one step up
@@ -60,11 +60,9 @@ ClimbsTo nodes m n r = (x : Node) → get_elem? nodes m ≡ some x → r ≡ (if
 
 module _ (nodes : List Node) (m n : ℕ) (b : Bool) (h : HasChild nodes m n b) where
   pub climbs_up : b ≡ true → ClimbsTo nodes m n m
-  unfolding if◌then◌else◌
   climbs_up e x here = rw (← h x here, e)
 
   pub climbs_not : b ≡ false → ClimbsTo nodes m n n
-  unfolding if◌then◌else◌
   climbs_not e x here = rw (← h x here, e)
 
 -- ---- up to the top
@@ -107,13 +105,13 @@ field_first b top = record { within = omega arith; same = omega arith }
 module _ (b : List ℕ) (n top k : ℕ) (t : FieldFrom b top k) (et : top ≡ top_of (read_form b) n) (count : ℕ) (e : count ≡ field_count b) where
   module _ (x : ℕ) (here : get_elem? (read_form b).fields k ≡ some x) where
     pub field_found : x ≡ top → k ≡ field_of (read_form b) n
-    unfolding field_of index_of if◌then◌else◌
+    unfolding field_of index_of
     field_found f =
         let z : top ≡ x = sym f in
         sym (rw (← et) (t.same ∙ rw (drop_below (read_form b).fields k x here, eq-eqb top x z) (omega arith)))
 
     pub field_next : (x ≡ top → ⊥) → k < count → FieldFrom b top (k + 1)
-    unfolding index_of if◌then◌else◌
+    unfolding index_of
     field_next other h = record {
       within = omega arith;
       same = t.same ∙ rw (drop_below (read_form b).fields k x here, ne_eqb top x (λ z. other (sym z)), add-one k) (omega arith);

@@ -1,9 +1,10 @@
 // What a checked form gives: the kind of a node, the field that has it, and the portable mark.
 #![tactic(auto)]
+
 ghost use Rattle.std.specs.Prelude.{◌≡◌, true, ◌≤◌, ◌<◌};
 ghost use Rattle.std.proofs.Math.Option.{some};
 ghost use Rattle.std.proofs.Math.ListN.{get_elem?};
-ghost use Rattle.utf8.specs.Utf8.{if◌then◌else◌};
+ghost use Rattle.std.specs.Prelude.{if◌then◌else◌};
 ghost use Rattle.rules.specs.Base.{contains};
 ghost use Rattle.rules.specs.Codes.{kind_code};
 ghost use Rattle.rules.specs.Form.{Node, Name, node_count, field_count, read_form, portable_name, portable};

@@ -12,11 +12,12 @@ use lib.Dec.{eqb}
 use lib.ListN.{length, get_elem?, drop, set, replicate, length-set, length-replicate, drop_of_length-le}
 use lib.Pow.{pow_mono}
 use lib.Seq.{get_or-set_same, get_or-set_other}
-use Rattle.utf8.specs.Utf8.{if◌then◌else◌}
+use Rattle.std.specs.Prelude.{if◌then◌else◌}
 use Rattle.rules.specs.Form.{Node, Form, node_count, read_form}
 use Rattle.rules.specs.Tree.{Tree}
 use Rattle.rules.specs.Accept.{Accepted, accepted, length_good, check_form}
-use Rattle.rules.proofs.Acceptance.{Child, Made, flag_made, argument_made, positional_made, optional_made, many_made, some_made, count_made, last_made, choice_made, fallback_made, guard_made}
+use Rattle.rules.proofs.Acceptance.{Child, Made, flag_made, argument_made, positional_made, optional_made, many_made, some_made, count_made, last_made, choice_made, fallback_made}
+use Rattle.rules.proofs.Acceptance.{guard_made}
 use Rattle.rules.proofs.Acceptance.{TreeAt, TreesAt, trees_made, accepted_passed, accepted_form, accepted_trees}
 use Rattle.rules_careful.specs.Idle.{may_idle, is_idle_repeat, idle_from, idle_repeats, bit_set}
 use Rattle.form_layout.specs.declared.Node as declared
@@ -29,7 +30,7 @@ use Rattle.form_idle.specs.Idles.{is_by_child, idle_by, repeat_by, said_in}
 -- ---- a node's tree, from what is said of its children
 module _ (f : Form) (ts : List Tree) (k : ℕ) (x : Node) (said : ℕ → Bool) (children : (i : ℕ) (c : Tree) → Child ts k i c → said i ≡ may_idle c) where
   made_idle : (t : Tree) → Made f ts k x t → idle_by x (said x.p) (said x.q) ≡ may_idle t
-  unfolding is_by_child idle_by may_idle if◌then◌else◌
+  unfolding is_by_child idle_by may_idle
   made_idle t (flag_made l z r o n) = rw z refl
   made_idle t (argument_made l z r o n) = rw z refl
   made_idle t (positional_made z p r o) = rw z refl
@@ -94,7 +95,6 @@ gathered_first b g n c table e = record {
 
 -- the bit of a node, or 0
 pub bit_small : (k : ℕ) (g : Bool) (v : ℕ) → v ≡ (if g then 2 ^ k else 0) → v ≤ 2 ^ k
-unfolding if◌then◌else◌
 bit_small k true v e = omega (arith, e)
 bit_small k false v e = omega (arith, e)
 
@@ -115,7 +115,7 @@ sum_next :
     (k found : ℕ) (t : Tree) (ts : List Tree) (v : ℕ)
     → v ≡ (if is_idle_repeat t then 2 ^ k else 0)
     → found + v + bit_set (idle_from (suc k) ts) ≡ found + bit_set (idle_from k (t ∷ ts))
-unfolding idle_from bit_set if◌then◌else◌
+unfolding idle_from bit_set
 sum_next k found t ts v e = go (is_idle_repeat t) e
   where
     go :
@@ -138,7 +138,6 @@ module _
     children a h i c l = before.told a h i c l.0 l.1
 
     said_mark : (g : Bool) (n : ℕ) → n ≡ (if g then 1 else 0) → eqb n 1 ≡ g
-    unfolding if◌then◌else◌
     said_mark true n e = rw e refl
     said_mark false n e = rw e refl
 

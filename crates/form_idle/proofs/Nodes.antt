@@ -9,35 +9,35 @@ use lib.Dec.{eqb}
 use lib.ListN.{length, get_or-eq_default}
 use lib.Pow.{pow-lt, shl_exact}
 use borrow.Author.Tests.{ne_eqb, le-leb, lt-leb}
-use Rattle.utf8.specs.Utf8.{if◌then◌else◌}
+use Rattle.std.specs.Prelude.{if◌then◌else◌}
 use Rattle.form_layout.specs.declared.Node as declared
 use Rattle.form_layout.specs.Layout.{node_of}
 use Rattle.form_idle.specs.Idles.{is_by_child, idle_by, repeat_by, said_in}
 
 module _ (x : declared.Node) (first second : Bool) where
   pub leaf_no : x.kind ≤ 3 → (x.kind ≡ 1 → ⊥) → false ≡ idle_by (node_of x) first second
-  unfolding idle_by if◌then◌else◌
+  unfolding idle_by
   leaf_no h n = rw (le-leb x.kind 3 h, ne_eqb x.kind 1 n) refl
 
   pub leaf_flag : x.kind ≡ 1 → eqb x.r 1 ≡ idle_by (node_of x) first second
-  unfolding idle_by if◌then◌else◌
+  unfolding idle_by
   leaf_flag k = rw k refl
 
   pub choice_first : x.kind ≡ 9 → first ≡ true → true ≡ idle_by (node_of x) first second
-  unfolding idle_by if◌then◌else◌
+  unfolding idle_by
   choice_first k h = rw (k, h) refl
 
   pub choice_second : x.kind ≡ 9 → first ≡ false → second ≡ idle_by (node_of x) first second
-  unfolding idle_by if◌then◌else◌
+  unfolding idle_by
   choice_second k h = rw (k, h) refl
 
   module _ (h : 3 < x.kind) (n : x.kind ≡ 9 → ⊥) (g : Bool) (e : g ≡ is_by_child x.kind) where
     pub as_child : g ≡ true → first ≡ idle_by (node_of x) first second
-    unfolding idle_by if◌then◌else◌
+    unfolding idle_by
     as_child z = rw (lt-leb x.kind 3 h, ne_eqb x.kind 9 n, ← e, z) refl
 
     pub always : g ≡ false → true ≡ idle_by (node_of x) first second
-    unfolding idle_by if◌then◌else◌
+    unfolding idle_by
     always z = rw (lt-leb x.kind 3 h, ne_eqb x.kind 9 n, ← e, z) refl
 
 pub ruleset idle-ends = (leaf_no, leaf_flag, choice_first, choice_second, as_child, always)
@@ -81,17 +81,13 @@ unsaid table n e h = rw (get_or-eq_default table 0 {n = n} (omega (arith, e, h))
 
 module _ (yes : Bool) where
   pub marked : yes ≡ true → ◌≡◌ {A = ℕ} 1 (if yes then 1 else 0)
-  unfolding if◌then◌else◌
   marked e = rw e refl
 
   pub unmarked : yes ≡ false → ◌≡◌ {A = ℕ} 0 (if yes then 1 else 0)
-  unfolding if◌then◌else◌
   unmarked e = rw e refl
 
   pub bit_set_lem : (n : ℕ) → n < 64 → yes ≡ true → 1 * 2 ^ n % 2 ^ 64 ≡ (if yes then 2 ^ n else 0)
-  unfolding if◌then◌else◌
   bit_set_lem n h e = rw e (shl_exact 1 n 64 (pow-lt (zero-lt-suc 0)) (omega arith) ∙ one-mul (2 ^ n))
 
   pub bit_unset : (n : ℕ) → yes ≡ false → 0 ≡ (if yes then 2 ^ n else 0)
-  unfolding if◌then◌else◌
   bit_unset n e = rw e refl

@@ -1,7 +1,7 @@
 -- Whether a node may be idle, from what its children may, and the answer of the call as numbers.
 use Rattle.std.specs.Prelude.{Bool, true, ◌&&◌, ◌||◌, List, ℕ, leb, eqb, get_or}
 use Rattle.std.proofs.Math.Option.{Option, some, none}
-use Rattle.utf8.specs.Utf8.{if◌then◌else◌}
+use Rattle.std.specs.Prelude.{if◌then◌else◌}
 use Rattle.rules.specs.Outcome.{Outcome, ok, refused, fault}
 use Rattle.rules.specs.Form.{Node}
 use Rattle.rules.specs.Codes.{place_code}

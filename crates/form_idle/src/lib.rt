@@ -1,8 +1,9 @@
 // The repeats of a form whose child may be idle: values from nothing.
 #![tactic(auto)]
+
 ghost use Rattle.std.specs.Prelude.{◌≡◌, true, ◌^◌, ◌<◌, length};
 ghost use Rattle.std.proofs.Math.Option.{some};
-ghost use Rattle.utf8.specs.Utf8.{if◌then◌else◌};
+ghost use Rattle.std.specs.Prelude.{if◌then◌else◌};
 ghost use Rattle.rules.specs.Accept.{Accepted, accepted, length_good, check_form};
 ghost use Rattle.rules_careful.specs.Idle.{idle_repeats, call_idle, bit_set};
 ghost use Rattle.form_layout.specs.Layout.{node_of};

@@ -9,7 +9,6 @@ use lib.Dec.{leb}
 use lib.ListN.{length, take, drop, replicate, length-append, length-replicate, replicate-append-replicate}
 use lib.Seq.{sets, sets-eq, drop_at}
 use borrow.Author.Tests.{le-leb, lt-leb, leb-true}
-use Rattle.utf8.specs.Utf8.{if◌then◌else◌}
 use Rattle.rules.specs.Form.{node_count, field_count, name_count, area_length, read_form}
 use Rattle.rules.specs.Accept.{Checked, accepted, refused_at, Accepted, check_form}
 use Rattle.rules.specs.Codes.{place_code, check_code}
@@ -23,7 +22,8 @@ use Rattle.form_layout.proofs.Sizes.{fields_length, nodes_length, names_length}
 use Rattle.form_join.specs.declared.Counts.{Counts}
 use Rattle.form_join.specs.declared.Joined.{Joined}
 use Rattle.form_join.specs.Moved.{FormPasses, moved_fields, moved_names, moved_nodes}
-use Rattle.form_join.specs.Written.{WritesBoth, CanJoin, BothGood, counts_of, fitting, count_bytes, joined_fields, joined_nodes, joined_names, joined_area, joined_head, joined_tail, joined_bytes}
+use Rattle.form_join.specs.Written.{WritesBoth, CanJoin, BothGood, counts_of, fitting, count_bytes, joined_fields, joined_nodes, joined_names, joined_area, joined_head, joined_tail}
+use Rattle.form_join.specs.Written.{joined_bytes}
 use Rattle.form_join.specs.Answers.{answered, ReportsJoin, Refuses, Fills, BothPass}
 use Rattle.form_join.proofs.MovedLaws.{area_length_lem, moved_accepted, moved_nodes_lem, moved_fields_lem, moved_names_lem}
 
@@ -155,13 +155,13 @@ module _ (x y : List ℕ) (p : BothPass x y) where
     tested = et ∙ rw ec (sym (limits_same n))
 
     pub large_reported : t ≡ false → (r : Joined) (o : List ℕ) → Refuses 18 0 0 n r o → ReportsJoin (join x y n) r o
-    unfolding join_into not_joined if◌then◌else◌
+    unfolding join_into not_joined
     large_reported z r o f =
         let no : (in_limits (join_forms a b) && leb 5928 n) ≡ false = sym tested ∙ z in
         rw (join_opened n, no) (record { answer = f.answer; output = f.output })
 
     pub joined_reported : t ≡ true → (r : Joined) (o : List ℕ) → Fills n (joined_bytes x y) r o → ReportsJoin (join x y n) r o
-    unfolding join_into joined if◌then◌else◌
+    unfolding join_into joined
     joined_reported z r o f =
         let yes : (in_limits (join_forms a b) && leb 5928 n) ≡ true = sym tested ∙ z in
         rw (join_opened n, yes, ← form_bytes) (record { answer = f.answer; output = f.output })

@@ -10,7 +10,7 @@ use native.Mathlib.Omega.{arith}
 use borrow.Author.Tests.{eq-eqb, ne_eqb, le-leb, lt-leb}
 use lib.Dec.{leb, eqb}
 use lib.ListN.{length, get_elem?, length-map, length-drop}
-use Rattle.utf8.specs.Utf8.{if◌then◌else◌}
+use Rattle.std.specs.Prelude.{if◌then◌else◌}
 use Rattle.rules.specs.Value.{Base, yes_no, text, number, same_base, base_number, Kind, one, optional, list, list_of_optional, optional_list}
 use Rattle.rules.specs.Form.{Node, Name, Form, node_count, field_count, name_count, area_length, area_at, read_form}
 use Rattle.rules.specs.Tree.{Tree, kind_of, shape_of, inner_base, same_kind}
@@ -87,29 +87,28 @@ module _ (b : List ℕ) (k kind : ℕ) where
 -- ---- numbers that are moved
 
 pub p_name : (x : nodes.Node) (d : declared.Moves) → x.kind ≤ 2 → d.names + x.p ≡ move_p (moves_of d) (node_of x)
-unfolding move_p if◌then◌else◌
+unfolding move_p
 p_name x d h = rw (le-leb x.kind 2 h)
 
 pub p_words : (x : nodes.Node) (d : declared.Moves) → 2 < x.kind → x.kind ≡ 3 → x.p ≡ move_p (moves_of d) (node_of x)
-unfolding move_p if◌then◌else◌
+unfolding move_p
 p_words x d h e = rw (lt-leb x.kind 2 h, eq-eqb x.kind 3 e)
 
 pub p_child : (x : nodes.Node) (d : declared.Moves) → 2 < x.kind → (x.kind ≡ 3 → ⊥) → d.nodes + x.p ≡ move_p (moves_of d) (node_of x)
-unfolding move_p if◌then◌else◌
+unfolding move_p
 p_child x d h e = rw (lt-leb x.kind 2 h, ne_eqb x.kind 3 e)
 
 pub q_child : (x : nodes.Node) (d : declared.Moves) → x.kind ≡ 9 → d.nodes + x.q ≡ move_q (moves_of d) (node_of x)
-unfolding move_q if◌then◌else◌
+unfolding move_q
 q_child x d h = rw (eq-eqb x.kind 9 h)
 
 pub q_other : (x : nodes.Node) (d : declared.Moves) → (x.kind ≡ 9 → ⊥) → x.q ≡ move_q (moves_of d) (node_of x)
-unfolding move_q if◌then◌else◌
+unfolding move_q
 q_other x d h = rw (ne_eqb x.kind 9 h)
 
 -- ---- how large they are
 
 picked : (c : Bool) (x y most : ℕ) → x ≤ most → y ≤ most → (if c then x else y) ≤ most
-unfolding if◌then◌else◌
 picked true x y most h g = h
 picked false x y most h g = g
 
@@ -205,13 +204,11 @@ module _ (d : declared.Moves) (b : List ℕ) (k : ℕ) (has : CanMoveNode b k) (
     pub text_there :
         t ≡ true
         → NodeThere (moves_of d) b k (record { kind = x.kind; p = p; q = q; r = d.names + x.r; lo = x.lo; hi = x.hi })
-    unfolding if◌then◌else◌
     text_there z = moved_to (d.names + x.r) (omega (arith, node_within.r, s.names)) (rw z)
 
     pub other_there :
         t ≡ false
         → NodeThere (moves_of d) b k (record { kind = x.kind; p = p; q = q; r = x.r; lo = x.lo; hi = x.hi })
-    unfolding if◌then◌else◌
     other_there z = moved_to x.r (omega (arith, node_within.r)) (rw z)
 
 -- ---- names and fields
@@ -281,7 +278,6 @@ abbrev pub nowhere : Moves
 nowhere = record { nodes = 0; names = 0; area = 0 }
 
 either : (c : Bool) (x y z : ℕ) → x ≡ z → y ≡ z → (if c then x else y) ≡ z
-unfolding if◌then◌else◌
 either true x y z p q = p
 either false x y z p q = q
 

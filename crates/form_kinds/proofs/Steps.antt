@@ -9,7 +9,7 @@ use lib.Dec.{leb, eqb}
 use lib.ListN.{length, take, drop, get_elem?, length-drop}
 use lib.Seq.{length-take-le}
 use borrow.Author.Tests.{eq-eqb, ne_eqb, le-leb, lt-leb, eqb-true, eqb-false}
-use Rattle.utf8.specs.Utf8.{if◌then◌else◌}
+use Rattle.std.specs.Prelude.{if◌then◌else◌}
 use Rattle.rules.specs.Base.{all, null, is_some, ◌>>?◌, slice}
 use Rattle.rules.specs.Form.{Node, Name, name_count, read_form}
 use Rattle.rules.specs.Tree.{zeros, names_of}
@@ -95,7 +95,7 @@ ns b = (read_form b).names
 
 module _ (b : List ℕ) (x : Node) where
   pub names_none : x.q ≡ 0 → false ≡ is_some (names_of (read_form b) x)
-  unfolding names_of slice ◌>>?◌ is_some null if◌then◌else◌
+  unfolding names_of slice ◌>>?◌ is_some null
   names_none e = go (leb x.p (x.p + x.q) && leb (x.p + x.q) (length (ns b))) refl
     where
       go : (t : Bool) → (leb x.p (x.p + x.q) && leb (x.p + x.q) (length (ns b))) ≡ t → false ≡ is_some (names_of (read_form b) x)
@@ -103,7 +103,7 @@ module _ (b : List ℕ) (x : Node) where
       go true z = let w : x.p + x.q - x.p ≡ 0 = omega arith in rw (z, w)
 
   pub names_outside : (n : ℕ) → n ≡ name_count b → n < x.p + x.q → false ≡ is_some (names_of (read_form b) x)
-  unfolding names_of slice ◌>>?◌ is_some if◌then◌else◌
+  unfolding names_of slice ◌>>?◌ is_some
   names_outside n e h =
       rw (le-leb x.p (x.p + x.q) (omega arith), lt-leb (x.p + x.q) (length (ns b)) (omega (arith, names_length b)))
 
@@ -113,7 +113,7 @@ null_length [] z = absurd (z refl)
 null_length (a ∷ s) z = refl
 
 some_if : (t : Bool) (l : List Name) → is_some (if t then some l else none) ≡ t
-unfolding is_some if◌then◌else◌
+unfolding is_some
 some_if true l = refl
 some_if false l = refl
 
@@ -124,7 +124,7 @@ module _ (b : List ℕ) (x : Node) (h : x.p + x.q ≤ length (ns b)) (k : x.q �
       (λ z. k (sym (length-take-le x.q (drop x.p (ns b)) (omega (arith, length-drop x.p (ns b)))) ∙ z))
 
   names_inside : is_some (names_of (read_form b) x) ≡ short_long (take x.q (drop x.p (ns b)))
-  unfolding names_of slice ◌>>?◌ if◌then◌else◌
+  unfolding names_of slice ◌>>?◌
   names_inside =
       let w : x.p + x.q - x.p ≡ x.q = omega arith in
       rw (le-leb x.p (x.p + x.q) (omega arith), le-leb (x.p + x.q) (length (ns b)) h, w, some_null)

@@ -11,7 +11,6 @@ use lib.Dec.{eqb}
 use lib.ListN.{length, get_or, get_elem?, set, replicate, length-append, length-set, length-replicate, get_or-append, get_or-eq_default}
 use lib.Seq.{get_or_at, get_or-set_same, get_or-set_other}
 use borrow.Author.Tests.{eq-eqb, ne_eqb, eqb-true, eqb-false, le-leb, lt-leb}
-use Rattle.utf8.specs.Utf8.{if◌then◌else◌}
 use Rattle.rules.specs.Form.{Node, Form}
 use Rattle.form_kinds.specs.Kinds.{leaf_code, inner_code, child_q}
 use Rattle.form_kinds.specs.Known.{ruled, code_by, codes, code_at, SoundCodes, CodesKept, Done}
@@ -63,11 +62,11 @@ no_child f i p m m' k em h s e = rw em (record {
 -- only a choice has a second child
 module _ (f : Form) (i : ℕ) (m m' : List ℕ) (k : ℕ) (x : Node) where
   pub second_child : x.kind ≡ 9 → ChildKnown f i x.q m m' k → ChildKnown f i (child_q x) m m' k
-  unfolding child_q if◌then◌else◌
+  unfolding child_q
   second_child h z = rw (eq-eqb x.kind 9 h) z
 
   pub no_second : (x.kind ≡ 9 → ⊥) → i ≤ 64 → m' ≡ m → SoundCodes f m → k ≡ 0 → ChildKnown f i (child_q x) m m' k
-  unfolding child_q if◌then◌else◌
+  unfolding child_q
   no_second h l e s z = rw (ne_eqb x.kind 9 h) (no_child f i 64 m' m k e l s z)
 
 pub kept_twice : (l m n : List ℕ) → CodesKept l m → CodesKept m n → CodesKept l n
@@ -76,7 +75,7 @@ kept_twice l m n a b = record { known = λ j ne. b.known j (λ z. ne (sym (a.kno
 -- the code of a leaf, and that of any other node from its children's
 module _ (f : Form) (i : ℕ) (x : Node) (e : get_elem? f.nodes i ≡ some x) where
   pub leaf_is : x.kind ≤ 3 → leaf_code f x ≡ code_at f i
-  unfolding code_at code_by ruled if◌then◌else◌
+  unfolding code_at code_by ruled
   leaf_is h = rw (e, code_by, le-leb x.kind 3 h)
 
   pub inner_is :
@@ -86,7 +85,7 @@ module _ (f : Form) (i : ℕ) (x : Node) (e : get_elem? f.nodes i ≡ some x) wh
       → c ≡ get_or (codes f i) x.p 0
       → d ≡ get_or (codes f i) q 0
       → inner_code f x c d ≡ code_at f i
-  unfolding code_at code_by ruled if◌then◌else◌
+  unfolding code_at code_by ruled
   inner_is q c d h eq ec ed = rw (e, code_by, lt-leb x.kind 3 h, ec, ed, eq)
 
 pub same_or : (j i : ℕ) → (j ≡ i) ⊎ (j ≢ i)

@@ -9,13 +9,14 @@ use native.Mathlib.Omega.{arith}
 use lib.Dec.{leb, ltb, eqb}
 use lib.ListN.{length, get_or, get_elem?}
 use borrow.Author.Tests.{eq-eqb, ne_eqb, le-leb, lt-leb, lt-ltb, le-ltb, eqb-true, eqb-false, leb-true, leb-false}
-use Rattle.utf8.specs.Utf8.{if◌then◌else◌}
+use Rattle.std.specs.Prelude.{if◌then◌else◌}
 use Rattle.rules.specs.Base.{all, contains, is_some, ◌>>?◌}
-use Rattle.rules.specs.Value.{Base, yes_no, text, number, base_number, same_base, Kind, one, optional, list, list_of_optional, optional_list, BaseValue, is_yes, is_text, is_number, base_of, name}
+use Rattle.rules.specs.Value.{yes_no, text, number, base_number, same_base, Kind, one, optional, list, list_of_optional, optional_list, BaseValue, is_yes, is_text, is_number, base_of, name}
 use Rattle.rules.specs.Form.{Node, Name, Form}
 use Rattle.rules.specs.Codes.{base_code, kind_code}
 use Rattle.rules.specs.Tree.{Named, Tree, Flag, Argument, Positional, Optional, Many, Some, Count, Last, Choice, Fallback, Guard, optional_kind, list_kind, count_kind, last_kind, shape_of}
-use Rattle.rules.specs.Tree.{inner_base, same_kind, choice_kind, base_kind, kind_of, has_repeat, zeros, names_of, named_by, named_of, flag_of, argument_of, position_of, positional_of, fitting, repeat_of}
+use Rattle.rules.specs.Tree.{inner_base, same_kind, choice_kind, base_kind, kind_of, has_repeat, zeros, names_of, named_by, named_of, flag_of, argument_of, position_of, positional_of}
+use Rattle.rules.specs.Tree.{fitting, repeat_of}
 use Rattle.rules.specs.Tree.{fallback_value, fallback_of, guard_of, child_of, caught_of, choice_of, tree_of}
 use Rattle.rules.proofs.Acceptance.{is_some_lem}
 use Rattle.rules.proofs.KindLaws.{kinds_equal, same_kind_lem, kind_some, kind_same, kind_few, base_code_lem, same_base_kind}
@@ -38,23 +39,23 @@ code_of (some t) = tree_code t
 
 -- ---- each kind, by computing
 optional_code_lem : (κ : Kind) (r : Bool) → code_with (optional_kind κ) r ≡ optional_code (code_with (some κ) r)
-unfolding code_with kind_code base_code if◌then◌else◌ optional_kind optional_code
+unfolding code_with kind_code base_code optional_kind optional_code
 optional_code_lem = kinds_equal (λ κ r. code_with (optional_kind κ) r) (λ κ r. optional_code (code_with (some κ) r)) refl
 
 list_code : (κ : Kind) (r : Bool) → (if r then 32 else code_with (list_kind κ) true) ≡ repeat_code 6 (code_with (some κ) r)
-unfolding code_with kind_code base_code if◌then◌else◌ list_kind repeat_code
+unfolding code_with kind_code base_code list_kind repeat_code
 list_code = kinds_equal (λ κ r. if r then 32 else code_with (list_kind κ) true) (λ κ r. repeat_code 6 (code_with (some κ) r)) refl
 
 count_code : (κ : Kind) (r : Bool) → (if r then 32 else code_with (count_kind κ) true) ≡ repeat_code 7 (code_with (some κ) r)
-unfolding code_with kind_code base_code ◌>>?◌ if◌then◌else◌ list_kind count_kind repeat_code
+unfolding code_with kind_code base_code ◌>>?◌ list_kind count_kind repeat_code
 count_code = kinds_equal (λ κ r. if r then 32 else code_with (count_kind κ) true) (λ κ r. repeat_code 7 (code_with (some κ) r)) refl
 
 last_code : (κ : Kind) (r : Bool) → (if r then 32 else code_with (last_kind κ) true) ≡ repeat_code 8 (code_with (some κ) r)
-unfolding code_with kind_code base_code ◌>>?◌ if◌then◌else◌ list_kind last_kind repeat_code
+unfolding code_with kind_code base_code ◌>>?◌ list_kind last_kind repeat_code
 last_code = kinds_equal (λ κ r. if r then 32 else code_with (last_kind κ) true) (λ κ r. repeat_code 8 (code_with (some κ) r)) refl
 
 number_code : (κ : Kind) (r : Bool) → code_with (base_kind number κ) r ≡ (if eqb (code_with (some κ) r % 16) 3 then code_with (some κ) r else 32)
-unfolding code_with kind_code base_code shape_of inner_base base_number if◌then◌else◌ base_kind same_kind same_base
+unfolding code_with kind_code base_code shape_of inner_base base_number base_kind same_kind same_base
 number_code =
     kinds_equal
     (λ κ r. code_with (base_kind number κ) r)
@@ -62,51 +63,51 @@ number_code =
     refl
 
 pub code_part : (κ : Kind) (r : Bool) → code_with (some κ) r % 16 ≡ kind_code κ
-unfolding code_with kind_code base_code if◌then◌else◌
+unfolding code_with kind_code base_code
 code_part = kinds_equal (λ κ r. code_with (some κ) r % 16) (λ κ r. kind_code κ) refl
 
 code_repeat : (κ : Kind) (r : Bool) → leb 16 (code_with (some κ) r) ≡ r
-unfolding code_with if◌then◌else◌
+unfolding code_with
 code_repeat κ true = le-leb 16 (16 + kind_code κ) (omega arith)
 code_repeat κ false = lt-leb 16 (kind_code κ) (omega (arith, kind_few κ))
 
 -- ---- a child's kind, or none
 optional_with : (o : Option Kind) (r : Bool) → code_with (o >>? optional_kind) r ≡ optional_code (code_with o r)
-unfolding code_with ◌>>?◌ if◌then◌else◌ optional_code
+unfolding code_with ◌>>?◌ optional_code
 optional_with none r = refl
 optional_with (some κ) r = optional_code_lem κ r
 
 many_same : (n : ℕ) → leb n 6 ≡ true → (c : ℕ) → repeat_code 6 c ≡ repeat_code n c
-unfolding repeat_code if◌then◌else◌
+unfolding repeat_code
 many_same n e c = rw e
 
 list_with : (n : ℕ) → leb n 6 ≡ true → (o : Option Kind) (r : Bool) → (if r then 32 else code_with (o >>? list_kind) true) ≡ repeat_code n (code_with o r)
-unfolding code_with ◌>>?◌ if◌then◌else◌ repeat_code
+unfolding code_with ◌>>?◌ repeat_code
 list_with n e none true = refl
 list_with n e none false = refl
 list_with n e (some κ) r = list_code κ r ∙ many_same n e (code_with (some κ) r)
 
 count_with : (o : Option Kind) (r : Bool) → (if r then 32 else code_with (o >>? count_kind) true) ≡ repeat_code 7 (code_with o r)
-unfolding code_with ◌>>?◌ if◌then◌else◌ repeat_code
+unfolding code_with ◌>>?◌ repeat_code
 count_with none true = refl
 count_with none false = refl
 count_with (some κ) r = count_code κ r
 
 last_with : (o : Option Kind) (r : Bool) → (if r then 32 else code_with (o >>? last_kind) true) ≡ repeat_code 8 (code_with o r)
-unfolding code_with ◌>>?◌ if◌then◌else◌ repeat_code
+unfolding code_with ◌>>?◌ repeat_code
 last_with none true = refl
 last_with none false = refl
 last_with (some κ) r = last_code κ r
 
 number_with : (o : Option Kind) (r : Bool) → code_with (o >>? base_kind number) r ≡ (if eqb (code_with o r % 16) 3 then code_with o r else 32)
-unfolding code_with ◌>>?◌ if◌then◌else◌
+unfolding code_with ◌>>?◌
 number_with none r = refl
 number_with (some κ) r = number_code κ r
 
 both_with :
     (o p : Option Kind) (r s : Bool)
     → code_with (o >>? λ a. p >>? λ b. choice_kind a b) (r || s) ≡ both_code (code_with o r) (code_with p s)
-unfolding code_with ◌>>?◌ if◌then◌else◌ both_code choice_kind
+unfolding code_with ◌>>?◌ both_code choice_kind
 both_with none p r s = refl
 both_with (some a) none r s = rw (code_part a r) (rw (kind_some a))
 both_with (some a) (some b) r s = go (same_kind a b) refl
@@ -121,7 +122,7 @@ both_with (some a) (some b) r s = go (same_kind a b) refl
 
 -- ---- trees
 fitting_code : (t : Tree) → code_of (fitting t) ≡ tree_code t
-unfolding fitting code_of tree_code code_with is_some if◌then◌else◌
+unfolding fitting code_of tree_code code_with is_some
 fitting_code t = go (kind_of t) refl
   where
     go : (o : Option Kind) → kind_of t ≡ o → code_of (fitting t) ≡ tree_code t
@@ -129,7 +130,7 @@ fitting_code t = go (kind_of t) refl
     go (some κ) e = rw e (ap (λ (o : Option Kind). code_with o (has_repeat t)) e)
 
 repeat_code_lem : (make : Tree → Tree) (t : Tree) → code_of (repeat_of make t) ≡ (if has_repeat t then 32 else tree_code (make t))
-unfolding repeat_of code_of if◌then◌else◌
+unfolding repeat_of code_of
 repeat_code_lem make t = go (has_repeat t) refl
   where
     go : (r : Bool) → has_repeat t ≡ r → code_of (repeat_of make t) ≡ (if has_repeat t then 32 else tree_code (make t))
@@ -172,7 +173,7 @@ unfolding tree_code kind_of has_repeat
 guard_inner l h t = number_with (kind_of t) (has_repeat t)
 
 guard_tree : (x : Node) (t : Tree) → code_of (guard_of x t) ≡ guard_by x.lo x.hi (tree_code t)
-unfolding guard_of guard_by code_of if◌then◌else◌
+unfolding guard_of guard_by code_of
 guard_tree x t = go (leb x.lo x.hi) refl
   where
     inner : tree_code (Guard x.lo x.hi t) ≡ (if eqb (tree_code t % 16) 3 then tree_code t else 32)
@@ -184,37 +185,36 @@ guard_tree x t = go (leb x.lo x.hi) refl
 
 -- ---- fallbacks
 same_if : (b : Bool) (n : ℕ) → n ≡ (if b then n else n)
-unfolding if◌then◌else◌
 same_if true n = refl
 same_if false n = refl
 
 fallback_none : (f : Form) (x : Node) (r : Bool) → 32 ≡ fallback_by f x (code_with none r)
-unfolding fallback_by code_with if◌then◌else◌
+unfolding fallback_by code_with
 fallback_none f x r = same_if (zeros (x.r ∷ x.hi ∷ [])) 32
 
 fallback_zero : (f : Form) (x : Node) → fallback_by f x 0 ≡ 32
-unfolding fallback_by if◌then◌else◌
+unfolding fallback_by
 fallback_zero f x = sym (same_if (zeros (x.r ∷ x.hi ∷ [])) 32)
 
 guard_none : (lo hi : ℕ) → guard_by lo hi 0 ≡ 32
-unfolding guard_by if◌then◌else◌
+unfolding guard_by
 guard_none lo hi = sym (same_if (ltb hi lo) 32)
 
 optional_none : optional_code 0 ≡ 32
-unfolding optional_code if◌then◌else◌
+unfolding optional_code
 optional_none = refl
 
 repeat_none : (n : ℕ) → repeat_code n 0 ≡ 32
-unfolding repeat_code if◌then◌else◌
+unfolding repeat_code
 repeat_none n = refl
 
 none_both : (d : ℕ) → both_code 0 d ≡ 32
-unfolding both_code if◌then◌else◌
+unfolding both_code
 none_both d = refl
 
 -- a kind on one side only
 both_none : (c : ℕ) → both_code c 0 ≡ 32
-unfolding both_code if◌then◌else◌
+unfolding both_code
 both_none c = go (eqb (c % 16) 0) refl
   where
     go : (t : Bool) → eqb (c % 16) 0 ≡ t → both_code c 0 ≡ 32
@@ -222,11 +222,11 @@ both_none c = go (eqb (c % 16) 0) refl
     go false e = rw e
 
 flag_one : (n : ℕ) (m : Named) (s : Bool) → tree_code (Flag n m s) ≡ 1
-unfolding tree_code kind_of has_repeat code_with kind_code base_code if◌then◌else◌
+unfolding tree_code kind_of has_repeat code_with kind_code base_code
 flag_one n m s = refl
 
 argument_base_lem : (n : ℕ) (m : Named) (t a : Bool) → tree_code (Argument n m (if t then number else text) a) ≡ (if not t then 2 else 3)
-unfolding tree_code kind_of has_repeat code_with kind_code base_code if◌then◌else◌
+unfolding tree_code kind_of has_repeat code_with kind_code base_code
 argument_base_lem n m true a = refl
 argument_base_lem n m false a = refl
 
@@ -235,26 +235,25 @@ nine n h a b c d e = omega arith
 
 module _ (make : BaseValue → Option Tree) (v : BaseValue) (c : ℕ) (m : code_of (make v) ≡ c) where
   yes_case : (l z : Bool) → code_of ((if l && z then some v else none) >>? make) ≡ (if z then (if not l then 32 else c) else 32)
-  unfolding if◌then◌else◌ ◌>>?◌ code_of
+  unfolding ◌>>?◌ code_of
   yes_case true true = m
   yes_case true false = refl
   yes_case false true = refl
   yes_case false false = refl
 
   text_case : (t z : Bool) → code_of ((if t && z then some v else none) >>? make) ≡ (if z && t then c else 32)
-  unfolding if◌then◌else◌ ◌>>?◌ code_of
+  unfolding ◌>>?◌ code_of
   text_case true true = m
   text_case true false = refl
   text_case false true = refl
   text_case false false = refl
 
   number_case : (z : Bool) → code_of ((if z then some v else none) >>? make) ≡ (if z then c else 32)
-  unfolding if◌then◌else◌ ◌>>?◌ code_of
+  unfolding ◌>>?◌ code_of
   number_case true = m
   number_case false = refl
 
 none_case : (z : Bool) (c : ℕ) → 32 ≡ (if z && false then c else 32)
-unfolding if◌then◌else◌
 none_case true c = refl
 none_case false c = refl
 
@@ -271,7 +270,7 @@ module _ (f : Form) (x : Node) (make : BaseValue → Option Tree) where
 
   -- no base value
   other_code : (c : ℕ) → 3 < c % 16 → 32 ≡ fallback_by f x c
-  unfolding fallback_by if◌then◌else◌
+  unfolding fallback_by
   other_code c h =
       rw (ne_eqb (c % 16) 1 (λ e. omega arith), ne_eqb (c % 16) 2 (λ e. omega arith), ne_eqb (c % 16) 3 (λ e. omega arith))
       (same_if (zeros (x.r ∷ x.hi ∷ [])) 32)
@@ -283,7 +282,7 @@ module _ (f : Form) (x : Node) (make : BaseValue → Option Tree) where
       (κ : Kind) (r : Bool)
       → ((v : BaseValue) → κ ≡ one (base_of v) → code_of (make v) ≡ code_with (some κ) r)
       → code_of (fallback_value f x κ >>? make) ≡ fallback_by f x (code_with (some κ) r)
-  unfolding fallback_value fallback_by code_of kind_code base_code base_of ◌>>?◌ if◌then◌else◌
+  unfolding fallback_value fallback_by code_of kind_code base_code base_of ◌>>?◌
   value_code (one yes_no) r m =
       let v = is_yes (eqb x.lo 1) in
       rw (code_part (one yes_no) r, ltb_not 1 x.lo) (yes_case make v _ (m v refl) (leb x.lo 1) (zeros (x.r ∷ x.hi ∷ [])))
@@ -339,7 +338,7 @@ module _ (below : List Tree) (x : Node) where
       → ((t : Tree) → code_of (make t) ≡ g (tree_code t))
       → g 0 ≡ 32
       → code_of (child_of unused below x make) ≡ (if zeros (x.q ∷ unused) then g (get_or cs x.p 0) else 32)
-  unfolding child_of code_of if◌then◌else◌
+  unfolding child_of code_of
   child_code unused make g h z = go (zeros (x.q ∷ unused)) refl
     where
       go : (b : Bool) → zeros (x.q ∷ unused) ≡ b → code_of (child_of unused below x make) ≡ (if zeros (x.q ∷ unused) then g (get_or cs x.p 0) else 32)
@@ -351,7 +350,7 @@ module _ (below : List Tree) (x : Node) where
       → ((b : Bool) (t : Tree) → code_of (make b t) ≡ g (tree_code t))
       → g 0 ≡ 32
       → code_of (caught_of below x make) ≡ (if leb x.r 1 && zeros (x.q ∷ x.lo ∷ x.hi ∷ []) then g (get_or cs x.p 0) else 32)
-  unfolding caught_of code_of if◌then◌else◌
+  unfolding caught_of code_of
   caught_code make g h z = go (leb x.r 1) refl
     where
       go :
@@ -362,7 +361,7 @@ module _ (below : List Tree) (x : Node) where
       go false e = rw e
 
   choice_code_lem : code_of (choice_of below x) ≡ choice_code x (get_or cs x.p 0) (get_or cs x.q 0)
-  unfolding choice_of choice_code code_of if◌then◌else◌
+  unfolding choice_of choice_code code_of
   choice_code_lem = go (zeros (x.r ∷ x.lo ∷ x.hi ∷ [])) refl
     where
       second : (t : Tree) → code_of (get_elem? below x.q >>? λ u. fitting (Choice t u)) ≡ both_code (tree_code t) (get_or cs x.q 0)
@@ -375,7 +374,7 @@ module _ (below : List Tree) (x : Node) where
 -- ---- leaves
 module _ {A : Type 0} (N : List Name → A) (G : A → Tree) (c : ℕ) (h : (m : A) → tree_code (G m) ≡ c) where
   named_by_lem : (u z : Bool) (o : Option (List Name)) → code_of (if u && z then ((o >>? λ l. some (N l)) >>? λ m. some (G m)) else none) ≡ (if u && (z && is_some o) then c else 32)
-  unfolding code_of if◌then◌else◌ ◌>>?◌ is_some
+  unfolding code_of ◌>>?◌ is_some
   named_by_lem true true none = refl
   named_by_lem true true (some l) = h (N l)
   named_by_lem true false o = refl
@@ -406,7 +405,7 @@ positional_by :
     → (a ≡ true → b ≡ false)
     → code_of (if (u && (a || (b || false))) && z then some (Positional n (position_of p) (if b then number else text)) else none)
     ≡ (if u && z then (if a then 2 else (if b then 3 else 32)) else 32)
-unfolding code_of tree_code kind_of has_repeat code_with kind_code base_code if◌then◌else◌
+unfolding code_of tree_code kind_of has_repeat code_with kind_code base_code
 positional_by n p false z a b h = refl
 positional_by n p true true true true h = absurd (let e = h refl in let k : ◌≡◌ {A = ℕ} 0 1 = cc in omega arith)
 positional_by n p true true true false h = refl
@@ -439,61 +438,61 @@ module _ (f : Form) (below : List Tree) (x : Node) where
     over n = ap (ltb n) z
 
   says_1 : x.kind ≡ 1 → Says
-  unfolding tree_of ruled inner_code leaf_code child_q if◌then◌else◌
+  unfolding tree_of ruled inner_code leaf_code child_q
   says_1 z = rw (is 1 z 1, most 1 z 3) (flag_leaf f (length below) x)
 
   says_2 : x.kind ≡ 2 → Says
-  unfolding tree_of ruled inner_code leaf_code child_q if◌then◌else◌
+  unfolding tree_of ruled inner_code leaf_code child_q
   says_2 z = rw (is 2 z 1, is 2 z 2, most 2 z 3) (argument_leaf f (length below) x)
 
   says_3 : x.kind ≡ 3 → Says
-  unfolding tree_of ruled inner_code leaf_code child_q if◌then◌else◌
+  unfolding tree_of ruled inner_code leaf_code child_q
   says_3 z = rw (is 3 z 1, is 3 z 2, is 3 z 3, most 3 z 3) (positional_leaf (length below) x)
 
   says_4 : x.kind ≡ 4 → Says
-  unfolding tree_of ruled inner_code wrap_code child_good child_q if◌then◌else◌
+  unfolding tree_of ruled inner_code wrap_code child_good child_q
   says_4 z =
       rw (is 4 z 1, is 4 z 2, is 4 z 3, is 4 z 4, most 4 z 3, most 4 z 8, over 4 z 6)
       (caught_code below x (λ c t. fitting (Optional c t)) optional_code optional_tree optional_none)
 
   says_5 : x.kind ≡ 5 → Says
-  unfolding tree_of ruled inner_code wrap_code child_good child_q if◌then◌else◌
+  unfolding tree_of ruled inner_code wrap_code child_good child_q
   says_5 z =
       rw (is 5 z 1, is 5 z 2, is 5 z 3, is 5 z 4, is 5 z 5, most 5 z 3, most 5 z 8, over 5 z 6)
       (caught_code below x (λ c. repeat_of (Many c)) (repeat_code x.kind) (many_tree x.kind (most 5 z 6)) (repeat_none x.kind))
 
   says_6 : x.kind ≡ 6 → Says
-  unfolding tree_of ruled inner_code wrap_code child_good child_q if◌then◌else◌
+  unfolding tree_of ruled inner_code wrap_code child_good child_q
   says_6 z =
       rw (is 6 z 1, is 6 z 2, is 6 z 3, is 6 z 4, is 6 z 5, is 6 z 6, most 6 z 3, most 6 z 8, over 6 z 6)
       (caught_code below x (λ c. repeat_of (Some c)) (repeat_code x.kind) (some_tree x.kind (most 6 z 6)) (repeat_none x.kind))
 
   says_7 : x.kind ≡ 7 → Says
-  unfolding tree_of ruled inner_code wrap_code child_good child_q if◌then◌else◌
+  unfolding tree_of ruled inner_code wrap_code child_good child_q
   says_7 z =
       rw (is 7 z 1, is 7 z 2, is 7 z 3, is 7 z 4, is 7 z 5, is 7 z 6, is 7 z 7, most 7 z 3, most 7 z 8, over 7 z 6)
       (child_code below x (x.r ∷ x.lo ∷ x.hi ∷ []) (repeat_of Count) (repeat_code x.kind) (λ t. count_tree t ∙ ap (λ (n : ℕ). repeat_code n (tree_code t)) (sym z)) (repeat_none x.kind))
 
   says_8 : x.kind ≡ 8 → Says
-  unfolding tree_of ruled inner_code wrap_code child_good child_q if◌then◌else◌
+  unfolding tree_of ruled inner_code wrap_code child_good child_q
   says_8 z =
       rw (is 8 z 1, is 8 z 2, is 8 z 3, is 8 z 4, is 8 z 5, is 8 z 6, is 8 z 7, is 8 z 8, most 8 z 3, most 8 z 8, over 8 z 6)
       (child_code below x (x.r ∷ x.lo ∷ x.hi ∷ []) (repeat_of Last) (repeat_code x.kind) (λ t. last_tree t ∙ ap (λ (n : ℕ). repeat_code n (tree_code t)) (sym z)) (repeat_none x.kind))
 
   says_9 : x.kind ≡ 9 → Says
-  unfolding tree_of ruled inner_code child_q if◌then◌else◌
+  unfolding tree_of ruled inner_code child_q
   says_9 z =
       rw (is 9 z 1, is 9 z 2, is 9 z 3, is 9 z 4, is 9 z 5, is 9 z 6, is 9 z 7, is 9 z 8, is 9 z 9, most 9 z 3, most 9 z 8)
       (choice_code_lem below x)
 
   says_10 : x.kind ≡ 10 → Says
-  unfolding tree_of ruled inner_code fallback_code child_q if◌then◌else◌ zeros all
+  unfolding tree_of ruled inner_code fallback_code child_q zeros all
   says_10 z =
       rw (is 10 z 1, is 10 z 2, is 10 z 3, is 10 z 4, is 10 z 5, is 10 z 6, is 10 z 7, is 10 z 8, is 10 z 9, is 10 z 10, most 10 z 3, most 10 z 8, eqb_flip x.q)
       (child_code below x [] (fallback_of f x) (fallback_by f x) (fallback_tree f x) (fallback_zero f x))
 
   says_11 : x.kind ≡ 11 → Says
-  unfolding tree_of ruled inner_code guard_code child_q if◌then◌else◌
+  unfolding tree_of ruled inner_code guard_code child_q
   says_11 z =
       rw (is 11 z 1, is 11 z 2, is 11 z 3, is 11 z 4, is 11 z 5, is 11 z 6, is 11 z 7, is 11 z 8, is 11 z 9, is 11 z 10, is 11 z 11, most 11 z 3, most 11 z 8)
       (child_code below x (x.r ∷ []) (guard_of x) (guard_by x.lo x.hi) (guard_tree x) (guard_none x.lo x.hi))
@@ -509,7 +508,7 @@ module _ (f : Form) (below : List Tree) (x : Node) where
   Not n = x.kind ≡ n → ⊥
 
   says_other : Not 1 → Not 2 → Not 3 → Not 4 → Not 5 → Not 6 → Not 7 → Not 8 → Not 9 → Not 10 → Not 11 → Says
-  unfolding tree_of ruled inner_code leaf_code if◌then◌else◌ code_of
+  unfolding tree_of ruled inner_code leaf_code code_of
   says_other a b c d e g h i j k l =
       rw (no 1 a, no 2 b, no 3 c, no 4 d, no 5 e, no 6 g, no 7 h, no 8 i, no 9 j, no 10 k, no 11 l) (go (leb x.kind 3) refl)
     where

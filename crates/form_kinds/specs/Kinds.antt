@@ -3,7 +3,7 @@
 use Rattle.std.specs.Prelude.{Bool, false, ◌&&◌, [], ◌∷◌, ℕ, ◌+◌, ◌%◌, leb, ltb, eqb}
 use Rattle.std.proofs.Math.Option.{some, none}
 use Rattle.std.proofs.Math.ListN.{get_elem?}
-use Rattle.utf8.specs.Utf8.{if◌then◌else◌}
+use Rattle.std.specs.Prelude.{if◌then◌else◌}
 use Rattle.rules.specs.Base.{is_some}
 use Rattle.rules.specs.Form.{Node, Form}
 use Rattle.rules.specs.Tree.{zeros, names_of}

@@ -1,6 +1,7 @@
 // The kind of a node, worked out from the kinds of its children. A node's code is the number of its kind (1 to 15), 16 more
 // if there is a repeat here or beneath, and 32 for a node at fault.
 #![tactic(auto)]
+
 ghost use Rattle.std.specs.Prelude.{◌≡◌, true, [], ◌∷◌, replicate};
 ghost use Rattle.rules.specs.Base.{is_some};
 ghost use Rattle.rules.specs.Form.{read_form};

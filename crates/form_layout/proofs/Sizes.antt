@@ -12,7 +12,8 @@ use lib.Seq.{drop-drop, take_all}
 use borrow.Author.Tests.{le-leb, lt-leb, leb-true, eqb-true, not-true, not-false}
 use Rattle.wire.specs.Wire.{number_at}
 use Rattle.rules.specs.Base.{numbers}
-use Rattle.rules.specs.Form.{Name, node_count, field_count, name_count, area_length, counts_good, nodes_at, names_at, area_at, form_length, read_node, read_name, read_form, name_bytes, name_good}
+use Rattle.rules.specs.Form.{Name, node_count, field_count, name_count, area_length, counts_good, nodes_at, names_at, area_at, form_length, read_node, read_name, read_form, name_bytes}
+use Rattle.rules.specs.Form.{name_good}
 use Rattle.rules.specs.Accept.{length_good, Accepted, accepted, check_form}
 use Rattle.rules.specs.Codes.{check_code}
 use Rattle.rules.specs.declared.Refused.{Refused}

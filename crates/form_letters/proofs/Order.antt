@@ -10,7 +10,7 @@ use lib.Dec.{eqb, leb, ltb}
 use lib.ListN.{take, drop}
 use lib.Seq.{take-nil}
 use borrow.Author.Tests.{eq-eqb, ne_eqb, eqb-true, le-leb, lt-leb, ltb-true, ltb-false}
-use Rattle.utf8.specs.Utf8.{if◌then◌else◌}
+use Rattle.std.specs.Prelude.{if◌then◌else◌}
 use Rattle.rules.specs.Base.{contains, concat_map}
 use Rattle.rules.specs.Form.{Node, Name, Form, read_form}
 use Rattle.rules.specs.Tree.{Named, Tree, zeros, short_of, named_of, named_by, flag_of, argument_of, tree_of}
@@ -27,7 +27,7 @@ use Rattle.form_letters.specs.Letters.{letters_from, letters_by_name}
 
 module _ (area : List ℕ) where
   nothing_wanted : (k : ℕ) (ms : List Name) → letters_from area (λ _. false) k ms ≡ []
-  unfolding letters_from if◌then◌else◌
+  unfolding letters_from
   nothing_wanted k [] = refl
   nothing_wanted k (m ∷ ms) = nothing_wanted (suc k) ms
 
@@ -37,7 +37,7 @@ module _ (area : List ℕ) where
 
     -- from the first record of the node on
     from_first : (k : ℕ) (ms : List Name) → p ≤ k → letters_from area here k ms ≡ concat_map (short_of area) (take (p + q - k) ms)
-    unfolding letters_from concat_map if◌then◌else◌
+    unfolding letters_from concat_map
     from_first k [] h = rw (take-nil {A = Name} (p + q - k))
     from_first k (m ∷ ms) h = go (from_first (suc k) ms (omega arith)) (ltb k (p + q)) refl
       where
@@ -58,7 +58,7 @@ module _ (area : List ℕ) where
 
     -- d records before the first are passed over
     before_first : (d k : ℕ) (ms : List Name) → p ≡ k + d → letters_from area here k ms ≡ concat_map (short_of area) (take q (drop d ms))
-    unfolding letters_from concat_map if◌then◌else◌
+    unfolding letters_from concat_map
     before_first zero k ms h =
         let all : p + q - k ≡ q = omega arith in
         from_first k ms (omega arith) ∙ ap (λ (n : ℕ). concat_map (short_of area) (take n ms)) all
@@ -76,7 +76,6 @@ module _ (area : List ℕ) where
   either false false s x y = refl
 
   letter_wanted : (c : ℕ) (t : Bool) (m : Name) (l : List ℕ) → contains ((if t then short_of area m else []) ++ l) c ≡ (t && contains (short_of area m) c || contains l c)
-  unfolding if◌then◌else◌
   letter_wanted c true m l = contains_append (short_of area m) l c
   letter_wanted c false m l = refl
 
@@ -100,7 +99,7 @@ has_names :
     → tree_of f below x ≡ some t
     → (x.kind ≡ 1) ⊎ (x.kind ≡ 2)
     → (n : Named) × (named_of f x ≡ some n)
-unfolding tree_of flag_of argument_of if◌then◌else◌
+unfolding tree_of flag_of argument_of
 has_names f below x t e (inl k) =
     let r = if_some (leb x.r 1 && zeros (x.lo ∷ x.hi ∷ [])) _ (rw (eq-eqb x.kind 1 k) at e) in
     let n = bind_some (named_of f x) _ r.1 in
@@ -126,7 +125,6 @@ module _ (b : List ℕ) (kind : ℕ) (known : (kind ≡ 1) ⊎ (kind ≡ 2)) (c 
 
   -- the records of one node, and its short names
   node_letters : (below : List Tree) (x : Node) (t : Tree) → tree_of f below x ≡ some t → letters_from f.area (own x) 0 f.names ≡ shorts x
-  unfolding if◌then◌else◌
   node_letters below x t e = go (eqb x.kind kind) refl
     where
       go : (u : Bool) → eqb x.kind kind ≡ u

@@ -12,7 +12,7 @@ use lib.Dec.{eqb}
 use lib.ListN.{length, get_or, take, drop, set, replicate, length-append, length-replicate, drop_of_length-le}
 use lib.Seq.{sets, sets-eq, length-sets}
 use borrow.Author.Tests.{not-true, not-false}
-use Rattle.utf8.specs.Utf8.{if◌then◌else◌}
+use Rattle.std.specs.Prelude.{if◌then◌else◌}
 use Rattle.rules.specs.Codes.{place_code}
 use Rattle.rules.specs.Form.{Node, Name, name_count, read_form, name_bytes, one_character}
 use Rattle.rules.specs.Tree.{short_of}
@@ -29,22 +29,22 @@ use Rattle.form_letters.specs.Classes.{names_record, bits, class_of, Classed}
 
 module _ (o : List ℕ) (n : ℕ) (wanted : Bool) (code : ℕ) where
   pub unwanted : not wanted ≡ true → Appended o n (letter_if wanted code) o n
-  unfolding letter_if if◌then◌else◌
+  unfolding letter_if
   unwanted e = rw (not-true wanted e) (record { words = refl; count = omega arith })
 
   pub letterless : not wanted ≡ false → code ≡ 0 → Appended o n (letter_if wanted code) o n
-  unfolding letter_if letter_list if◌then◌else◌
+  unfolding letter_if letter_list
   letterless e z = rw (not-false wanted e, z) (record { words = refl; count = omega arith })
 
   pub one_letter : not wanted ≡ false → (code ≡ 0 → ⊥) → Appended o n (letter_if wanted code) (set o n (code - 1)) (n + 1)
-  unfolding letter_if letter_list if◌then◌else◌
+  unfolding letter_if letter_list
   one_letter e z =
       let s : code ≡ suc (code - 1) = omega arith in
       let w : letter_if wanted code ≡ (code - 1) ∷ [] = rw (not-false wanted e) (ap letter_list s) in
       rw w (record { words = refl; count = omega arith })
 
 letter_few : (wanted : Bool) (code : ℕ) → length (letter_if wanted code) ≤ 1
-unfolding letter_if letter_list if◌then◌else◌
+unfolding letter_if letter_list
 letter_few true zero = omega arith
 letter_few true (suc c) = omega arith
 letter_few false code = omega arith
@@ -77,7 +77,7 @@ module _ (xs : List Node) (count : ℕ) (t : List ℕ) (z : Classed xs count t) 
 -- ---- a record's code
 
 short_letter : (area : List ℕ) (x : Name) → letter_list (code_of area x) ≡ short_of area x
-unfolding code_of short_of letter_list if◌then◌else◌
+unfolding code_of short_of letter_list
 short_letter area x = go (eqb x.type 0) (one_character (name_bytes area x))
   where
     go : (t : Bool) (o : Option ℕ)
@@ -137,7 +137,7 @@ module _ (b : List ℕ) (kind : ℕ) (o₀ : List ℕ) where
 
 -- ---- how many there are
 short_few : (a : List ℕ) (m : Name) → length (short_of a m) ≤ 1
-unfolding short_of if◌then◌else◌
+unfolding short_of
 short_few a m = go (eqb m.type 0) refl (one_character (name_bytes a m)) refl
   where
     go : (t : Bool) → eqb m.type 0 ≡ t → (o : Option ℕ) → one_character (name_bytes a m) ≡ o → length (short_of a m) ≤ 1
@@ -146,7 +146,7 @@ short_few a m = go (eqb m.type 0) refl (one_character (name_bytes a m)) refl
     go true e (some c) h = rw (e, h, short_of) (omega arith)
 
 letters_few : (a : List ℕ) (wanted : ℕ → Bool) (k : ℕ) (ms : List Name) → length (letters_from a wanted k ms) ≤ length ms
-unfolding letters_from if◌then◌else◌
+unfolding letters_from
 letters_few a wanted k [] = omega arith
 letters_few a wanted k (m ∷ ms) = go (letters_few a wanted (suc k) ms) (wanted k) refl
   where

@@ -1,7 +1,7 @@
 -- Words written to the start of a slice, and the letter that a code stands for.
 use Rattle.std.specs.Prelude.{Bool, List, [], ◌∷◌, ◌++◌, ◌≡◌, ℕ, zero, suc, ◌+◌, length}
 use Rattle.std.proofs.lemmas.List.Edits.{sets}
-use Rattle.utf8.specs.Utf8.{if◌then◌else◌}
+use Rattle.std.specs.Prelude.{if◌then◌else◌}
 use Rattle.rules.specs.Form.{Name, Form, read_form}
 use Rattle.rules.specs.Tree.{short_of}
 use Rattle.form_letters.specs.Classes.{names_record}

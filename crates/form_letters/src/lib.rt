@@ -1,5 +1,6 @@
 // The letters that splitting looks up: the short names of a form's flags and of its arguments.
 #![tactic(auto)]
+
 ghost use Rattle.std.specs.Prelude.{◌≡◌, true, not, List, ◌∷◌, [], ◌++◌, ◌+◌, ◌≤◌, ◌<◌, min, eqb, length, replicate};
 ghost use Rattle.std.specs.Int.Bits.{bit_and};
 ghost use Rattle.rules.specs.Form.{Node as RulesNode, name_count, read_form};

@@ -7,7 +7,7 @@ use mathlib.Core.Path.{◌≡◌, refl}
 use Prim.Native.Nat.{ℕ, zero, suc, ◌+◌, ◌≤◌, ◌<◌}
 use native.Mathlib.Nat.{eq-or-lt_of_le}
 use native.Mathlib.Omega.{arith}
-use Rattle.utf8.specs.Utf8.{if◌then◌else◌}
+use Rattle.std.specs.Prelude.{if◌then◌else◌}
 use Rattle.rules.specs.Base.{first_fault, numbers}
 
 pub fault_map : {A B : Type 0} (p : B → Bool) (g : A → B) (j : ℕ) (l : List A) → first_fault p j (map g l) ≡ first_fault (λ a. p (g a)) j l
@@ -27,14 +27,14 @@ fault_same p q (suc n) j h =
 
 module _ (p : ℕ → Bool) where
   pub no_fault_from : (n j : ℕ) → ((k : ℕ) → j ≤ k → k < j + n → p k ≡ true) → first_fault p j (numbers n j) ≡ none
-  unfolding first_fault numbers if◌then◌else◌
+  unfolding first_fault numbers
   no_fault_from zero j h = refl
   no_fault_from (suc n) j h =
       rw (h j (omega arith) (omega arith)) (no_fault_from n (suc j) (λ k a b. h k (omega arith) (omega arith)))
 
   pub fault_from :
       (n j i : ℕ) → j ≤ i → i < j + n → ((k : ℕ) → k < i → p k ≡ true) → p i ≡ false → first_fault p j (numbers n j) ≡ some i
-  unfolding first_fault numbers if◌then◌else◌
+  unfolding first_fault numbers
   fault_from zero j i a b h e = absurd (omega arith)
   fault_from (suc n) j i a b h e =
       ⊎_elim
@@ -49,7 +49,7 @@ module _ (p : ℕ → Bool) where
   fault_nowhere n i l h = no_fault_from n 0 (λ k a b. h k (omega arith))
 
   pub fault_inside : (n j : ℕ) (i : ℕ) → first_fault p j (numbers n j) ≡ some i → (j ≤ i) × (i < j + n)
-  unfolding first_fault numbers if◌then◌else◌
+  unfolding first_fault numbers
   fault_inside zero j i e = absurd (let z : ◌≡◌ {A = ℕ} 0 1 = cc in omega arith)
   fault_inside (suc n) j i e = go (p j) refl e (λ h. fault_inside n (suc j) i h)
     where

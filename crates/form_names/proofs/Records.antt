@@ -9,7 +9,7 @@ use lib.Dec.{leb, eqb}
 use lib.ListN.{length, get_or, take, drop}
 use borrow.Author.Tests.{eq-eqb, ne_eqb, le-leb, lt-leb, not-true, not-false}
 use borrow.Author.Count.{below_more}
-use Rattle.utf8.specs.Utf8.{if◌then◌else◌, decode_at, well_formed}
+use Rattle.utf8.specs.Utf8.{decode_at, well_formed}
 use Rattle.utf8.specs.Laws.{decode_ascii}
 use Rattle.utf8.specs.declared.Decoded.{Decoded}
 use Rattle.utf8.specs.declared.Decoded.TheVariants.{Char, Bad}
@@ -36,11 +36,11 @@ bytes_part area x = let e : x.offset + x.size - x.offset ≡ x.size = omega arit
 
 module _ (s : List ℕ) (d : Decoded) (v n : ℕ) (e : d ≡ decode_at s 0) (k : d ≡ Char v n) where
   pub character_one : n ≡ length s → v + 1 ≡ place_code (one_character s)
-  unfolding one_character decode_at if◌then◌else◌
+  unfolding one_character decode_at
   character_one h = rw (← e, k, one_character, eq-eqb n (length s) h) (omega arith)
 
   pub character_more : (n ≡ length s → ⊥) → 0 ≡ place_code (one_character s)
-  unfolding one_character decode_at if◌then◌else◌
+  unfolding one_character decode_at
   character_more h = rw (← e, k, one_character, ne_eqb n (length s) h)
 
 pub character_ascii : (s : List ℕ) → length s ≡ 1 → get_or s 0 0 < 0x80 → get_or s 0 0 + 1 ≡ place_code (one_character s)
@@ -58,21 +58,21 @@ some_code (some c) = ap not (ne_eqb (suc c) 0 (λ e. omega arith))
 -- ---- types
 module _ (t : ℕ) (s : List ℕ) where
   pub type_short : (x : ℕ) → t ≡ 0 → x ≡ place_code (one_character s) → not (eqb x 0) ≡ type_good t s
-  unfolding type_good if◌then◌else◌
+  unfolding type_good
   type_short x e r = rw (e, r) (some_code (one_character s))
 
   pub type_long : (x : Bool) → t ≡ 1 → x ≡ well_formed s → x ≡ type_good t s
-  unfolding type_good if◌then◌else◌
+  unfolding type_good
   type_long x e r = rw e r
 
   pub type_text : (t ≡ 0 → ⊥) → (t ≡ 1 → ⊥) → eqb t 2 ≡ type_good t s
-  unfolding type_good if◌then◌else◌
+  unfolding type_good
   type_text e r = rw (ne_eqb t 0 e, ne_eqb t 1 r)
 
 -- ---- the portable mark
 module _ (area : List ℕ) (x : declared.Name) where
   pub portable_other : (x.kind ≡ 0 → ⊥) → true ≡ portable_name area (name_of x)
-  unfolding portable_name if◌then◌else◌
+  unfolding portable_name
   portable_other e = rw (ne_eqb x.kind 0 e)
 
   module _ (e : x.kind ≡ 0) (s : List ℕ) (h : s ≡ name_bytes area (name_of x)) (c : ℕ) (r : c ≡ place_code (one_character s)) where
@@ -80,7 +80,7 @@ module _ (area : List ℕ) (x : declared.Name) where
         (o : Option ℕ)
         → one_character (name_bytes area (name_of x)) ≡ o
         → (c ≡ place_code o) × (portable_name area (name_of x) ≡ elim o [ none ↦ false | some v ↦ portable_character v ])
-    unfolding portable_name if◌then◌else◌
+    unfolding portable_name
     by_character_lem none k = (rw (h, k) at r, rw (eq-eqb x.kind 0 e, k, portable_name))
     by_character_lem (some v) k = (rw (h, k) at r, rw (eq-eqb x.kind 0 e, k, portable_name))
 

@@ -1,5 +1,6 @@
 // Name records, six bytes each (type, offset and size in an area), and the names that they give.
 #![tactic(auto)]
+
 ghost use Rattle.std.specs.Prelude.{◌≡◌, true, ◌+◌, ◌*◌, ◌≤◌, length};
 ghost use Rattle.rules.specs.Base.{first_fault};
 ghost use Rattle.rules.specs.Codes.{place_code};

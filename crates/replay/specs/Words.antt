@@ -1,6 +1,6 @@
 -- What stands in a part of a case.
 use Rattle.std.specs.Prelude.{◌≡◌, List, [], ◌∷◌, ℕ, ◌+◌, ◌*◌, ◌/◌, ◌<◌, ltb, length, get_or}
-use Rattle.utf8.specs.Utf8.{if◌then◌else◌}
+use Rattle.std.specs.Prelude.{if◌then◌else◌}
 use Rattle.wire.specs.Wire.{number_at}
 use Rattle.rules.specs.declared.State.{State}
 use Rattle.replay.specs.declared.words.Head.{Head}

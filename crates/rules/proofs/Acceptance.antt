@@ -11,7 +11,7 @@ use native.Mathlib.Omega.{arith}
 use lib.Dec.{leb, eqb}
 use lib.ListN.{length, take, drop, get_elem?, length-append}
 use borrow.Author.Tests.{eq-eqb, eqb-true, eqb-false, leb-true, not-true}
-use Rattle.utf8.specs.Utf8.{if◌then◌else◌}
+use Rattle.std.specs.Prelude.{if◌then◌else◌}
 use Rattle.rules.specs.Base.{null, all, contains, concat_map, is_some, ◌>>?◌, slice, first_fault, numbers}
 use Rattle.rules.specs.Value.{text, number, Kind, BaseValue}
 use Rattle.rules.specs.Form.{Node, Name, Form, read_form, name_bytes, one_character, type_good, name_good}
@@ -42,18 +42,15 @@ accepted_same a b e = ap (take_accepted a) e
 
 -- ---- tests and lookups that gave something
 pub if_some : {A : Type 0} (b : Bool) (o : Option A) {t : A} → (if b then o else none) ≡ some t → (b ≡ true) × (o ≡ some t)
-unfolding if◌then◌else◌
 if_some true o e = (refl, e)
 if_some false o {t} e = absurd (none-ne-some t e)
 
 pub if_not_some : {A : Type 0} (b : Bool) (o : Option A) {t : A} → (if b then none else o) ≡ some t → (b ≡ false) × (o ≡ some t)
-unfolding if◌then◌else◌
 if_not_some true o {t} e = absurd (none-ne-some t e)
 if_not_some false o e = (refl, e)
 
 -- the branch that was taken
 pub branch : {A P : Type 0} (b : Bool) (o u : A) {t : A} → (b ≡ true → o ≡ t → P) → (u ≡ t → P) → (if b then o else u) ≡ t → P
-unfolding if◌then◌else◌
 branch true o u f g e = f refl e
 branch false o u f g e = g e
 
@@ -74,11 +71,9 @@ zeros_unused (n ∷ l) e =
 
 -- ---- tests and lookups that give something
 pub if_true : {A : Type 0} (b : Bool) (o u : A) → b ≡ true → (if b then o else u) ≡ o
-unfolding if◌then◌else◌
 if_true b o u e = rw e
 
 pub if_false : {A : Type 0} (b : Bool) (o u : A) → b ≡ false → (if b then o else u) ≡ u
-unfolding if◌then◌else◌
 if_false b o u e = rw e
 
 pub bind_is : {A B : Type 0} (o : Option A) (g : A → Option B) {a : A} → o ≡ some a → (o >>? g) ≡ g a
@@ -152,7 +147,6 @@ All-at P (b ∷ l) zero a h e = subst P (some-injective b a e) h.0
 All-at P (b ∷ l) (suc i) a h e = All-at P l i a h.1 e
 
 if_none : {A : Type 0} (b : Bool) (o : Option A) (a : A) → (if b then o else some a) ≡ none → (b ≡ true) × (o ≡ none)
-unfolding if◌then◌else◌
 if_none true o a e = (refl, e)
 if_none false o a e = absurd (none-ne-some a (sym e))
 
@@ -443,7 +437,7 @@ abbrev pub NameGood : List ℕ → Name → Type 0
 NameGood area m = name_good area m ≡ true
 
 pub short_one : (area : List ℕ) (m : Name) → NameGood area m → eqb m.type 0 ≡ true → (c : ℕ) × (one_character (name_bytes area m) ≡ some c)
-unfolding name_good type_good if◌then◌else◌
+unfolding name_good type_good
 short_one area m g e =
     let p = and-true (leb (m.offset + m.size) (length area)) (type_good m.type (name_bytes area m)) g in
     is_some_lem (one_character (name_bytes area m)) (rw e at p.1)
@@ -455,7 +449,7 @@ is_named_lem :
     → All (NameGood area) l
     → All (λ (m : Name). leb m.type 1 ≡ true) l
     → is_named (named_by area l) ≡ true
-unfolding null is_named named_by concat_map short_of long_of if◌then◌else◌
+unfolding null is_named named_by concat_map short_of long_of
 is_named_lem area [] e g h = absurd (true≢false e)
 is_named_lem area (m ∷ l) e g h = go (eqb m.type 0) refl
   where
@@ -483,7 +477,7 @@ names_named f x l g e =
     is_named_lem f.area l n.more (names_good f x l g n) n.types
 
 read_if : (b : Bool) → is_read (if b then number else text) ≡ true
-unfolding is_read if◌then◌else◌
+unfolding is_read
 read_if true = refl
 read_if false = refl
 

@@ -10,7 +10,7 @@ use lib.Dec.{eqb}
 use lib.ListN.{length, drop, length-drop, drop_of_length-le}
 use lib.Seq.{drop-drop}
 use borrow.Author.Tests.{eqb-true, eqb-false, eq-eqb, ne_eqb, not-true}
-use Rattle.utf8.specs.Utf8.{if◌then◌else◌, decode, decode_at, well_formed, well_formed_after}
+use Rattle.utf8.specs.Utf8.{decode, decode_at, well_formed, well_formed_after}
 use Rattle.utf8.specs.Laws.{character}
 use Rattle.utf8.specs.declared.Decoded.TheVariants.{Char}
 use Rattle.rules.specs.Base.{null, is_some}
@@ -119,12 +119,12 @@ short_parts name = record { type = short; name = name; body = none }
 
 module _ (os name : List ℕ) (h : NameShape os name) where
   pub shape_parts : split_os_argument os ≡ ok (some (short_parts name))
-  unfolding split_os_argument behind_dash split_short parts if◌then◌else◌
+  unfolding split_os_argument behind_dash split_short parts
   shape_parts =
       rw (h.all, h.bytes, eq-eqb dash dash refl, ne_eqb h.first dash h.no_dash, h.no_equals, split_short, h.utf8)
 
   pub shape_name : dashed_name os ≡ some name
-  unfolding dashed_name is_some if◌then◌else◌
+  unfolding dashed_name is_some
   shape_name =
       rw (h.all, h.bytes, dashed_name, eq-eqb dash dash refl, ne_eqb h.first dash h.no_dash, h.utf8, h.no_equals)
 

@@ -11,7 +11,6 @@ use borrow.Author.Tests.{le-leb, leb-true}
 use lib.Dec.{leb}
 use lib.ListN.{length, drop, get_elem?, replicate}
 use lib.Seq.{take_at, drop_at, drop-append-add}
-use Rattle.utf8.specs.Utf8.{if◌then◌else◌}
 use Rattle.wire.specs.Wire.{table_good}
 use Rattle.wire.specs.Laws.{good_table, offset_rises}
 use Rattle.rules.specs.Base.{concat_map}
@@ -141,7 +140,7 @@ module _ (form b : List ℕ) (nr ni na nl : ℕ) where
   run_answer_lem :
       batch_good b && parts_fit (sheet_count b) nr ni na nl ≡ true
       → BatchAnswered form b nr ni na nl
-  unfolding run_batch sheets_in batch_report if◌then◌else◌ ◌>>=◌
+  unfolding run_batch sheets_in batch_report ◌>>=◌
   run_answer_lem e =
       let (good, fits) = and-true (batch_good b) (parts_fit (sheet_count b) nr ni na nl) e in
       record {
@@ -159,7 +158,7 @@ module _ (form b : List ℕ) (nr ni na nl : ℕ) where
   refused_answer :
       batch_good b && parts_fit (sheet_count b) nr ni na nl ≡ false
       → BatchAnswered form b nr ni na nl
-  unfolding run_batch sheets_in batch_report if◌then◌else◌ ◌>>=◌
+  unfolding run_batch sheets_in batch_report ◌>>=◌
   refused_answer e = record {
     answer = reported form 15 nr ni na nl [];
     answered = rw (e, run_batch);

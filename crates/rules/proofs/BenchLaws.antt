@@ -6,11 +6,10 @@ use mathlib.Core.Option.{none}
 use mathlib.Core.Path.{◌≡◌, refl, sym, ap, ◌∙◌}
 use Prim.Native.Nat.{ℕ, ◌+◌, ◌≤◌, ◌<◌}
 use native.Mathlib.Omega.{arith}
-use borrow.Author.Tests.{le-leb, le-ltb, lt-ltb, leb-true, leb-false}
+use borrow.Author.Tests.{le-leb, le-ltb, leb-true, leb-false}
 use lib.Dec.{leb, ltb}
 use lib.ListN.{length, take, drop, length-append, length-take, length-drop, take-append-drop}
 use lib.Seq.{take_all, take-length, take-append-le, drop-append-le}
-use Rattle.utf8.specs.Utf8.{if◌then◌else◌}
 use Rattle.wire.specs.Wire.{le, number_at}
 use Rattle.rules.specs.Outcome.{ok, ◌>>=◌}
 use Rattle.rules.specs.Sheet.{argument_count, sheet_good, sheet_fault}
@@ -32,7 +31,7 @@ number_append w b c i h =
 -- ---- the sheet
 -- 5: too long
 too_long : (s : List ℕ) → 33284 < length s → ltb 256 (argument_count s) ≡ false → sheet_fault s ≡ 5
-unfolding sheet_fault if◌then◌else◌
+unfolding sheet_fault
 too_long s h few = go (sheet_good s) refl
   where
     short : ltb (length s) 2 ≡ false
@@ -44,7 +43,7 @@ too_long s h few = go (sheet_good s) refl
 
 -- 6 is read from the first two bytes
 too_many_lem : (s : List ℕ) → 33284 < length s → ltb 256 (argument_count s) ≡ true → sheet_fault s ≡ 6
-unfolding sheet_fault if◌then◌else◌
+unfolding sheet_fault
 too_many_lem s h many = rw (le-ltb (length s) 2 (omega arith), many)
 
 module _ (s c : List ℕ) (h : 33284 < length s) where
@@ -106,12 +105,12 @@ form_most b e = let (nodes, fields, names, area) = counts_limits b e in omega ar
 
 -- counts out of limits: all form, and 1
 counts_bad : (b : List ℕ) → counts_good b ≡ false → bench b ≡ ok (bench_text (refused_input 1792 8240 192 1 none))
-unfolding bench run form_end check_form length_good if◌then◌else◌ ◌>>=◌ input_in form_in
+unfolding bench run form_end check_form length_good ◌>>=◌ input_in form_in
 counts_bad b e = rw (e, take-length b, run, e)
 
 module _ (b c : List ℕ) (h : length b ≡ 39213) where
   behind_form : counts_good b ≡ true → bench (b ++ c) ≡ bench b
-  unfolding bench form_end if◌then◌else◌ ◌>>=◌
+  unfolding bench form_end ◌>>=◌
   behind_form e =
       let most = form_most b e in
       let k = form_length b in

@@ -8,11 +8,11 @@ use mathlib.Core.Path.{◌≡◌, refl, sym, ap, ◌∙◌}
 use Prim.Native.Nat.{ℕ, zero, suc, ◌+◌, ◌-◌, ◌≤◌, ◌<◌}
 use native.Mathlib.Nat.{eq-or-lt_of_le}
 use native.Mathlib.Omega.{arith}
-use borrow.Author.Tests.{leb-true, ltb-true, ltb-false, le-ltb, le-leb, eq-eqb, ne_eqb, eqb-true, eqb-false}
+use borrow.Author.Tests.{leb-true, ltb-true, ltb-false, le-leb, eq-eqb, ne_eqb, eqb-true, eqb-false}
 use lib.Dec.{leb, ltb, eqb}
 use lib.ListN.{length, get_elem?, take, drop, length-reverse}
 use lib.Seq.{length-take-le}
-use Rattle.utf8.specs.Utf8.{if◌then◌else◌}
+use Rattle.std.specs.Prelude.{if◌then◌else◌}
 use Rattle.rules.specs.Base.{null, all, contains, numbers, minus, slice, slice_from, ◌>>?◌}
 use Rattle.rules.specs.Outcome.{Outcome, ok, refused, fault, ◌>>=◌, at, Refusal, refuse, is_missing}
 use Rattle.rules.specs.Value.{Kind, Value, words}
@@ -29,14 +29,16 @@ use Rattle.rules.specs.Take.{Took, took, Operand, is_command, take_command, take
 use Rattle.rules.specs.Given.{room_in, list_room_in}
 use Rattle.rules.specs.Run.{Line, padded, split}
 use Rattle.rules.specs.Calls.{call_remove, call_pick_winner, call_save_conflicts, call_set_scope, call_adjacent_scope, call_available_from, on_items, call_get, call_conflict, operand_or20}
-use Rattle.rules.specs.Calls.{call_take_positional, call_only_once, on_form, key_of, flag_names, argument_key, command_name, call_matches, call_take_flag, call_take_arg, call_take_cmd, call_kind}
+use Rattle.rules.specs.Calls.{call_take_positional, call_only_once, on_form, key_of, flag_names, argument_key, command_name, call_matches, call_take_flag, call_take_arg, call_take_cmd}
+use Rattle.rules.specs.Calls.{call_kind}
 use Rattle.rules.specs.Calls.{call_portable, call_text}
 use Rattle.rules.specs.Calls.{form_in, sheet_in, slice_in, items_from, trimmed, whole_records, items_in, from_raw, to_raw, most_fields, state_in, asked, place_in, mark_in, scope_in, handed}
 use Rattle.rules.specs.Calls.{split_refused, split_report}
 use Rattle.rules.specs.Calls.{call_split, evaluated_with, evaluated, unchanged, eval_in, call_eval}
 use Rattle.rules.specs.declared.State.{State as Raw}
 use Rattle.rules.specs.Sound.{Good, Sound}
-use Rattle.rules.specs.Answered.{FormFault, bad_counts, bad_name, bad_node, bad_field, bad_use, SheetFault, many_arguments, bad_sheet, AtFault, bad_form, sheet_at_fault, short_slice, ItemsLeft}
+use Rattle.rules.specs.Answered.{FormFault, bad_counts, bad_name, bad_node, bad_field, bad_use, SheetFault, many_arguments, bad_sheet, AtFault, bad_form, sheet_at_fault, short_slice}
+use Rattle.rules.specs.Answered.{ItemsLeft}
 use Rattle.rules.proofs.Fields.{field_parsed}
 use Rattle.rules.specs.CallsAnswered.{OneOf, Answers, answers, refuses, Hands, EvalAnswers, SplitsLine, CallsAnswered}
 use Rattle.rules.proofs.GivenLaws.{split_form, split_sheet, split_short_lem, split_goes}
@@ -102,7 +104,7 @@ handed_answers x o (refuses e n) = record {
 }
 
 if_answers : {A : Type 0} (n : ℕ) (t : Bool) (a : A) → Answers (n ∷ []) (if t then ok a else refused (refuse n none))
-unfolding if◌then◌else◌ contains
+unfolding contains
 if_answers n true a = answers a
 if_answers n false a = refuses (refuse n none) (rw (eq-eqb n n refl))
 
@@ -134,7 +136,7 @@ sheet_number s n (many_arguments c h) = refl
 sheet_number s n (bad_sheet m h) = refl
 
 sheet_answers : (s : List ℕ) → Answers (6 ∷ 5 ∷ []) (sheet_in s)
-unfolding sheet_in if◌then◌else◌
+unfolding sheet_in
 sheet_answers s = go (eqb (sheet_fault s) 0) refl
   where
     go : (t : Bool) → eqb (sheet_fault s) 0 ≡ t → Answers (6 ∷ 5 ∷ []) (if t then ok (sheet_area s) else refused (refuse (sheet_fault s) none))
@@ -184,7 +186,6 @@ refused_not_ok : {A : Type 0} (e : Refusal) (a : A) → refused e ≡ ok a → �
 refused_not_ok e a h = false≢true (ap is_ok h)
 
 pub if_ok : {A : Type 0} (t : Bool) (a b : A) (e : Refusal) → (if t then ok a else refused e) ≡ ok b → (t ≡ true) × (a ≡ b)
-unfolding if◌then◌else◌
 if_ok true a b e h = (refl, ok_injective h)
 if_ok false a b e h = absurd (refused_not_ok e b h)
 
@@ -215,11 +216,11 @@ scope_inside n a b c h =
     (leb-true a b p.0, leb-true b n p.1)
 
 adjacent_none : (s t : State) → null s.marks ≡ true → Answers [] (adjacent_scope s t)
-unfolding adjacent_scope if◌then◌else◌
+unfolding adjacent_scope
 adjacent_none s t e = rw e (answers none)
 
 adjacent_some : (s t : State) (a b : List ℕ) → null s.marks ≡ false → slice_from s.start s.marks ≡ some a → slice_from s.start t.marks ≡ some b → Answers [] (adjacent_scope s t)
-unfolding adjacent_scope if◌then◌else◌ ◌>>=◌ at
+unfolding adjacent_scope ◌>>=◌ at
 adjacent_some s t a b e p q = rw (e, p, q) (answers _)
 
 -- ---- what they call
@@ -233,7 +234,7 @@ scope_set : (n : ℕ) (s : State) (a b : ℕ) → Good n s → a ≤ b → b ≤
 scope_set n s a b g h k = let r = set_scope_good n s a b g h k in ok_answers _ r.0 r.1
 
 slice_from_lem : (a : ℕ) (l : List ℕ) → a ≤ length l → (r : List ℕ) × (slice_from a l ≡ some r)
-unfolding slice_from if◌then◌else◌
+unfolding slice_from
 slice_from_lem a l h = (drop a l, rw (le-leb a (length l) h))
 
 adjacent_answers : (n : ℕ) (s t : State) → Good n s → Good n t → Answers [] (adjacent_scope s t)
@@ -271,7 +272,7 @@ arg_answers k p is m adjacent s g =
 
 -- an earlier place is below
 position_below : (test : Item → Bool) (k : ℕ) (l : List Item) (j : ℕ) → position test k l ≡ some j → j < k + length l
-unfolding position if◌then◌else◌
+unfolding position
 position_below test k [] j e = absurd (some≢none (sym e))
 position_below test k (x ∷ l) j e = go (test x) (λ h. position_below test (suc k) l j h) e
   where
@@ -288,14 +289,14 @@ same_below (Word t) l j e = absurd (some≢none (sym e))
 same_below (PosWord t) l j e = absurd (some≢none (sym e))
 
 before_answers : (i : ℕ) (o : Option ℕ) → ((j : ℕ) → o ≡ some j → j < i) → Answers [] (before i o)
-unfolding before at minus if◌then◌else◌ ◌>>?◌ ◌>>=◌
+unfolding before at minus ◌>>?◌ ◌>>=◌
 before_answers i none h = answers none
 before_answers i (some j) h =
     let l = h j refl in
     rw (le-leb j i (omega arith), le-leb 1 (i - j) (omega arith)) (answers _)
 
 slice_some_of : {A : Type 0} (a b : ℕ) (l : List A) → a ≤ b → b ≤ length l → slice a b l ≡ some (take (b - a) (drop a l))
-unfolding slice if◌then◌else◌
+unfolding slice
 slice_some_of a b l h k = rw (le-leb a b h, le-leb b (length l) k)
 
 -- among the first i items, counted from the last
@@ -311,12 +312,12 @@ once_below is i h j = go (get_elem? is i)
     go (some x) e = let z = same_below x _ j e in omega (arith, z, few)
 
 once_first : (is : List Item) (i : ℕ) → eqb i 0 ≡ true → Answers [] (only_once is i)
-unfolding only_once if◌then◌else◌
+unfolding only_once
 once_first is i e = rw e (answers none)
 
 once_later : (is : List Item) (i : ℕ) → eqb i 0 ≡ false → (l : List Item) → slice 0 i is ≡ some l → Answers []
     (before i (get_elem? is i >>? λ x. same_name x (reverse l))) → Answers [] (only_once is i)
-unfolding only_once if◌then◌else◌ at ◌>>=◌
+unfolding only_once at ◌>>=◌
 once_later is i e l h a = rw (e, h) a
 
 pub once_answers : (is : List Item) (i : ℕ) → i < length is → Answers [] (only_once is i)

@@ -9,7 +9,7 @@ use native.Mathlib.Omega.{arith}
 use lib.Dec.{ltb, eqb}
 use lib.ListN.{length, drop, get_elem?}
 use borrow.Author.Tests.{eqb-true, ltb-true, lt-ltb}
-use Rattle.utf8.specs.Utf8.{if◌then◌else◌}
+use Rattle.std.specs.Prelude.{if◌then◌else◌}
 use Rattle.rules.specs.Base.{◌>>?◌, slice}
 use Rattle.rules.specs.Outcome.{Outcome, ok, refused, fault, ◌>>=◌, refuse, at, set_scope561}
 use Rattle.rules.specs.Value.{Value}
@@ -22,7 +22,8 @@ use Rattle.rules.specs.Take.{Took, took, Operand, take_flag, take_arg, take_posi
 use Rattle.rules.specs.Eval.{Ran, eval}
 use Rattle.rules.specs.Given.{form_in, sheet_in, slice_in, list_room_in, input_in}
 use Rattle.rules.specs.Run.{split}
-use Rattle.rules.specs.Calls.{items_in, from_raw, to_raw, most_fields, state_in, asked, place_in, mark_in, scope_in, flag_names, argument_key, command_name, Called, handed, on_form, call_take_flag}
+use Rattle.rules.specs.Calls.{items_in, from_raw, to_raw, most_fields, state_in, asked, place_in, mark_in, scope_in, flag_names, argument_key, command_name, Called, handed, on_form}
+use Rattle.rules.specs.Calls.{call_take_flag}
 use Rattle.rules.specs.Calls.{call_take_arg, call_take_cmd}
 use Rattle.rules.specs.Calls.{operand_or20, on_items, call_take_positional, call_remove, call_save_conflicts, call_set_scope}
 use Rattle.rules.specs.Calls.{Splitting, split_refused, split_report, call_split, Evaluated, evaluated_with, evaluated, unchanged, eval_in, call_eval}

@@ -6,7 +6,7 @@ use Prim.Native.Nat.{ℕ, ◌+◌, ◌*◌, ◌≤◌}
 use native.Mathlib.Nat.{mul-add, le_refl}
 use native.Mathlib.Omega.{arith}
 use lib.Dec.{eqb}
-use Rattle.utf8.specs.Utf8.{if◌then◌else◌}
+use Rattle.std.specs.Prelude.{if◌then◌else◌}
 use Rattle.rules.specs.Base.{is_some}
 use Rattle.rules.specs.Outcome.{Outcome, ok, refused, fault, at, Refusal, is_missing, can_catch, wrong_input, combine_with}
 use Rattle.rules.specs.Value.{BaseValue, Value}
@@ -22,7 +22,7 @@ use Rattle.rules.proofs.Nodes.{Evaluated}
 
 -- the tries of both sides
 pub most_choice : (t u : Tree) (r : ℕ) → most t r + most u r ≤ most (Choice t u) r
-unfolding most has_repeat leaves if◌then◌else◌
+unfolding most has_repeat leaves
 most_choice t u r = go (has_repeat t) (has_repeat u)
   where
     more : (x : ℕ) → x ≤ (r + 2) * x
@@ -79,7 +79,7 @@ module _
     idle u = eqb s.remaining u.remaining
 
     chosen_went : (oa ob : Outcome Value) → Fine 26 P oa → Fine 26 P ob → Went M n 26 P s 0 (chosen s (with_outcome a oa) (with_outcome b ob))
-    unfolding chosen picked picks_first value_of at side won idle if◌then◌else◌
+    unfolding chosen picked picks_first value_of at side won idle
     chosen_went (ok v) (ok w) p q =
         if_holds (λ o. Went M n 26 P s 0 (by (ok v) (ok w) o)) (idle a.state && idle b.state) (side true none) _
         (λ _. ended_went a.state (ok v) x p)

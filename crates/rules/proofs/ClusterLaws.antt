@@ -1,30 +1,31 @@
 -- What is known of a cluster before its first item is written.
+use Rattle.std.specs.Prelude.{if◌then◌else◌}
 use mathlib.Core.Bool.{Bool, true, false}
 use mathlib.Core.List.{List, [], ◌∷◌, ◌++◌, flatten}
 use mathlib.Core.Option.{Option, some, none}
 use mathlib.Core.Path.{◌≡◌, refl, sym, ap, ◌∙◌}
 use Prim.Native.Nat.{ℕ, zero, suc, ◌+◌, ◌-◌, ◌%◌, ◌≤◌, ◌<◌}
 use native.Mathlib.Omega.{arith, mod_fact}
-use lib.Dec.{eqb, leb, ltb}
+use lib.Dec.{leb}
 use lib.ListN.{length, length-append, length-drop, drop, replicate}
 use borrow.Author.Tests.{eq-eqb, ne_eqb, le-leb, le-ltb, leb-true, leb-false}
-use Rattle.utf8.specs.Utf8.{if◌then◌else◌, table, holds, fits, lead_bits, continued, scalar, decode_by, decode, well_formed}
+use Rattle.utf8.specs.Utf8.{table, holds, fits, lead_bits, continued, scalar, decode_by, decode, well_formed}
 use Rattle.utf8.specs.declared.Decoded.{Decoded}
 use Rattle.utf8.specs.declared.Decoded.TheVariants.{Char, Bad}
-use Rattle.rules.specs.Base.{null, contains, same, slice_from}
-use Rattle.rules.specs.Outcome.{Outcome, ok, refused, fault, panic, at, ◌>>=◌, disambiguate_short207}
+use Rattle.rules.specs.Base.{null, same, slice_from}
+use Rattle.rules.specs.Outcome.{Outcome, ok, refused, fault, at, ◌>>=◌, disambiguate_short207}
 use Rattle.rules.specs.Sheet.{arguments}
 use Rattle.rules.specs.Form.{Form}
 use Rattle.rules.specs.Accept.{Letters, letters_of}
-use Rattle.rules.specs.Split.{Item, Short, Word, dash, equals, Parts, short, parts, split_short, behind_dash, split_os_argument, behind_equals}
+use Rattle.rules.specs.Split.{Word, dash, equals, Parts, short, parts, split_short, behind_dash, split_os_argument, behind_equals}
 use Rattle.rules.specs.Split.{Letter, cluster_from, Cluster, single, all_flags, argument_letter, withdrawn, ambiguous, pick_letter, look_up}
 use Rattle.rules.specs.Split.{disambiguate_short, flag_items, argument_items, cluster_items, ambiguous_at, plain, cluster_group, short_group}
 use Rattle.rules.specs.Split.{parts_group, word_group, split_argument, Split, joined, split_from, items_of, records_from}
 use Rattle.rules.specs.State.{construct}
-use Rattle.rules.specs.Run.{Line, ambiguity, line_of, split}
+use Rattle.rules.specs.Run.{ambiguity, line_of, split}
 use Rattle.rules.specs.Demands.{All}
 use Rattle.rules.specs.Clusters.{outcome_of, item_count, FlagsOnly, Unknown, EndsUnknown, OneWordMore, ClustersKnown}
-use Rattle.rules.proofs.SplitLaws.{cluster_step, ok_injective, behind, Open, items_behind, split_append}
+use Rattle.rules.proofs.SplitLaws.{cluster_step, ok_injective, behind, items_behind, split_append}
 
 -- ---- the count
 flags_counted : (os : List ℕ) (cs : List ℕ) → length (flag_items os cs) ≡ length cs
@@ -33,7 +34,7 @@ flags_counted os [] = refl
 flags_counted os (c ∷ cs) = ap suc (flags_counted [] cs)
 
 argument_counted : (os : List ℕ) (c : ℕ) (rest : List ℕ) → length (argument_items os c rest) ≡ (if null rest then 1 else 2)
-unfolding argument_items if◌then◌else◌ null
+unfolding argument_items null
 argument_counted os c [] = refl
 argument_counted os c (b ∷ rest) = refl
 
@@ -85,7 +86,7 @@ module _ (b k : ℕ) (s : List ℕ) (x y : Letter) (ys : List Letter) where
       → cluster_from (n - 1) (suc k) s ≡ o
       → with_rest c n o (if t then some (drop n (b ∷ s)) else none) ≡ ok (x ∷ y ∷ ys)
       → null x.rest ≡ false
-  unfolding if◌then◌else◌ at ◌>>=◌
+  unfolding at ◌>>=◌
   character_rest c n false h o q e = absurd (let z : ◌≡◌ {A = ℕ} 0 1 = cc in omega arith)
   character_rest c n true h (refused r) q e = absurd (let z : ◌≡◌ {A = ℕ} 0 1 = cc in omega arith)
   character_rest c n true h (fault f) q e = absurd (let z : ◌≡◌ {A = ℕ} 0 1 = cc in omega arith)
@@ -128,7 +129,7 @@ module _ (l : Letters) (first : ℕ) (more : List ℕ) (u : Letter) (rest : List
       → 1 ≤ length known
       → All (λ (x : Letter). FlagsOnly l x.character) known
       → disambiguate_short l (known ++ (u ∷ rest)) ≡ withdrawn u.place
-  unfolding disambiguate_short if◌then◌else◌
+  unfolding disambiguate_short
   unknown_withdrawn [] e one h = absurd (omega arith)
   unknown_withdrawn (x ∷ []) e one h = rw (first_rest first 0 more x u rest e) (known_passed l [] (x ∷ []) u rest h nobody)
   unknown_withdrawn (x ∷ y ∷ known) e one h =
@@ -139,14 +140,14 @@ module _ (l : Letters) (first : ℕ) (more : List ℕ) (u : Letter) (rest : List
     os = dash ∷ first ∷ more
 
     plain_word : word_group os ≡ plain (Word os ∷ [])
-    unfolding word_group same if◌then◌else◌
+    unfolding word_group same
     plain_word = rw (eq-eqb dash dash refl, ne_eqb first dash no_dash)
 
     abbrev named : Bool → Option Parts
     named t = if t then some (record { type = short; name = first ∷ more; body = none }) else none
 
     has_parts : split_os_argument os ≡ ok (named (well_formed (first ∷ more)))
-    unfolding split_os_argument behind_dash split_short parts if◌then◌else◌
+    unfolding split_os_argument behind_dash split_short parts
     has_parts = rw (eq-eqb dash dash refl, ne_eqb first dash no_dash, no_equals, split_short)
 
     argument_word :
@@ -155,7 +156,7 @@ module _ (l : Letters) (first : ℕ) (more : List ℕ) (u : Letter) (rest : List
         → 1 ≤ length known
         → All (λ (x : Letter). FlagsOnly l x.character) known
         → split_argument l os ≡ ok (plain (Word os ∷ []))
-    unfolding split_argument if◌then◌else◌ parts_group short_group ◌>>=◌ cluster_group cluster_items ambiguous_at plain
+    unfolding split_argument parts_group short_group ◌>>=◌ cluster_group cluster_items ambiguous_at plain
     argument_word known e one h = rw has_parts (go (well_formed (first ∷ more)))
       where
         go : (t : Bool) → (elim (named t) [ none ↦ ok (word_group os) | some p ↦ parts_group l os p ]) ≡ ok (plain (Word os ∷ []))
@@ -173,7 +174,7 @@ module _ (l : Letters) (before : List (List ℕ)) (os : List ℕ) (x : Split) (h
   one_word = record { groups = (Word os ∷ []) ∷ []; marker = none; ambiguous = none }
 
   last_split : (k : ℕ) → split_from l k (os ∷ []) ≡ ok one_word
-  unfolding split_from joined ◌>>=◌ plain if◌then◌else◌
+  unfolding split_from joined ◌>>=◌ plain
   last_split k = rw (unknown_word l os h)
 
   line_split :
@@ -198,7 +199,7 @@ pub last_place_lem :
     → length (items_of x) < 256
     → EndsUnknown (letters_of f) os
     → OneWordMore f s (items_of x) os
-unfolding split line_of construct ambiguity behind ◌>>=◌ if◌then◌else◌
+unfolding split line_of construct ambiguity behind ◌>>=◌
 last_place_lem f s before os x args e m a few h =
     let l = letters_of f in
     let y = behind x (one_word l before os x h) in
@@ -224,7 +225,7 @@ last_place_lem f s before os x args e m a few h =
 
 -- ---- n times the same letter
 ascii : (b : ℕ) (s : List ℕ) → b < 128 → decode (b ∷ s) ≡ Char b 1
-unfolding decode decode_by table fits holds scalar continued lead_bits if◌then◌else◌
+unfolding decode decode_by table fits holds scalar continued lead_bits
 ascii b s h = rw (le-leb 0 b (omega arith), le-leb b 127 (omega arith), let small : b % 128 ≡ b = omega (arith, mod_fact b 128) in small)
 
 module _ (v x : ℕ) where
@@ -258,7 +259,7 @@ module _ (v x : ℕ) where
   letters_flags l h (suc n) k = (h, letters_flags l h n (suc k))
 
   no_equals_lem : (v ≡ equals → ⊥) → (x ≡ equals → ⊥) → (n : ℕ) → behind_equals (name_of n) ≡ none
-  unfolding behind_equals if◌then◌else◌
+  unfolding behind_equals
   no_equals_lem a b zero = rw (ne_eqb x equals b)
   no_equals_lem a b (suc n) = rw (ne_eqb v equals a) (no_equals_lem a b n)
 

@@ -8,13 +8,13 @@ use Prim.Native.Nat.{ℕ, zero, suc, ◌+◌, ◌-◌, ◌<◌}
 use native.Mathlib.Omega.{arith}
 use lib.Dec.{ltb}
 use lib.ListN.{length, take, drop, get_elem?, length-map}
-use lib.Seq.{drop-drop, drop-nil}
+use lib.Seq.{drop-drop}
 use borrow.Author.Tests.{ltb-true, ltb-false}
-use Rattle.utf8.specs.Utf8.{if◌then◌else◌}
+use Rattle.std.specs.Prelude.{if◌then◌else◌}
 use Rattle.wire.specs.Wire.{offset, area_start, area, entry_of}
 use Rattle.rules.specs.Base.{numbers}
-use Rattle.rules.specs.Outcome.{Outcome, ok, refused, ◌>>=◌, refuse}
-use Rattle.rules.specs.Commands.{entry_count, table_entries, entry_form_at, Command, read_command, table_in, TablePart, form_part, call_command_form}
+use Rattle.rules.specs.Outcome.{ok, refused, ◌>>=◌, refuse}
+use Rattle.rules.specs.Commands.{entry_count, table_entries, entry_form_at, Command, read_command, table_in, form_part, call_command_form}
 use Rattle.rules.specs.CommandsAnswered.{FormAnswered, no_table, no_entry, part}
 use Rattle.rules.proofs.Acceptance.{numbers_length, mapped_at}
 use Rattle.rules.proofs.CommandLaws.{lookup_map, table_answers, table_entries_lem}
@@ -61,7 +61,7 @@ module _ (t : List ℕ) (k : ℕ) where
 
   -- any table, and any number
   pub command_form : FormAnswered t k (call_command_form t k)
-  unfolding call_command_form ◌>>=◌ if◌then◌else◌
+  unfolding call_command_form ◌>>=◌
   command_form = go (table_answers t)
     where
       entry : (cs : List Command) → table_in t ≡ ok cs → (b : Bool) → ltb k (length cs) ≡ b → FormAnswered t k (if b then ok (form_part t k) else refused (refuse 28 none))

@@ -10,7 +10,7 @@ use native.Mathlib.Omega.{arith}
 use lib.Dec.{leb, eqb, ltb}
 use lib.ListN.{length, take, drop, set, get_elem?, replicate, length-append, length-replicate, length-map}
 use borrow.Author.Tests.{eq-eqb, ne_eqb, eqb-true, eqb-false, le-leb, leb-true}
-use Rattle.utf8.specs.Utf8.{if◌then◌else◌}
+use Rattle.std.specs.Prelude.{if◌then◌else◌}
 use Rattle.wire.specs.Wire.{offset, area_start, area, entry_of}
 use Rattle.rules.specs.Base.{all, null, contains, numbers, slice, concat_map, first_fault}
 use Rattle.rules.specs.Outcome.{Outcome, ok, refused, fault, ◌>>=◌, at, args_iter635, set_scope561, list_words, is_missing, Refusal, refuse}
@@ -21,14 +21,14 @@ use Rattle.rules.specs.Split.{Item, PosWord, Split, positionals, joined, split_f
 use Rattle.rules.specs.State.{State, Found, marker_mark, command_mark, construct, present_at, present_from, unused, find_in, find, first, with_current, set_scope}
 use Rattle.rules.specs.Take.{Took, took, command_text, is_command, take_command, take_cmd}
 use Rattle.rules.specs.Value.{BaseValue, Value, answer_words}
-use Rattle.rules.specs.Tree.{Tree}
 use Rattle.rules.specs.Eval.{Visit, Ran, ended}
 use Rattle.rules.specs.Run.{Line, too_many, line_of, split, run_all, Report, refused_input, report_with, report}
 use Rattle.rules.specs.Demands.{All, Bytes, Means, has_marker, places_left, Ends}
 use Rattle.rules.specs.WellMade.{SheetMade}
 use Rattle.rules.specs.Sound.{Good}
 use Rattle.rules.specs.Given.{form_in, sheet_in, room_in, list_room_in}
-use Rattle.rules.specs.Commands.{entry_count, offsets_good, table_entries, entry_names, entry_area, entry_form_at, Command, read_command, of_type, command_name_good, entry_good, table_in, forms_in}
+use Rattle.rules.specs.Commands.{entry_count, offsets_good, table_entries, entry_names, entry_area, entry_form_at, Command, read_command, of_type, command_name_good, entry_good, table_in}
+use Rattle.rules.specs.Commands.{forms_in}
 use Rattle.rules.specs.Commands.{form_good, split_with, tried_names, Candidate, candidates_of, candidates_from, Tried, try_names, narrowed}
 use Rattle.rules.specs.Commands.{CommandTable, entry_at_fault, commands_in, table_letters, fields_at, run_chosen, run_table, CommandReport, command_report, run_commands}
 use Rattle.rules.specs.CommandsAnswered.{all_names, Ordered, ChosenRun, Compared, Matched, Unmatched, Tries, CommandsDemand3}
@@ -101,7 +101,7 @@ joined_wordless :
     → joined k (record { items = is; ambiguous = a; marker = m }) rest others ≡ ok x
     → x.marker ≡ some k
     → Wordless (items_of x)
-unfolding joined items_of flatten if◌then◌else◌ ◌>>=◌ command_text
+unfolding joined items_of flatten ◌>>=◌ command_text
 joined_wordless k os rest is (some i) m others x one r later e z =
     absurd (some≢none (sym (rw (← ok_injective e) at z)))
 joined_wordless k os rest is none true others x one r later e z =
@@ -168,7 +168,7 @@ line_begins :
     → line_of args x ≡ ok y
     → y.refusal ≡ none
     → Begins y.items y.state
-unfolding line_of if◌then◌else◌ too_many
+unfolding line_of too_many
 line_begins l args x y e g z = go (ltb 256 (length (items_of x))) refl
   where
     go : (t : Bool) → ltb 256 (length (items_of x)) ≡ t → Begins y.items y.state
@@ -208,7 +208,7 @@ pub data Compares (is : List Item) (w : List ℕ) (s : State) : Took Bool → Ty
       → Compares is w s (record { answer = false; state = with_current none s })
 
 pub compares : (is : List Item) (w : List ℕ) (s : State) → Good (length is) s → (t : Took Bool) × (take_cmd command_mark is w s ≡ ok t) × Compares is w s t
-unfolding take_cmd first take_command took with_current is_command if◌then◌else◌ ◌>>=◌
+unfolding take_cmd first take_command took with_current is_command ◌>>=◌
 compares is w s g = let f = find_good is (λ _. true) s g in go f.0 f.1 f.2
   where
     found : (x : Found) → find is (λ _. true) s ≡ ok (some x) → Free s x.place → (b : Bool) → is_command w (some x) ≡ b
@@ -226,7 +226,7 @@ compares is w s g = let f = find_good is (λ _. true) s g in go f.0 f.1 f.2
 -- ---- the place of a command word
 first_zero : (is : List Item) (marks : List ℕ) (n : ℕ) (x : Found) → present_at marks 0 ≡ true
     → find_in is (λ _. true) (present_from marks n 0) ≡ ok (some x) → x.place ≡ 0
-unfolding present_from find_in at ◌>>=◌ if◌then◌else◌
+unfolding present_from find_in at ◌>>=◌
 first_zero is marks zero x p e = absurd (some≢none (sym (ok_injective e)))
 first_zero is marks (suc n) x p e = go (get_elem? is 0) (rw p at e)
   where
@@ -283,7 +283,7 @@ tried_later is n c cs s x p (untaken m e r) = untaken m (omega arith) (p, r)
 
 module _ (is : List Item) (s : State) (g : Good (length is) s) (b : Begins is s) where
   pub tries_names : (n : ℕ) (cs : List Candidate) → (x : Tried) × (try_names is n cs s ≡ ok x) × TriedNames is n cs s x
-  unfolding try_names ◌>>=◌ if◌then◌else◌
+  unfolding try_names ◌>>=◌
   tries_names n [] = (record { entry = none; comparisons = n; state = s }, refl, untaken n (omega arith) tt)
   tries_names n (c ∷ cs) = let t = compares is c.word s g in go t.0 t.1 t.2 (tries_names (suc n) cs)
     where
@@ -358,7 +358,7 @@ forms_step c cs fs e =
 
 -- none is at fault
 all_formed : (cs : List Command) (fs : List Accepted) → forms_in cs ≡ ok fs → (j : ℕ) → first_fault form_good j cs ≡ none
-unfolding first_fault form_good if◌then◌else◌
+unfolding first_fault form_good
 all_formed [] fs e j = refl
 all_formed (c ∷ cs) fs e j =
     let (a, rest, accepts, formed, same) = forms_step c cs fs e in
@@ -398,7 +398,7 @@ abbrev named : List ℕ → ℕ → List Name → List (List ℕ)
 named area t l = concat_map (λ x. if eqb x.type t then name_bytes area x ∷ [] else []) l
 
 types_all : (area : List ℕ) (l : List Name) → All (λ (x : Name). x.type ≤ 1) l → length (named area 1 l) + length (named area 0 l) ≡ length l
-unfolding concat_map if◌then◌else◌
+unfolding concat_map
 types_all area [] h = refl
 types_all area (x ∷ l) h = let rest = types_all area l h.1 in go (eqb x.type 1) refl rest
   where
@@ -546,7 +546,7 @@ pub commands_go :
     → 8240 ≤ na
     → 192 ≤ nl
     → commands_in table s ni na nl ≡ ok (record { commands = cs; forms = fs })
-unfolding commands_in sheet_in room_in list_room_in ◌>>=◌ if◌then◌else◌
+unfolding commands_in sheet_in room_in list_room_in ◌>>=◌
 commands_go table s cs fs t f sheet ni na nl i o k =
     rw (t, f, eq-eqb (sheet_fault s) 0 sheet, le-leb 1792 ni i, le-leb 8240 na o, le-leb 192 nl k)
 
@@ -675,7 +675,7 @@ commands_demand3 table s t small made tabled formed =
 -- ---- every input is answered
 -- 11
 pub table_answers : (t : List ℕ) → ((cs : List Command) × (table_in t ≡ ok cs)) ⊎ (table_in t ≡ refused (refuse 11 none))
-unfolding table_in if◌then◌else◌
+unfolding table_in
 table_answers t = go (offsets_good t && all entry_good (table_entries t)) refl
   where
     go : (b : Bool) → (offsets_good t && all entry_good (table_entries t)) ≡ b → ((cs : List Command) × (table_in t ≡ ok cs)) ⊎ (table_in t ≡ refused (refuse 11 none))
@@ -695,7 +695,7 @@ record FormRefused (j : ℕ) (cs : List Command) : Type 0 where
   told : first_fault form_good j cs ≡ some (j + entry)
 
 forms_answer : (j : ℕ) (cs : List Command) → ((fs : List Accepted) × (forms_in cs ≡ ok fs) × (first_fault form_good j cs ≡ none)) ⊎ FormRefused j cs
-unfolding forms_in form_in first_fault form_good ◌>>=◌ if◌then◌else◌
+unfolding forms_in form_in first_fault form_good ◌>>=◌
 forms_answer j [] = inl ([], refl, refl)
 forms_answer j (c ∷ cs) = go (check_form c.form) refl (forms_answer (suc j) cs)
   where
@@ -737,7 +737,7 @@ module _ {A : Type 0} (s : List ℕ) (ni na nl : ℕ) (a : A) where
   Rest = sheet_in s >>= λ _. room_in 1792 ni >>= λ _. room_in 8240 na >>= λ _. list_room_in nl >>= λ _. ok a
 
   rest_answers : ((Rest ≡ ok a) × Rooms ni na nl) ⊎ ((n : ℕ) × OneOf (6 ∷ 5 ∷ 7 ∷ 14 ∷ []) n × (Rest ≡ refused (refuse n none)))
-  unfolding sheet_in room_in list_room_in contains all ◌>>=◌ if◌then◌else◌
+  unfolding sheet_in room_in list_room_in contains all ◌>>=◌
   rest_answers = go (eqb (sheet_fault s) 0) (leb 1792 ni) (leb 8240 na) (leb 192 nl) refl refl refl refl
     where
       sheet_refused : eqb (sheet_fault s) 0 ≡ false → OneOf (6 ∷ 5 ∷ 7 ∷ 14 ∷ []) (sheet_fault s)

@@ -9,7 +9,6 @@ use native.Mathlib.Omega.{arith}
 use borrow.Author.Tests.{ltb-true, ltb-false, le-ltb, ne_eqb}
 use lib.Dec.{ltb}
 use lib.ListN.{length, length-append, replicate, length-replicate, length-map}
-use Rattle.utf8.specs.Utf8.{if◌then◌else◌}
 use Rattle.rules.specs.Base.{numbers}
 use Rattle.rules.specs.Outcome.{Outcome, ok, refused, fault, list_words, Refusal, is_missing, ◌>>=◌}
 use Rattle.rules.specs.Value.{Value, answer_words}

@@ -1,5 +1,5 @@
 -- What is at fault tells the refusal: its number and place are reported, and no others.
-use mathlib.Core.Bool.{Bool, true, false, ◌||◌, true≢false}
+use mathlib.Core.Bool.{Bool, true, false, true≢false}
 use mathlib.Core.List.{List, [], ◌∷◌}
 use mathlib.Core.Logic.{◌⊎◌, inl, inr}
 use mathlib.Core.Option.{Option, some, none, some-injective, none-ne-some}
@@ -10,7 +10,6 @@ use native.Mathlib.Omega.{arith}
 use borrow.Author.Tests.{eq-eqb, eqb-true, lt-ltb, le-ltb, ltb-true, ltb-false}
 use lib.Dec.{ltb}
 use lib.ListN.{length, take, get_elem?}
-use Rattle.utf8.specs.Utf8.{if◌then◌else◌}
 use Rattle.rules.specs.Base.{occurrences, numbers, first_fault}
 use Rattle.rules.specs.Outcome.{ok, refused, Refusal, ◌>>=◌, refuse}
 use Rattle.rules.specs.Sheet.{argument_count, sheet_good, sheet_fault}
@@ -21,8 +20,9 @@ use Rattle.rules.specs.Split.{Split, items_of}
 use Rattle.rules.specs.Eval.{ended}
 use Rattle.rules.specs.Run.{Line, too_many, line_of, refused_input, Report, report, report_with, split, run_line, run}
 use Rattle.rules.specs.Demands.{All}
-use Rattle.rules.specs.WellMade.{NameMade, NodesMade, CountsMade, WellMade, SheetMade}
-use Rattle.rules.specs.Answered.{FormFault, bad_counts, bad_name, bad_node, bad_field, bad_use, SheetFault, many_arguments, bad_sheet, Splits, AtFault, bad_form, sheet_at_fault, short_slice, short_list}
+use Rattle.rules.specs.WellMade.{NameMade, NodesMade, CountsMade, SheetMade}
+use Rattle.rules.specs.Answered.{FormFault, bad_counts, bad_name, bad_node, bad_field, bad_use, SheetFault, many_arguments, bad_sheet, Splits, AtFault, bad_form, sheet_at_fault}
+use Rattle.rules.specs.Answered.{short_slice, short_list}
 use Rattle.rules.specs.Answered.{many_items, ambiguous_letter}
 use Rattle.rules.proofs.Acceptance.{All-at, good_no_fault, no_fault, numbers_all, if_true, if_false, lookup_inside, accepted_form}
 use Rattle.rules.proofs.Uses.{used_once_lem}
@@ -40,7 +40,7 @@ fault_first :
     → get_elem? l k ≡ some x
     → p x ≡ false
     → first_fault p j l ≡ some (j + k)
-unfolding first_fault if◌then◌else◌
+unfolding first_fault
 fault_first p j [] k x a e f = absurd (none-ne-some x e)
 fault_first p j (y ∷ l) zero x a e f =
     let here : p y ≡ false = ap p (some-injective y x e) ∙ f in
@@ -175,7 +175,7 @@ fault_checked b n k (bad_use i c names nodes fields l bad lower) =
 
 -- ---- the sheet
 fault_sheet : (s : List ℕ) (n : ℕ) → SheetFault s n → (sheet_fault s ≡ n) × (0 < n)
-unfolding sheet_fault if◌then◌else◌
+unfolding sheet_fault
 fault_sheet s n (many_arguments c h) = (rw (le-ltb (length s) 2 c, lt-ltb 256 (argument_count s) h), omega arith)
 fault_sheet s n (bad_sheet bad few) = (short (ltb (length s) 2) refl, omega arith)
   where
@@ -243,7 +243,7 @@ module _ (b s : List ℕ) (ni na nl : ℕ) where
 
 -- what is split
 many_split : (b s : List ℕ) (x : Split) → Splits b s x → 256 < length (items_of x) → split (read_form b) s ≡ ok too_many
-unfolding split line_of if◌then◌else◌ ◌>>=◌
+unfolding split line_of ◌>>=◌
 many_split b s x h many = rw (h, lt-ltb 256 (length (items_of x)) many)
 
 few_split :

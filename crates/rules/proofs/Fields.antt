@@ -3,16 +3,16 @@ use mathlib.Core.Bool.{true}
 use mathlib.Core.List.{List, [], ◌∷◌}
 use mathlib.Core.Option.{Option, some, none}
 use mathlib.Core.Path.{◌≡◌, refl, ap}
-use Prim.Native.Nat.{ℕ, zero, suc, ◌+◌, ◌-◌, ◌*◌, ◌≤◌}
+use Prim.Native.Nat.{ℕ, suc, ◌+◌, ◌-◌, ◌*◌, ◌≤◌}
 use native.Mathlib.Nat.{mul-le-mul_right, mul-add, le_trans, le_refl}
 use native.Mathlib.Omega.{arith}
 use lib.ListN.{length, length-append}
 use borrow.Author.Tests.{le-leb}
-use Rattle.rules.specs.Outcome.{Outcome, ok, refused, fault, ◌>>=◌, refuse}
+use Rattle.rules.specs.Outcome.{Outcome, ok, refused, fault, ◌>>=◌}
 use Rattle.rules.specs.Value.{BaseValue, Value, size, words, answer_words}
 use Rattle.rules.specs.Tree.{Tree, kind_of, has_repeat}
 use Rattle.rules.specs.Split.{Item}
-use Rattle.rules.specs.State.{State, Found, marker_mark, field_mark, parsed, present_at, present_from, unused, first}
+use Rattle.rules.specs.State.{State, Found, marker_mark, field_mark, parsed, first}
 use Rattle.rules.specs.Eval.{Ran, ended, ◌then◌, eval}
 use Rattle.rules.specs.Run.{run_fields, left_over, run_all}
 use Rattle.rules.specs.Demands.{All, OnePerField, Ends}

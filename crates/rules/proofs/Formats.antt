@@ -9,9 +9,9 @@ use native.Mathlib.Numerals.{add-one}
 use native.Mathlib.Omega.{arith}
 use lib.Dec.{leb, ltb, lit<}
 use borrow.Author.Tests.{le-leb, le-ltb, eq-eqb, leb-true, ltb-false, eqb-true}
-use lib.ListN.{length, get_or, take, drop, length-append, length-drop, length-map, take-append-drop}
+use lib.ListN.{length, take, drop, length-append, length-drop, length-map, take-append-drop}
 use lib.Seq.{take_at, drop_at, take-append_seam, take-length, drop-append-add, take-add, drop-drop, get_or-drop}
-use Rattle.utf8.specs.Utf8.{if◌then◌else◌}
+use Rattle.std.specs.Prelude.{if◌then◌else◌}
 use Rattle.wire.specs.Wire.{le, number_at, offset, area_start, area, never_fall, table_good, entry_of, HasEntry}
 use Rattle.wire.specs.Laws.{number_bound, rises_more, GoodTable, good_table, offset_rises, placed, entry_length}
 use Rattle.rules.specs.Base.{numbers, concat_map}
@@ -624,7 +624,7 @@ pub arguments_encode :
     → length args ≤ 256
     → length (flatten args) ≤ 32768
     → (sheet_fault (encode_sheet args) ≡ 0) × (arguments (encode_sheet args) ≡ args)
-unfolding sheet_fault sheet_good sheet_area arguments argument_count encode_sheet area_start if◌then◌else◌
+unfolding sheet_fault sheet_good sheet_area arguments argument_count encode_sheet area_start
 arguments_encode args few fits =
     let many : length args < 65536 = omega arith in
     let wide : length (flatten args) < 256 ^ 2 = omega arith in
@@ -661,7 +661,7 @@ pub record SheetGood (s : List ℕ) : Type 0 where
   pub fits : length (sheet_area s) ≤ 32768
 
 pub good_sheet : (s : List ℕ) → sheet_fault s ≡ 0 → SheetGood s
-unfolding sheet_fault sheet_good if◌then◌else◌
+unfolding sheet_fault sheet_good
 good_sheet s e = go (ltb (length s) 2) (ltb 256 (argument_count s)) (sheet_good s) refl refl refl e
   where
     go :

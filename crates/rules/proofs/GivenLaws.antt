@@ -2,12 +2,11 @@
 use mathlib.Core.List.{List, []}
 use mathlib.Core.Option.{Option, none}
 use mathlib.Core.Bool.{true}
-use mathlib.Core.Path.{◌≡◌, refl, sym, ap, ◌∙◌}
+use mathlib.Core.Path.{◌≡◌, refl, ap, ◌∙◌}
 use Prim.Native.Nat.{ℕ, ◌≤◌, ◌<◌}
 use native.Mathlib.Omega.{arith}
 use lib.ListN.{length}
 use borrow.Author.Tests.{eq-eqb, ne_eqb, le-leb, lt-leb, le-ltb, lt-ltb}
-use Rattle.utf8.specs.Utf8.{if◌then◌else◌}
 use Rattle.rules.specs.Outcome.{Outcome, ok, refused, ◌>>=◌, refuse}
 use Rattle.rules.specs.Sheet.{sheet_fault}
 use Rattle.rules.specs.Accept.{Checked, accepted, refused_at, Accepted, length_good, check_form}
@@ -63,7 +62,7 @@ module _ (b s : List ℕ) (ni : ℕ) where
     -- 6 and 5
     module _ (sheet : sheet_fault s ≡ 0 → ⊥) where
       pub input_sheet : input_in b s ni ≡ refused (refuse (sheet_fault s) none)
-      unfolding input_in form_in sheet_in ◌>>=◌ if◌then◌else◌
+      unfolding input_in form_in sheet_in ◌>>=◌
       input_sheet = rw (form, form_in, ne_eqb (sheet_fault s) 0 sheet)
 
       pub run_sheet : (na nl : ℕ) → run b s ni na nl ≡ ok (refused_input ni na nl (sheet_fault s) none)
@@ -78,7 +77,7 @@ module _ (b s : List ℕ) (ni : ℕ) where
       -- 7
       module _ (short : ni < 1792) where
         pub input_short : input_in b s ni ≡ refused (refuse 7 none)
-        unfolding input_in form_in sheet_in room_in ◌>>=◌ if◌then◌else◌
+        unfolding input_in form_in sheet_in room_in ◌>>=◌
         input_short = rw (form, form_in, eq-eqb (sheet_fault s) 0 sheet, lt-leb 1792 ni short)
 
         pub run_short : (na nl : ℕ) → run b s ni na nl ≡ ok (refused_input ni na nl 7 none)
@@ -91,7 +90,7 @@ module _ (b s : List ℕ) (ni : ℕ) where
 
       module _ (long : 1792 ≤ ni) where
         pub input_good : input_in b s ni ≡ ok a
-        unfolding input_in form_in sheet_in room_in ◌>>=◌ if◌then◌else◌
+        unfolding input_in form_in sheet_in room_in ◌>>=◌
         input_good = rw (form, form_in, eq-eqb (sheet_fault s) 0 sheet, le-leb 1792 ni long)
 
         pub split_goes : call_split b s ni ≡ (split a.form s >>= λ l. ok (split_report ni l))
@@ -99,12 +98,12 @@ module _ (b s : List ℕ) (ni : ℕ) where
         split_goes = rw (input_good, call_split)
 
         pub run_cramped : (na nl : ℕ) → na < 8240 → run b s ni na nl ≡ ok (refused_input ni na nl 7 none)
-        unfolding run room_in ◌>>=◌ if◌then◌else◌
+        unfolding run room_in ◌>>=◌
         run_cramped na nl h = rw (input_good, run, lt-leb 8240 na h)
 
         -- 14
         pub run_unlisted : (na nl : ℕ) → 8240 ≤ na → nl < 192 → run b s ni na nl ≡ ok (refused_input ni na nl 14 none)
-        unfolding run room_in list_room_in ◌>>=◌ if◌then◌else◌
+        unfolding run room_in list_room_in ◌>>=◌
         run_unlisted na nl h k = rw (input_good, run, le-leb 8240 na h, lt-leb 192 nl k)
 
         pub run_goes :
@@ -112,15 +111,15 @@ module _ (b s : List ℕ) (ni : ℕ) where
             → 8240 ≤ na
             → 192 ≤ nl
             → run b s ni na nl ≡ (split a.form s >>= λ l. report ni na nl l (run_line a.fields l))
-        unfolding run room_in list_room_in ◌>>=◌ if◌then◌else◌
+        unfolding run room_in list_room_in ◌>>=◌
         run_goes na nl h k = rw (input_good, run, le-leb 8240 na h, le-leb 192 nl k)
 
 -- ---- 28: the field that a take is told
 module _ (fields k : ℕ) where
   pub no_field : fields ≤ k → mark_in fields k ≡ refused (refuse 28 none)
-  unfolding mark_in if◌then◌else◌
+  unfolding mark_in
   no_field h = rw (le-ltb k fields h)
 
   pub field_there : k < fields → mark_in fields k ≡ ok (field_mark k)
-  unfolding mark_in if◌then◌else◌
+  unfolding mark_in
   field_there h = rw (lt-ltb k fields h)

@@ -9,12 +9,11 @@ use native.Mathlib.Omega.{arith}
 use borrow.Author.Tests.{le-ltb, ltb-true, ltb-false}
 use lib.Dec.{ltb}
 use lib.ListN.{length, replicate, length-replicate}
-use Rattle.utf8.specs.Utf8.{if◌then◌else◌}
 use Rattle.rules.specs.Outcome.{Outcome, ok, refused, fault, MissingItem, entry_words, list_words, Refusal, ◌>>=◌, refuse}
 use Rattle.rules.specs.Base.{concat_map}
 use Rattle.rules.specs.Sheet.{arguments}
 use Rattle.rules.specs.Form.{read_form}
-use Rattle.rules.specs.Accept.{accepted, Accepted, check_form, letters_of}
+use Rattle.rules.specs.Accept.{letters_of}
 use Rattle.rules.specs.Split.{Split, split_from, items_of, records_from}
 use Rattle.rules.specs.State.{State, marker_mark, empty_state, construct}
 use Rattle.rules.specs.Run.{Line, too_many, ambiguity, line_of, padded, split}
@@ -73,7 +72,7 @@ pub few_line :
     → length (items_of x) ≤ 256
     → x.ambiguous ≡ some i
     → line_of (arguments s) x ≡ ok (stopped s x i)
-unfolding line_of items_of ambiguity construct ◌>>=◌ if◌then◌else◌
+unfolding line_of items_of ambiguity construct ◌>>=◌
 few_line b s x i given few a =
     let marker = (ambiguous_law (letters_of (read_form b)) (arguments s) x i given a).0 in
     rw (le-ltb 256 (length (items_of x)) few, marker, a)
@@ -87,7 +86,7 @@ module _ (b s : List ℕ) (l : Line) (e : Refusal) (refuses : l.refusal ≡ some
   module _ (x : Split) (given : Splits b s x) where
     -- not more than 256 items
     few_refuses : ltb 256 (length (items_of x)) ≡ false → line_of (arguments s) x ≡ ok l → (o : Option ℕ) → x.ambiguous ≡ o → Refuses b s l
-    unfolding line_of items_of ambiguity construct ◌>>=◌ if◌then◌else◌
+    unfolding line_of items_of ambiguity construct ◌>>=◌
     few_refuses t g none a =
         let (u, h, k) = bind_ok (construct marker_mark (length (items_of x)) x.marker) _ l (rw t at g) in
         let same = ap (λ (l : Line). l.refusal) (ok_injective k) in
@@ -97,7 +96,7 @@ module _ (b s : List ℕ) (l : Line) (e : Refusal) (refuses : l.refusal ≡ some
         nine x i given few a (sym (ok_injective (sym (few_line b s x i given few a) ∙ g)))
 
     line_refuses : line_of (arguments s) x ≡ ok l → Refuses b s l
-    unfolding line_of if◌then◌else◌
+    unfolding line_of
     line_refuses g = go (ltb 256 (length (items_of x))) refl
       where
         go : (t : Bool) → ltb 256 (length (items_of x)) ≡ t → Refuses b s l

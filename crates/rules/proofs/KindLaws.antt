@@ -8,7 +8,7 @@ use native.Mathlib.Omega.{arith}
 use lib.Dec.{eqb}
 use lib.ListN.{length}
 use borrow.Author.Tests.{eqb-true, eqb-false, eq-eqb, ne_eqb}
-use Rattle.utf8.specs.Utf8.{if◌then◌else◌}
+use Rattle.std.specs.Prelude.{if◌then◌else◌}
 use Rattle.rules.specs.Base.{is_some, ◌>>?◌}
 use Rattle.rules.specs.Value.{Base, yes_no, text, number, Kind, one, optional, list, list_of_optional, optional_list, BaseValue, is_number, Value, base, absent, present, list_of}
 use Rattle.rules.specs.Value.{base_number, same_base, base_of, is_base, is_optional, is_list, has_kind, size, of_kind, bases_of}
@@ -79,7 +79,7 @@ base_by : ℕ → Base
 base_by n = if eqb n 0 then yes_no else (if eqb n 1 then text else number)
 
 base_by_lem : (b : Base) → base_by (base_number b) ≡ b
-unfolding base_by base_number if◌then◌else◌
+unfolding base_by base_number
 base_by_lem yes_no = refl
 base_by_lem text = refl
 base_by_lem number = refl
@@ -92,7 +92,7 @@ kind_by n b =
     (if eqb n 3 then list_of_optional b else optional_list b)))
 
 kind_by_lem : (k : Kind) → kind_by (shape_of k) (inner_base k) ≡ k
-unfolding kind_by shape_of inner_base if◌then◌else◌
+unfolding kind_by shape_of inner_base
 kind_by_lem (one b) = refl
 kind_by_lem (optional b) = refl
 kind_by_lem (list b) = refl
@@ -232,7 +232,7 @@ pub choice_kind_lem :
     (x y : Option Kind)
     → is_some (x >>? λ a. y >>? λ b. choice_kind a b) ≡ true
     → ((x >>? λ a. y >>? λ b. choice_kind a b) ≡ x) × (y ≡ x)
-unfolding is_some ◌>>?◌ choice_kind if◌then◌else◌
+unfolding is_some ◌>>?◌ choice_kind
 choice_kind_lem none y e = absurd (false≢true e)
 choice_kind_lem (some a) none e = absurd (false≢true e)
 choice_kind_lem (some a) (some b) e = go (same_kind a b) refl e
@@ -246,7 +246,7 @@ choice_kind_lem (some a) (some b) e = go (same_kind a b) refl e
     go false h e = absurd (false≢true e)
 
 pub base_kind_lem : (b : Base) (x : Option Kind) → is_some (x >>? base_kind b) ≡ true → (x >>? base_kind b ≡ x) × (x ≡ some (one b))
-unfolding is_some ◌>>?◌ base_kind if◌then◌else◌
+unfolding is_some ◌>>?◌ base_kind
 base_kind_lem b none e = absurd (false≢true e)
 base_kind_lem b (some k) e = go (same_kind (one b) k) refl e
   where
@@ -259,7 +259,7 @@ base_kind_lem b (some k) e = go (same_kind (one b) k) refl e
     go false h e = absurd (false≢true e)
 
 pub same_base_kind : (b : Base) → base_kind b (one b) ≡ some (one b)
-unfolding base_kind same_kind same_base shape_of inner_base base_number if◌then◌else◌
+unfolding base_kind same_kind same_base shape_of inner_base base_number
 same_base_kind yes_no = refl
 same_base_kind text = refl
 same_base_kind number = refl

@@ -3,7 +3,7 @@ use mathlib.Core.Bool.{Bool, true, false, ◌&&◌}
 use mathlib.Core.List.{List, [], ◌∷◌, map}
 use mathlib.Core.Path.{◌≡◌, refl}
 use Prim.Native.Nat.{ℕ, suc, ◌+◌}
-use Rattle.utf8.specs.Utf8.{if◌then◌else◌}
+use Rattle.std.specs.Prelude.{if◌then◌else◌}
 use Rattle.rules.specs.State.{parsed, present, pick_from, pick_winner, conflicts, save_conflicts}
 use Rattle.rules.specs.Marks.{Keeps, MarksTold}
 use Rattle.rules.proofs.Places.{conflict_present}
@@ -30,7 +30,6 @@ loser_renamed r h w (m ∷ ms) (l ∷ ls) = rw (h l, loser_renamed r h w ms ls)
 
 -- a function of what is picked
 if_map : (r : ℕ → ℕ) (b : Bool) (x y : ℕ) → r (if b then x else y) ≡ (if b then r x else r y)
-unfolding if◌then◌else◌
 if_map r true x y = refl
 if_map r false x y = refl
 

@@ -1,14 +1,13 @@
 -- What the base values of an accepted form mean: the fallbacks' own values, and all that is read from a line.
-use mathlib.Core.Bool.{Bool, ◌&&◌}
+use mathlib.Core.Bool.{◌&&◌}
 use mathlib.Core.List.{List, [], ◌∷◌}
-use mathlib.Core.Option.{Option, some, none, some-injective, none-ne-some}
+use mathlib.Core.Option.{some, some-injective, none-ne-some}
 use mathlib.Core.Path.{◌≡◌, subst}
-use Prim.Native.Nat.{ℕ, ◌≤◌, ◌<◌}
+use Prim.Native.Nat.{ℕ, ◌≤◌}
 use native.Mathlib.Omega.{arith}
 use lib.Dec.{leb, eqb}
 use lib.ListN.{length, get_elem?}
 use borrow.Author.Tests.{eqb-true}
-use Rattle.rules.specs.Base.{◌>>?◌}
 use Rattle.rules.specs.Value.{yes_no, text, number, Kind, one, optional, list, list_of_optional, optional_list, name, BaseValue, is_yes, is_text, is_number}
 use Rattle.rules.specs.Form.{Node, Name, Form, read_form}
 use Rattle.rules.specs.Tree.{Tree, zeros, fallback_value}

@@ -8,7 +8,7 @@ use native.Mathlib.Omega.{arith}
 use lib.Dec.{leb, eqb}
 use lib.ListN.{length, length-append, get_elem?}
 use borrow.Author.Tests.{eq-eqb, ne_eqb, eqb-true}
-use Rattle.utf8.specs.Utf8.{if◌then◌else◌}
+use Rattle.std.specs.Prelude.{if◌then◌else◌}
 use Rattle.rules.specs.Base.{null, contains, minus, write}
 use Rattle.rules.specs.Outcome.{Spot, Outcome, ok, refused, fault, panic, ◌>>=◌, at, MissingItem, Refusal, refuse, is_missing, can_catch, wrong_input, combine_with}
 use Rattle.rules.specs.Outcome.{args_iter635, remove431, remove433, remove434, short_long125, short_long126, short_long127}
@@ -98,7 +98,7 @@ at_none spot none = tt
 at_none spot (some a) = tt
 
 find_none : (is : List Item) (test : Item → Bool) (places : List ℕ) → NoRefusal (find_in is test places)
-unfolding find_in if◌then◌else◌
+unfolding find_in
 find_none is test [] = tt
 find_none is test (i ∷ places) =
     bind_none (at args_iter635 (get_elem? is i)) _ (at_none _ _) (λ x. go x (test x) (find_none is test places))
@@ -111,7 +111,7 @@ find_none is test (i ∷ places) =
     go x false h = h
 
 remove_none : (mark : ℕ) (s : State) (i : ℕ) → NoRefusal (remove mark s i)
-unfolding remove if◌then◌else◌
+unfolding remove
 remove_none mark s i = go (in_scope s i)
   where
     there_none : (b : Bool) → NoRefusal (if b
@@ -130,7 +130,7 @@ remove_none mark s i = go (in_scope s i)
 
 -- ---- leaves
 shown_none : (m : Named) → NoRefusal (shown_name m)
-unfolding shown_name if◌then◌else◌
+unfolding shown_name
 shown_none m = go (null m.shorts) (null m.longs)
   where
     go : (a b : Bool) → NoRefusal (if a
@@ -145,7 +145,7 @@ shown_none m = go (null m.shorts) (null m.longs)
         bind_none (at short_long127 (get_elem? m.shorts 0)) _ (at_none _ _) (λ _. bind_none (at short_long127 (get_elem? m.longs 0)) _ (at_none _ _) (λ _. tt))
 
 not_found_tells : (unnamed : Spot) (n : ℕ) (m : Named) (s : State) → Tells (own n s) s (not_found unnamed n m s) s
-unfolding not_found ◌>>=◌ if◌then◌else◌
+unfolding not_found ◌>>=◌
 not_found_tells unnamed n m s = go (shown_name m) (shown_none m)
   where
     go : (o : Outcome Bool) → NoRefusal o → Tells {A = Value} (own n s) s (o >>= λ shown. if shown then refused (refuse_missing n s) else fault (panic unnamed)) s
@@ -166,13 +166,13 @@ parse_never number i t s = go (number_of t)
 
 -- `Flag`
 flag_used : (n : ℕ) (m : Named) (w : Bool) (s : State) (u : Outcome State) → NoRefusal u → RanTells (own n s) s (leaf s (u >>= λ t. took true t) (flag_value n m w))
-unfolding leaf took flag_value ◌>>=◌ if◌then◌else◌
+unfolding leaf took flag_value ◌>>=◌
 flag_used n m w s (ok t) h = tt
 flag_used n m w s (refused e) h = absurd h
 flag_used n m w s (fault x) h = tt
 
 flag_absent : (n : ℕ) (m : Named) (w : Bool) (s : State) → Tells (own n s) s (flag_value n m w false s) s
-unfolding flag_value if◌then◌else◌
+unfolding flag_value
 flag_absent n m true s = tt
 flag_absent n m false s = not_found_tells parse_flag559 n m s
 
@@ -227,7 +227,7 @@ argument_tells mark is n m b a s = go (find_in is (matches_arg m a) (unused s)) 
 
 -- `Positional`
 placed_never : (p : Position) (b : Base) (x : Operand) (s : State) → Never (placed_value p b x s)
-unfolding placed_value wrong_position if◌then◌else◌
+unfolding placed_value wrong_position
 placed_never unrestricted b x s = parse_never b x.place x.text s
 placed_never strict b x s = go x.strict
   where
@@ -279,11 +279,11 @@ never_then {A = A} {B = B} r f h g = go r.outcome h
     go (fault x) h = tt
 
 swallows_missing : (catch : Bool) (e : Refusal) (s : State) → is_missing e ≡ true → swallowed catch e s s ≡ true
-unfolding swallowed if◌then◌else◌
+unfolding swallowed
 swallows_missing catch e s h = rw (h, eq-eqb s.remaining s.remaining refl, or-true (catch && not (wrong_input e)))
 
 option_never : (ls : List MissingItem) (catch : Bool) (len : Option ℕ) (s : State) (r : Ran Value) → RanTells ls s r → Never (parse_option catch len s r).outcome
-unfolding parse_option after ended if◌then◌else◌
+unfolding parse_option after ended
 option_never ls catch len s r h = go r.outcome h
   where
     refusal : (e : Refusal) → Lacks ls s r.state e → (b : Bool) → swallowed catch e s r.state ≡ b → (m : Bool) → is_missing e ≡ m
@@ -327,7 +327,7 @@ then_ok {A = A} {B = B} r f b e = go r.outcome refl
 
 -- where nothing was there, the state is put back
 option_none : (catch : Bool) (s : State) (r : Ran Value) → (parse_option catch none s r).outcome ≡ ok none → (parse_option catch none s r).state ≡ s
-unfolding parse_option after ended if◌then◌else◌ fewer
+unfolding parse_option after ended fewer
 option_none catch s r e = go r.outcome refl
   where
     swallow : (x : Refusal) → r.outcome ≡ refused x → (b : Bool) → swallowed catch x s r.state ≡ b → (parse_option catch none s r).state ≡ s
@@ -341,7 +341,7 @@ option_none catch s r e = go r.outcome refl
 
 module _ (ls : State → List MissingItem) (catch stops : Bool) (run : State → Ran Value) (h : (s : State) → RanTells (ls s) s (run s)) where
   repeat_never : (fuel : ℕ) (len : Option ℕ) (s : State) → Never (repeat catch stops fuel len run s).outcome
-  unfolding repeat ended if◌then◌else◌
+  unfolding repeat ended
   repeat_never zero len s = tt
   repeat_never (suc fuel) len s =
       never_then (parse_option catch len s (run s)) _ (option_never (ls s) catch len s (run s) (h s)) (λ v t. go v t (repeat_never fuel (some t.remaining) t))
@@ -378,7 +378,7 @@ module _ (ls : State → List MissingItem) (catch stops : Bool) (run : State →
     ]
 
     counts : (x : Value) (t : State) → (next (some x) t).outcome ≡ ok [] → ⊥
-    unfolding next if◌then◌else◌ ended
+    unfolding next ended
     counts x t e = go (idle stops s t) refl
       where
         go : (b : Bool) → idle stops s t ≡ b → ⊥
@@ -464,7 +464,7 @@ module _ (l m : List MissingItem) (s : State) where
       (a b : State) (e d : Refusal) → Lacks l s a e → Lacks m s b d → (p q c : Bool) → is_missing e ≡ p → is_missing d ≡ q
       → can_catch e ≡ c
       → Lacks (both p) s s (combine_with e d)
-  unfolding combine_with if◌then◌else◌
+  unfolding combine_with
   combine_lacks a b e d le ld true true c x y z = rw (x, y) (record {
     only = λ h. absurd (true≢false (sym (twenty (e.missing ++ d.missing)) ∙ h));
     unchanged = λ _. refl;
@@ -475,7 +475,7 @@ module _ (l m : List MissingItem) (s : State) where
   combine_lacks a b e d le ld false q false x y z = rw (x, z) (no_entries (both false) s s e x (le.only x))
 
 picked_tells : (l : List MissingItem) (s : State) (a b : Ran Value) (p : Picked) → RanTells l s (picked a b p)
-unfolding picked ended if◌then◌else◌ at
+unfolding picked ended at
 picked_tells l s a b p = go p.first (value_of a.outcome) (value_of b.outcome)
   where
     go :
@@ -500,14 +500,14 @@ module _ (l m : List MissingItem) (s : State) (a b : Ran Value) where
       → wrong_input e ≡ wrong
       → (ls : List MissingItem)
       → RanTells ls s (ends (if used && wrong then refused e else side f none))
-  unfolding ended if◌then◌else◌ side
+  unfolding ended side
   one_side f e k left h true true q ls =
       let x = wrong_not_missing e q in no_entries ls s s e x (h.only x)
   one_side f e k left h true false q ls = picked_tells ls s a b (record { first = f; place = none })
   one_side f e k left h false w q ls = picked_tells ls s a b (record { first = f; place = none })
 
   both_sides : (ls : List MissingItem) (c : Bool) (p : Picked) → RanTells ls s (ends (if c then side true none else ok p))
-  unfolding ended if◌then◌else◌ side
+  unfolding ended side
   both_sides ls true p = picked_tells ls s a b (record { first = true; place = none })
   both_sides ls false p = picked_tells ls s a b p
 
@@ -542,7 +542,7 @@ catches_missing e h = go (eqb e.number 20) refl
     go false q = refl
 
 fallback_never : (ls : List MissingItem) (v : BaseValue) (s : State) (r : Ran Value) → RanTells ls s r → Never (eval_fallback v s r).outcome
-unfolding eval_fallback after ended if◌then◌else◌
+unfolding eval_fallback after ended
 fallback_never ls v s r h = go r.outcome h
   where
     caught : (e : Refusal) → Lacks ls s r.state e → (c : Bool) → can_catch e ≡ c → Never {A = Value} (if c then ok (base v) else refused e)
@@ -562,7 +562,7 @@ fallback_never ls v s r h = go r.outcome h
     go (fault x) h = tt
 
 guarded_never : (lo hi : ℕ) (v : Value) (s : State) → Never (guarded lo hi v s)
-unfolding guarded if◌then◌else◌
+unfolding guarded
 guarded_never lo hi (base (is_yes b)) s = tt
 guarded_never lo hi (base (is_text t)) s = tt
 guarded_never lo hi (base (is_number n)) s = go (leb lo n && leb n hi)
@@ -593,7 +593,7 @@ guard_tells ls lo hi s r h = go r.outcome h
 
 -- ---- every node
 some_never : (ls : State → List MissingItem) (catch : Bool) (run : State → Ran Value) → ((s : State) → RanTells (ls s) s (run s)) → (s : State) → Never (eval_some catch run s).outcome
-unfolding eval_some ended if◌then◌else◌
+unfolding eval_some ended
 some_never ls catch run h s = never_then (repeated catch false run s) _ (repeated_never ls catch false run h s) (λ vs t. go vs (null vs))
   where
     go : (vs : List Value) (b : Bool) → Never {A = Value} (if b then refused (refuse 21 none) else ok (list_of vs))
@@ -628,7 +628,6 @@ all_append P [] m h g = g
 all_append P (x ∷ l) m h g = (h.0, all_append P l m h.1 g)
 
 kept_scopes : (s : State) (b : Bool) (l : List MissingItem) → All (LookedIn s) l → All (LookedIn s) (if b then l else [])
-unfolding if◌then◌else◌
 kept_scopes s true l h = h
 kept_scopes s false l h = tt
 
@@ -651,7 +650,6 @@ lacking_scopes k is (Fallback v t) s = tt
 lacking_scopes k is (Guard lo hi t) s = lacking_scopes k is t s
 
 kept_few : (b : Bool) (l : List MissingItem) → length (if b then l else []) ≤ length l
-unfolding if◌then◌else◌
 kept_few true l = omega arith
 kept_few false l = omega arith
 

@@ -5,14 +5,13 @@ use mathlib.Core.Option.{Option, none}
 use mathlib.Core.Path.{◌≡◌, refl, sym, ap, ◌∙◌}
 use Prim.Native.Nat.{ℕ, ◌≤◌, ◌<◌}
 use native.Mathlib.Omega.{arith}
-use lib.ListN.{length}
 use borrow.Author.Tests.{eq-eqb}
-use Rattle.rules.specs.Outcome.{Outcome, ok, refused, fault, Refusal, is_missing, ◌>>=◌}
+use Rattle.rules.specs.Outcome.{Outcome, ok, refused, fault, is_missing, ◌>>=◌}
 use Rattle.rules.specs.Value.{Value, answer_words}
-use Rattle.rules.specs.Form.{Form, read_form}
+use Rattle.rules.specs.Form.{Form}
 use Rattle.rules.specs.Eval.{Ran}
 use Rattle.rules.specs.Accept.{Accepted, accepted, check_form}
-use Rattle.rules.specs.Run.{Line, Report, report, report_with, split, run_all, run_line, run}
+use Rattle.rules.specs.Run.{Report, report, report_with, split, run_all, run_line, run}
 use Rattle.rules.specs.Answered.{FormFault, bad_counts, bad_name, bad_node, bad_field, bad_use, SheetFault, many_arguments, bad_sheet}
 use Rattle.rules.specs.Answered.{AtFault, bad_form, sheet_at_fault, short_slice, short_list, many_items, ambiguous_letter, Left, Ready, RunNumber}
 use Rattle.rules.specs.Missing.{ListReported}

@@ -9,7 +9,7 @@ use native.Mathlib.Omega.{arith}
 use lib.Dec.{eqb}
 use lib.ListN.{length, get_elem?}
 use borrow.Author.Tests.{ne_eqb, eqb-true, eqb-false}
-use Rattle.utf8.specs.Utf8.{if◌then◌else◌}
+use Rattle.std.specs.Prelude.{if◌then◌else◌}
 use Rattle.rules.specs.Base.{contains, occurrences, numbers, concat_map}
 use Rattle.rules.specs.Form.{Node, Form, read_form}
 use Rattle.rules.specs.Tree.{Tree}
@@ -64,7 +64,7 @@ module _ (f : Form) (ts : List Tree) (k : ℕ) (x : Node) (c : ℕ) (t : Tree) (
       go false false q r h = absurd (false≢true h)
 
   made_part : (u : Tree) → Made f ts k x u → contains (children_of x) c ≡ true → PartOf t u
-  unfolding children_of contains if◌then◌else◌
+  unfolding children_of contains
   made_part u (flag_made l z r o n) h = absurd (false≢true (rw z at h))
   made_part u (argument_made l z r o n) h = absurd (false≢true (rw z at h))
   made_part u (positional_made z p r o) h = absurd (false≢true (rw z at h))
@@ -128,7 +128,7 @@ module _ (f : Form) (ts : List Tree) (m c : ℕ) (x : Node) (xs : List Node) (t 
       (⊎_elim (λ (z : top ≡ c). inl z) (λ (z : suc m ≤ top). inr (omega arith)) r.upward)
 
 top_of_lem : (f : Form) (ts : List Tree) (m c : ℕ) (xs : List Node) (t : Tree) → TreesAt f ts m xs → get_elem? ts c ≡ some t → Top ts m c xs t (top_from m c xs)
-unfolding top_from concat_map contains if◌then◌else◌
+unfolding top_from concat_map contains
 top_of_lem f ts m c [] t h e = record { childless = refl; upward = inl refl; tree = t; stands = e; part = whole }
 top_of_lem f ts m c (x ∷ xs) t h e = go (contains (children_of x) c) refl (λ d u. top_of_lem f ts (suc m) d xs u h.1)
   where
@@ -142,7 +142,7 @@ top_of_lem f ts m c (x ∷ xs) t h e = go (contains (children_of x) c) refl (λ 
 
 -- ---- what is used once, and is no child, is a field
 occurs_append : (n : ℕ) (ks ls : List ℕ) → occurrences n (ks ++ ls) ≡ occurrences n ks + occurrences n ls
-unfolding occurrences if◌then◌else◌
+unfolding occurrences
 occurs_append n [] ls = omega arith
 occurs_append n (k ∷ ks) ls = go (eqb n k) (occurs_append n ks ls)
   where
@@ -155,7 +155,7 @@ occurs_append n (k ∷ ks) ls = go (eqb n k) (occurs_append n ks ls)
     go false h = omega arith
 
 none_occurs : (n : ℕ) (ks : List ℕ) → contains ks n ≡ false → occurrences n ks ≡ 0
-unfolding contains occurrences if◌then◌else◌
+unfolding contains occurrences
 none_occurs n [] h = refl
 none_occurs n (k ∷ ks) h = go (eqb k n) refl (none_occurs n ks) h
   where
@@ -170,7 +170,7 @@ none_occurs n (k ∷ ks) h = go (eqb k n) refl (none_occurs n ks) h
 
 -- the first of them
 index_at : (n : ℕ) (ks : List ℕ) → (occurrences n ks ≡ 0 → ⊥) → get_elem? ks (index_of n ks) ≡ some n
-unfolding index_of occurrences if◌then◌else◌
+unfolding index_of occurrences
 index_at n [] h = absurd (h refl)
 index_at n (k ∷ ks) h = go (eqb n k) refl h (index_at n ks)
   where

@@ -10,7 +10,7 @@ use native.Mathlib.Omega.{arith}
 use lib.Dec.{leb, eqb}
 use borrow.Author.Tests.{leb-true}
 use lib.ListN.{length}
-use Rattle.utf8.specs.Utf8.{if◌then◌else◌}
+use Rattle.std.specs.Prelude.{if◌then◌else◌}
 use Rattle.rules.specs.Base.{is_some, null, all, ◌>>?◌}
 use Rattle.rules.specs.Outcome.{Spot, Outcome, ok, refused, fault, parse_flag559, take_argument679, ◌>>=◌, at, can_catch, refuse}
 use Rattle.rules.specs.Value.{Base, yes_no, text, number, Kind, one, item, BaseValue, is_yes, is_text, is_number, Value, base, absent, present, nil, cons, base_number, same_base, base_of}
@@ -89,7 +89,7 @@ unfolding leaf
 leaf_went follows e u p = rw e (record { step = u; ends = p; passed = tt; cost = omega arith })
 
 pub named_shown : (m : Named) → is_named m ≡ true → shown_name m ≡ ok true
-unfolding is_named shown_name null at ◌>>=◌ if◌then◌else◌
+unfolding is_named shown_name null at ◌>>=◌
 named_shown m h = go m.shorts m.longs h
   where
     go :
@@ -110,7 +110,7 @@ unsigned_small s n e =
     subst (λ (k : ℕ). k ≤ 4294967295) (some-injective (digits 0 s) n p.1) (leb-true (digits 0 s) 4294967295 q.1)
 
 number_small : (s : List ℕ) (n : ℕ) → number_of s ≡ some n → n ≤ 4294967295
-unfolding number_of if◌then◌else◌
+unfolding number_of
 number_small [] n e = absurd (none-ne-some n e)
 number_small (b ∷ s) n e = go (eqb b 43) e
   where
@@ -120,7 +120,7 @@ number_small (b ∷ s) n e = go (eqb b 43) e
 
 -- 23 and 24
 position_number : (p : Position) (w : Bool) (n : ℕ) → wrong_position p w ≡ some n → (20 ≤ n) × (n ≤ 26)
-unfolding wrong_position if◌then◌else◌
+unfolding wrong_position
 position_number unrestricted w n h = absurd (none-ne-some n h)
 position_number strict true n h = absurd (none-ne-some n h)
 position_number strict false n h = let q = some-injective 23 n h in omega arith
@@ -136,7 +136,7 @@ module _ (is : List Item) (M : BaseValue → Type 0) (means : Meaning is M) (m :
       (k : Option Kind) (spot : Spot) (n : ℕ) (names : Named) (s : State)
       → is_named names ≡ true
       → Fine 26 (Fits M m k) (not_found spot n names s)
-  unfolding not_found refuse_missing ◌>>=◌ if◌then◌else◌
+  unfolding not_found refuse_missing ◌>>=◌
   not_found_fine k spot n names s h = rw (named_shown names h) (omega arith)
 
   flag_fine :
@@ -210,7 +210,7 @@ module _
         (n : ℕ) (m : Named) (switch : Bool)
         → is_named m ≡ true
         → Evaluated M (length is) (Flag n m switch) s (eval_flag k is n m switch s)
-    unfolding eval_flag kind_of most has_repeat leaves if◌then◌else◌
+    unfolding eval_flag kind_of most has_repeat leaves
     flag_sound n m switch h =
         let x = flag_takes k p is m s g in
         let f = flag_fine is M means _ n m switch x.0.answer x.0.state h in
@@ -221,7 +221,7 @@ module _
         → is_named m ≡ true
         → is_read b ≡ true
         → Evaluated M (length is) (Argument n m b adjacent) s (eval_argument k is n m b adjacent s)
-    unfolding eval_argument kind_of most has_repeat leaves leaf if◌then◌else◌
+    unfolding eval_argument kind_of most has_repeat leaves leaf
     argument_sound n m b adjacent h e =
         ⊎_elim
         (λ x. let f = argument_fine is M means _ n m b x.0.answer x.0.state h e x.3 in
@@ -233,7 +233,7 @@ module _
         (n : ℕ) (q : Position) (b : Base)
         → is_read b ≡ true
         → Evaluated M (length is) (Positional n q b) s (eval_positional k is n q b s)
-    unfolding eval_positional kind_of most has_repeat leaves if◌then◌else◌
+    unfolding eval_positional kind_of most has_repeat leaves
     positional_sound n q b e =
         let x = positional_takes k p is s g in
         let f = positional_fine is M means _ n q b x.0.answer x.0.state e x.3 in
@@ -260,7 +260,7 @@ module _
     Q q = Went M n 26 (Optioned P len q.state) s c (after r q)
 
     counted : (v : Value) (b : Bool) → P v → fewer r.state.remaining len ≡ b → Q (ended (ok (if b then some v else none)) r.state)
-    unfolding Q ended if◌then◌else◌
+    unfolding Q ended
     counted v true f e = after_ended r.state (ok (some v)) w w.step (f, e)
     counted v false f e = after_ended r.state (ok none) w w.step tt
 

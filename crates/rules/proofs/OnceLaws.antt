@@ -9,7 +9,6 @@ use native.Mathlib.Omega.{arith}
 use lib.Dec.{eqb}
 use lib.ListN.{take, get_elem?}
 use borrow.Author.Tests.{eqb-true}
-use Rattle.utf8.specs.Utf8.{if◌then◌else◌}
 use Rattle.rules.specs.Outcome.{at, ◌>>=◌}
 use Rattle.rules.specs.Split.{Item, Short, Long, ArgWord, Word, PosWord}
 use Rattle.rules.specs.State.{position, same_name, before, only_once}
@@ -28,7 +27,7 @@ pub back_more : {A : Type 0} (l : List A) (j : ℕ) (a : A) → get_elem? l j �
 back_more l j a e = ap reverse (take_more l j a e) ∙ reverse-append (take j l) (a ∷ [])
 
 nowhere : (k : ℕ) (l : List Item) → position (λ _. false) k l ≡ none
-unfolding position if◌then◌else◌
+unfolding position
 nowhere k [] = refl
 nowhere k (z ∷ l) = nowhere (suc k) l
 
@@ -42,7 +41,7 @@ name_position (PosWord t) l = sym (nowhere 0 l)
 
 module _ (is : List Item) (i : ℕ) (y : Item) (here : get_elem? is i ≡ some y) where
   pub once_searches : only_once is i ≡ before i (position (same_named y) 0 (reverse (take i is)))
-  unfolding only_once before position at ◌>>=◌ if◌then◌else◌
+  unfolding only_once before position at ◌>>=◌
   once_searches = go (eqb i 0) refl
     where
       go : (b : Bool) → eqb i 0 ≡ b → only_once is i ≡ before i (position (same_named y) 0 (reverse (take i is)))

@@ -1,7 +1,7 @@
 -- What the theorems by computing open: every definition of the rules, by layer.
 use mathlib.Core.Bool.{xor}
 use mathlib.Core.List.{flatten}
-use Rattle.utf8.specs.Utf8.{if◌then◌else◌, table, holds, fits, lead_bits, continued, scalar, decode_by, decode, decode_at}
+use Rattle.utf8.specs.Utf8.{table, holds, fits, lead_bits, continued, scalar, decode_by, decode, decode_at}
 use Rattle.utf8.specs.Utf8.{well_formed_after, well_formed}
 use Rattle.wire.specs.Wire.{le, number_at, offset, area_start, area, never_fall, table_good, entry_of}
 use Rattle.rules.specs.Base.{null, all, contains, same, occurrences, numbers, concat_map, first_fault, is_some, ◌>>?◌, minus}
@@ -43,7 +43,7 @@ use Rattle.rules.specs.Encode.{bytes_of, words_of, offsets_from, encode_sheet, e
 use Rattle.rules.specs.Lines.{reported, entries, all_kinds}
 
 unfoldable pub formats : Unit {0}
-unfolding xor flatten if◌then◌else◌ table holds fits lead_bits continued scalar decode_by decode decode_at well_formed_after
+unfolding xor flatten table holds fits lead_bits continued scalar decode_by decode decode_at well_formed_after
     well_formed le number_at offset area_start area never_fall table_good entry_of null all contains same occurrences
     numbers concat_map first_fault is_some ◌>>?◌ minus write slice_from slice entry_words list_words ◌>>=◌ at is_missing
     can_catch wrong_input combine_with list_of base_number same_base base_of is_base is_optional is_list has_kind of_kind bases_of word size

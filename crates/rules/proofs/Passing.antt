@@ -10,7 +10,6 @@ use lib.Dec.{ltb, eqb}
 use lib.ListN.{length, get_or, replicate}
 use lib.Seq.{take_at, drop_at}
 use borrow.Author.Tests.{eq-eqb, lt-ltb}
-use Rattle.utf8.specs.Utf8.{if◌then◌else◌}
 use Rattle.rules.specs.Base.{all, minus, write}
 use Rattle.rules.specs.Outcome.{Outcome, ok, refused, fault, ◌>>=◌, at, Refusal, construct390, construct391}
 use Rattle.rules.specs.Sheet.{arguments}
@@ -46,7 +45,7 @@ raw_back s = λ i. record {
 }
 
 pub good_returns : (fields : ℕ) (s : State) → state_good fields (length s.marks) s ≡ true → Returns fields s
-unfolding state_in to_raw padded zeros if◌then◌else◌
+unfolding state_in to_raw padded zeros
 good_returns fields s h =
     let rest : List ℕ = replicate (256 - length s.marks) 0 in
     rw (raw_back s, h, eq-eqb (length s.marks) (length s.marks) refl, drop_at s.marks rest (length s.marks) refl, all_replicate (eqb 0) (256 - length s.marks) 0 refl)

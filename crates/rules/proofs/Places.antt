@@ -10,7 +10,7 @@ use native.Mathlib.Omega.{arith}
 use lib.Dec.{eqb}
 use lib.ListN.{length, take, drop, set, replicate, get_elem?}
 use borrow.Author.Tests.{ne_eqb, lt-ltb, le-leb, lt-leb}
-use Rattle.utf8.specs.Utf8.{if◌then◌else◌}
+use Rattle.std.specs.Prelude.{if◌then◌else◌}
 use Rattle.rules.specs.Base.{all, minus, write, slice}
 use Rattle.rules.specs.State.{Picked, marker_mark, parsed, present, present_at, present_from, count_present, pick_from, conflicts, mark_good}
 use Rattle.rules.specs.Demands.{All}
@@ -22,17 +22,14 @@ pub if_elim : {A : Type 0} (P : A → Type 0) (b : Bool) (x y : A)
     → (b ≡ true → P x)
     → (b ≡ false → P y)
     → P (if b then x else y)
-unfolding if◌then◌else◌
 if_elim P true x y f g = f refl
 if_elim P false x y f g = g refl
 
 pub if_length : (b : Bool) (i : ℕ) (l : List ℕ) → length (if b then i ∷ l else l) ≡ (if b then suc (length l) else length l)
-unfolding if◌then◌else◌
 if_length true i l = refl
 if_length false i l = refl
 
 pub if_suc : (b : Bool) (x y : ℕ) → suc (if b then x else y) ≡ (if b then suc x else suc y)
-unfolding if◌then◌else◌
 if_suc true x y = refl
 if_suc false x y = refl
 
@@ -64,11 +61,11 @@ unfolding present_at
 mark_present m i x e = rw (e, present_at)
 
 pub minus_below : (a b : ℕ) → b ≤ a → minus a b ≡ some (a - b)
-unfolding minus if◌then◌else◌
+unfolding minus
 minus_below a b h = rw (le-leb b a h)
 
 pub slice_below : {A : Type 0} (a b : ℕ) (l : List A) → a ≤ b → b ≤ length l → slice a b l ≡ some (take (b - a) (drop a l))
-unfolding slice if◌then◌else◌
+unfolding slice
 slice_below a b l h k = rw (le-leb a b h, le-leb b (length l) k)
 
 -- ---- writes
@@ -138,7 +135,7 @@ used_good used n m e =
     (λ _. if_elim (λ (b : Bool). b ≡ true) (used m) _ _ (λ _. refl) (λ f. absurd (false≢true (sym f ∙ e))))
 
 pub conflict_good : (used : ℕ → Bool) (n w : ℕ) → w < n → mark_good used n (2 + w) ≡ true
-unfolding mark_good if◌then◌else◌
+unfolding mark_good
 conflict_good used n w h =
     let back : 2 + w - 2 ≡ w = omega arith in
     rw (ne_eqb (2 + w) 0 (λ e. omega arith), le-leb 2 (2 + w) (omega arith), back, lt-ltb w n h)
@@ -163,7 +160,7 @@ from_each P m (suc k) a f =
 
 -- all of them are present
 pub from_all : (m : List ℕ) (k a : ℕ) → ((i : ℕ) → a ≤ i → i < a + k → present_at m i ≡ true) → length (present_from m k a) ≡ k
-unfolding present_from if◌then◌else◌
+unfolding present_from
 from_all m zero a f = refl
 from_all m (suc k) a f =
     rw (f a (le_refl a) (omega arith)) (ap suc (from_all m k (suc a) (λ i h l. f i (omega arith) (omega arith))))
@@ -176,7 +173,7 @@ pub from_used : (m l : List ℕ) (i k a : ℕ)
     → a ≤ i
     → i < a + k
     → suc (length (present_from l k a)) ≡ length (present_from m k a)
-unfolding present_from if◌then◌else◌
+unfolding present_from
 from_used m l i zero a p q f h b = absurd (omega arith)
 from_used m l i (suc k) a p q f h b =
     ⊎_elim

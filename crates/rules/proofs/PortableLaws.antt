@@ -1,16 +1,15 @@
 -- The laws of the portable mark.
-use mathlib.Core.Bool.{Bool, true, false, not, ◌&&◌, ◌||◌, and-eq-true_iff, or-true, true≢false, false≢true, and_assoc}
+use mathlib.Core.Bool.{Bool, true, false, not, ◌&&◌, ◌||◌, or-true, false≢true, and_assoc}
 use mathlib.Core.List.{List, [], ◌∷◌, ◌++◌}
 use mathlib.Core.Logic.{◌⊎◌, inl, inr}
-use mathlib.Core.Option.{Option, some, none, some-injective}
+use mathlib.Core.Option.{Option, some, none}
 use mathlib.Core.Path.{◌≡◌, refl, sym, ap, ◌∙◌}
-use Prim.Native.Nat.{ℕ, ◌≤◌, ◌<◌}
+use Prim.Native.Nat.{ℕ, ◌≤◌}
 use lib.Dec.{leb, eqb}
 use borrow.Author.Tests.{eq-eqb, ne_eqb, eqb-true, eqb-false, le-leb, leb-true, not-true}
-use Rattle.utf8.specs.Utf8.{if◌then◌else◌}
 use Rattle.rules.specs.Base.{all}
 use Rattle.rules.specs.Outcome.{ok}
-use Rattle.rules.specs.Form.{Node, Name, Form, name_bytes, one_character, is_alphanumeric, portable_character, portable_name, portable}
+use Rattle.rules.specs.Form.{Name, name_bytes, one_character, is_alphanumeric, portable_character, portable_name, portable}
 use Rattle.rules.specs.Calls.{form_in, call_portable}
 use Rattle.rules.specs.Demands.{All}
 use Rattle.rules.specs.Encode.{encode_form}
@@ -63,7 +62,7 @@ passing_character c e =
 module _ (area : List ℕ) (x : Name) where
   -- of another type
   pub other_passes : (x.type ≡ 0 → ⊥) → portable_name area x ≡ true
-  unfolding portable_name if◌then◌else◌
+  unfolding portable_name
   other_passes e = rw (ne_eqb x.type 0 e)
 
   abbrev by_character : Option ℕ → Bool
@@ -71,7 +70,7 @@ module _ (area : List ℕ) (x : Name) where
 
   -- of type 0
   short_mark : x.type ≡ 0 → portable_name area x ≡ by_character (one_character (name_bytes area x))
-  unfolding portable_name if◌then◌else◌
+  unfolding portable_name
   short_mark e = rw (eq-eqb x.type 0 e)
 
   pub name_passes : portable_name area x ≡ true → Passes area x

@@ -8,7 +8,7 @@ use native.Mathlib.Nat.{mul-le-mul_right, le_trans, le_refl}
 use native.Mathlib.Omega.{arith}
 use lib.ListN.{length}
 use borrow.Author.Tests.{ltb-true}
-use Rattle.utf8.specs.Utf8.{if◌then◌else◌}
+use Rattle.std.specs.Prelude.{if◌then◌else◌}
 use Rattle.rules.specs.Base.{is_some, null, ◌>>?◌}
 use Rattle.rules.specs.Outcome.{Outcome, ok, refused, fault, refuse}
 use Rattle.rules.specs.Value.{BaseValue, is_number, Value, base, list_of, size, of_kind, bases_of}
@@ -258,7 +258,7 @@ module _
     m = s.remaining + 1
 
     child_went : (u : State) → Good n u → u.remaining ≤ s.remaining → Went M n 26 (Fits M m (kind_of t)) u (leaves t) (run u)
-    unfolding m most if◌then◌else◌
+    unfolding m most
     child_went u h l =
         went_cost (rw flat (le_refl (leaves t)))
         (went_weaker (omega arith) (fits_more M (u.remaining + 1) m (kind_of t) (omega arith)) (child u h).went)
@@ -278,11 +278,11 @@ module _
         (list_kind_lem (kind_of t) vs e kinds, rw (size_list vs) p.1, rw (inner_list vs) (omega arith), list_bases M vs means)
 
     pub many_sound : (catch : Bool) → is_some (kind_of (Many catch t)) ≡ true → Evaluated M n (Many catch t) s (eval_many catch run s)
-    unfolding m eval_many kind_of most has_repeat leaves if◌then◌else◌
+    unfolding m eval_many kind_of most has_repeat leaves
     many_sound catch e = record { went = then_ended (λ vs u. ok (list_of vs)) (loop catch false) (λ vs p. list_fits vs e p) }
 
     pub some_sound : (catch : Bool) → is_some (kind_of (Some catch t)) ≡ true → Evaluated M n (Some catch t) s (eval_some catch run s)
-    unfolding m eval_some kind_of most has_repeat leaves if◌then◌else◌
+    unfolding m eval_some kind_of most has_repeat leaves
     some_sound catch e = record {
       went =
           then_ended (λ vs u. if null vs then refused (refuse 21 none) else ok (list_of vs)) (loop catch false)
@@ -293,7 +293,7 @@ module _
         ((k : ℕ) → k ≤ s.remaining + 1 → M (is_number k))
         → is_some (kind_of (Count t)) ≡ true
         → Evaluated M n (Count t) s (eval_count run s)
-    unfolding m eval_count kind_of most has_repeat leaves size bases_of if◌then◌else◌
+    unfolding m eval_count kind_of most has_repeat leaves size bases_of
     count_sound counts e = record {
       went =
           then_ended (λ vs u. ok (base (is_number (length vs)))) (loop false true)
@@ -301,5 +301,5 @@ module _
     }
 
     pub last_sound : is_some (kind_of (Last t)) ≡ true → Evaluated M n (Last t) s (eval_last run s)
-    unfolding m kind_of most has_repeat leaves if◌then◌else◌
+    unfolding m kind_of most has_repeat leaves
     last_sound e = record { went = rw (last_kind_lem (kind_of t) e) (last_went M n (Fits M m (kind_of t)) (leaves t) run s g child_went) }

@@ -7,7 +7,7 @@ use native.Mathlib.Omega.{arith}
 use borrow.Author.Tests.{le-leb, le-ltb, ltb-true, ltb-false}
 use lib.Dec.{ltb}
 use lib.ListN.{length, length-drop}
-use Rattle.utf8.specs.Utf8.{if◌then◌else◌}
+use Rattle.std.specs.Prelude.{if◌then◌else◌}
 use Rattle.wire.specs.Wire.{area_start, area}
 use Rattle.wire.specs.Laws.{good_table, offset_rises}
 use Rattle.rules.specs.Sheet.{argument_count, sheet_area, sheet_good, sheet_fault}
@@ -43,7 +43,7 @@ module _ (s : List ℕ) (w : SheetMade s) where
       (le-leb (length (sheet_area s)) 32768 (omega (arith, w.area)))
 
   pub made_sheet : sheet_fault s ≡ 0
-  unfolding sheet_fault if◌then◌else◌
+  unfolding sheet_fault
   made_sheet = rw (le-ltb (length s) 2 (omega (arith, w.counted)), le-ltb 256 (argument_count s) (omega (arith, w.count)), made_good)
 
   -- 2 + 2 × 257 + 32,768
@@ -53,7 +53,7 @@ module _ (s : List ℕ) (w : SheetMade s) where
 
 -- a sheet with a fault is at fault as its number says
 pub sheet_fault_lem : (s : List ℕ) → 0 < sheet_fault s → SheetFault s (sheet_fault s)
-unfolding sheet_fault if◌then◌else◌
+unfolding sheet_fault
 sheet_fault_lem s h = go (ltb (length s) 2) refl (ltb 256 (argument_count s)) refl (sheet_good s) refl h
   where
     made : SheetMade s → ⊥

@@ -1,4 +1,5 @@
 -- Laws of splitting: it never panics, where the first `--` and an ambiguous letter stand, and how long the records are.
+use Rattle.std.specs.Prelude.{if◌then◌else◌}
 use mathlib.Core.Path.{◌≡◌, refl, sym, ◌∙◌, ap, ap₂}
 use mathlib.Core.Bool.{Bool, true, false, and-eq-true_iff, false≢true}
 use mathlib.Core.Logic.{◌⊎◌, inl, inr, ⊎_elim}
@@ -10,7 +11,7 @@ use native.Mathlib.Omega.{arith}
 use lib.Dec.{eqb, ltb}
 use lib.ListN.{length, drop, length-append}
 use borrow.Author.Tests.{eq-eqb, eqb-true, le-leb, lt-ltb, ltb-false}
-use Rattle.utf8.specs.Utf8.{if◌then◌else◌, decode, decode_at, well_formed, well_formed_after}
+use Rattle.utf8.specs.Utf8.{decode, decode_at, well_formed, well_formed_after}
 use Rattle.utf8.specs.Laws.{character}
 use Rattle.utf8.specs.declared.Decoded.{Decoded}
 use Rattle.utf8.specs.declared.Decoded.TheVariants.{Char, Bad}
@@ -55,7 +56,7 @@ pub cluster_step :
     → n ≤ length (b ∷ s)
     → cluster_from (n - 1) (suc k) s ≡ ok ls
     → cluster_from 0 k (b ∷ s) ≡ ok (record { character = c; place = k; rest = drop n (b ∷ s) } ∷ ls)
-unfolding cluster_from slice_from at ◌>>=◌ if◌then◌else◌
+unfolding cluster_from slice_from at ◌>>=◌
 cluster_step k b c n s ls e h r = rw (e, cluster_from, le-leb n (length (b ∷ s)) h, r)
 
 pub cluster_ok : (skip k : ℕ) (s : List ℕ) → well_formed_after skip s ≡ true → (ls : List Letter) × (cluster_from skip k s ≡ ok ls)
@@ -74,7 +75,7 @@ some≢none e = let z : ◌≡◌ {A = ℕ} 0 1 = cc in omega arith
 
 -- what stands before and behind the first `=` makes up the whole
 pub equals_apart : (s v : List ℕ) → behind_equals s ≡ some v → before_equals s ++ (equals ∷ v) ≡ s
-unfolding behind_equals before_equals if◌then◌else◌
+unfolding behind_equals before_equals
 equals_apart [] v e = absurd (some≢none (sym e))
 equals_apart (b ∷ s) v e = go (eqb b equals) refl (equals_apart s v)
   where
@@ -91,7 +92,7 @@ pub short_body_lem :
     (b : ℕ) (s v : List ℕ)
     → behind_equals s ≡ some v
     → short_body (b ∷ before_equals s) v ≡ ok (if null (before_equals s) then v else s)
-unfolding short_body slice_from null at ◌>>=◌ if◌then◌else◌
+unfolding short_body slice_from null at ◌>>=◌
 short_body_lem b s v e = go (before_equals s) refl
   where
     go : (l : List ℕ) → before_equals s ≡ l → short_body (b ∷ before_equals s) v ≡ ok (if null (before_equals s) then v else s)
@@ -221,7 +222,7 @@ long_grouped os n none = plain_grouped os (Long n false os ∷ [])
 long_grouped os n (some v) = plain_grouped os (Long n true os ∷ ArgWord v ∷ [])
 
 word_grouped : (os : List ℕ) → Grouped os (same os dashes) (ok (word_group os))
-unfolding word_group if◌then◌else◌
+unfolding word_group
 word_grouped os = go (same os dashes) refl
   where
     go : (t : Bool) → same os dashes ≡ t → Grouped os t (ok (word_group os))
@@ -230,7 +231,7 @@ word_grouped os = go (same os dashes) refl
 
 -- `--` has no parts
 no_dashes : (os : List ℕ) (x : Parts) → split_os_argument os ≡ ok (some x) → same os dashes ≡ false
-unfolding split_os_argument behind_dash split_long behind_equals null if◌then◌else◌ dash
+unfolding split_os_argument behind_dash split_long behind_equals null dash
 no_dashes os x e = go (same os dashes) refl
   where
     go : (t : Bool) → same os dashes ≡ t → t ≡ false
@@ -296,7 +297,7 @@ joined_splits :
     → (m ≡ true → is ≡ PosWord os ∷ [])
     → Splits (k + length is) rest others
     → Splits k (os ∷ rest) (joined k (record { items = is; ambiguous = a; marker = m }) rest others)
-unfolding joined has_marker items_of flatten if◌then◌else◌ ◌>>=◌
+unfolding joined has_marker items_of flatten ◌>>=◌
 joined_splits k os rest is (some i) m others below e one r = record {
   split = record { groups = is ∷ []; marker = none; ambiguous = some (k + i) };
   same = refl;
@@ -426,7 +427,7 @@ joined_append :
     → ((y : Split) → others ≡ ok y → Open y → longer ≡ (split_from l (k + length is + length (items_of y)) more >>= λ z. ok (behind y z)))
     → joined k (record { items = is; ambiguous = a; marker = m }) (rest ++ more) longer
     ≡ (split_from l (k + length (items_of x)) more >>= λ z. ok (behind x z))
-unfolding joined if◌then◌else◌ ◌>>=◌ items_of flatten behind
+unfolding joined ◌>>=◌ items_of flatten behind
 joined_append l k rest more is (some i) m others longer x e free h =
     absurd (some≢none (ap (λ (y : Split). y.ambiguous) (ok_injective e) ∙ free.ambiguous))
 joined_append l k rest more is none true others longer x e free h =
@@ -511,7 +512,7 @@ marker_below n has none (some i) h = tt
 marker_below n has (some i) (some j) h = absurd h
 
 left_over_lem : (args : List (List ℕ)) (n r : ℕ) (m : Option ℕ) → MarkerAt n (has_marker args) m → Remains n m r → r ≡ places_left args n
-unfolding places_left if◌then◌else◌
+unfolding places_left
 left_over_lem args n r none h e = rw h e
 left_over_lem args n r (some i) h e = rw h.0 (omega arith)
 
@@ -537,7 +538,7 @@ pub line_of_lem :
     (l : Letters) (args : List (List ℕ)) (x : Split)
     → split_from l 0 args ≡ ok x
     → (y : Line) × (line_of args x ≡ ok y) × ((y ≡ too_many) ⊎ LineGood args y)
-unfolding line_of if◌then◌else◌ ◌>>=◌
+unfolding line_of ◌>>=◌
 line_of_lem l args x e = go (ltb 256 (length (items_of x))) refl
   where
     go : (t : Bool) → ltb 256 (length (items_of x)) ≡ t → (y : Line) × (line_of args x ≡ ok y) × ((y ≡ too_many) ⊎ LineGood args y)

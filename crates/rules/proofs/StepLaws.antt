@@ -10,12 +10,12 @@ use native.Mathlib.Omega.{arith}
 use lib.Dec.{leb, eqb, ltb}
 use lib.ListN.{length, take, drop, set, replicate, get_elem?, length-set, length-replicate}
 use borrow.Author.Tests.{eq-eqb, lt-ltb, le-leb, eqb-true, ltb-true, leb-true}
-use Rattle.utf8.specs.Utf8.{if◌then◌else◌}
 use Rattle.rules.specs.Base.{is_some, all}
 use Rattle.rules.specs.Outcome.{Outcome, ok, refused, ◌>>=◌, at, refuse}
 use Rattle.rules.specs.Tree.{Named}
 use Rattle.rules.specs.Split.{Item, Short, Long, ArgWord, Word, PosWord}
-use Rattle.rules.specs.State.{State, Found, Picked, marker_mark, parsed, present, construct, in_scope, present_at, present_from, unused, get, find_in, find, first, used, remove, with_current}
+use Rattle.rules.specs.State.{State, Found, Picked, marker_mark, parsed, present, construct, in_scope, present_at, present_from, unused, get, find_in, find, first, used, remove}
+use Rattle.rules.specs.State.{with_current}
 use Rattle.rules.specs.State.{pick_winner, save_conflicts, count_present, set_scope, used_below, mark_good, current_good, state_good}
 use Rattle.rules.specs.Take.{Took, took, matches_arg, take_flag, Taken, value_text, take_value, take_arg, Operand, is_operand, operand, take_positional_word}
 use Rattle.rules.specs.Eval.{won}
@@ -167,7 +167,7 @@ module _ (k : ℕ) (told : parsed k ≡ true) (n : ℕ) (s : State) (i : ℕ) (g
       }
 
   pub remove_free : Free s i → remove k s i ≡ ok (removed k s i)
-  unfolding remove in_scope ◌>>=◌ at used if◌then◌else◌
+  unfolding remove in_scope ◌>>=◌ at used
   remove_free f =
       let m = at_below s.marks i (free_long f) in
       let here : present m.0 ≡ true = sym (mark_present s.marks i m.0 m.1) ∙ f.here in
@@ -176,11 +176,11 @@ module _ (k : ℕ) (told : parsed k ≡ true) (n : ℕ) (s : State) (i : ℕ) (g
       rw (le-leb s.start i f.from, lt-ltb i s.end f.to, m.1, here, less, write_below s.marks i k (free_long f))
 
   remove_out : in_scope s i ≡ false → remove k s i ≡ ok s
-  unfolding remove if◌then◌else◌
+  unfolding remove
   remove_out e = rw e
 
   remove_gone : in_scope s i ≡ true → (m : ℕ) → get_elem? s.marks i ≡ some m → present m ≡ false → remove k s i ≡ ok s
-  unfolding remove ◌>>=◌ at if◌then◌else◌
+  unfolding remove ◌>>=◌ at
   remove_gone e m x p = rw (e, x, p)
 
   pub remove_step : (u : State) × (remove k s i ≡ ok u) × Step n s u
@@ -205,7 +205,7 @@ module _ (k : ℕ) (told : parsed k ≡ true) (n : ℕ) (s : State) (i : ℕ) (g
 
 -- a place that `get` reads is free
 pub get_free : (is : List Item) (s : State) (i : ℕ) (x : Item) → get is s i ≡ some x → Free s i
-unfolding get if◌then◌else◌ is_some
+unfolding get is_some
 get_free is s i x e = go (in_scope s i && present_at s.marks i) refl
   where
     go : (b : Bool) → in_scope s i && present_at s.marks i ≡ b → Free s i
@@ -213,7 +213,7 @@ get_free is s i x e = go (in_scope s i && present_at s.marks i) refl
     go false p = absurd (false≢true (ap is_some (rw p at e)))
 
 pub get_item : (is : List Item) (s : State) (i : ℕ) (x : Item) → get is s i ≡ some x → get_elem? is i ≡ some x
-unfolding get if◌then◌else◌ is_some
+unfolding get is_some
 get_item is s i x e = go (in_scope s i && present_at s.marks i) refl
   where
     go : (b : Bool) → in_scope s i && present_at s.marks i ≡ b → get_elem? is i ≡ some x
@@ -391,7 +391,7 @@ won_second n s a b g p q e = ⊎_elim
 
 -- marks that are used by fields below a number are parsed
 below_good : (fields n m : ℕ) → mark_good (used_below fields) n m ≡ true → mark_good parsed n m ≡ true
-unfolding mark_good used_below if◌then◌else◌
+unfolding mark_good used_below
 below_good fields n m h = go (eqb m 0) refl (parsed m) refl
   where
     go : (z : Bool) → eqb m 0 ≡ z → (b : Bool) → parsed m ≡ b → mark_good parsed n m ≡ true
@@ -462,7 +462,7 @@ unfolding present parsed marker_mark
 zero_present = refl
 
 pub zero_good : (used : ℕ → Bool) (n : ℕ) → mark_good used n 0 ≡ true
-unfolding mark_good if◌then◌else◌
+unfolding mark_good
 zero_good used n = refl
 
 -- all n places are unused

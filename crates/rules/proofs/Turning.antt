@@ -8,14 +8,15 @@ use Prim.Native.Nat.{ℕ, zero, suc, ◌+◌, ◌<◌}
 use native.Mathlib.Omega.{arith}
 use lib.Dec.{eqb}
 use lib.ListN.{length, get_or, set, get_elem?, length-set}
-use Rattle.utf8.specs.Utf8.{if◌then◌else◌}
+use Rattle.std.specs.Prelude.{if◌then◌else◌}
 use Rattle.rules.specs.Base.{minus, write}
 use Rattle.rules.specs.Outcome.{Spot, Outcome, ok, refused, fault, ◌>>=◌, at, wrong_input, can_catch}
 use Rattle.rules.specs.Outcome.{remove431, remove433, remove434}
 use Rattle.rules.specs.Value.{Value, BaseValue, base}
 use Rattle.rules.specs.Tree.{Named, Tree, Flag, Argument, Positional, Optional, Many, Some, Count, Last, Choice, Fallback, Guard}
 use Rattle.rules.specs.Split.{Item}
-use Rattle.rules.specs.State.{State, Found, Picked, field_mark, parsed, present, present_at, in_scope, get, find, used, remove, with_current, pick_from, pick_winner, conflicts, save_conflicts}
+use Rattle.rules.specs.State.{State, Found, Picked, field_mark, parsed, present, present_at, in_scope, get, find, used, remove, with_current, pick_from, pick_winner, conflicts}
+use Rattle.rules.specs.State.{save_conflicts}
 use Rattle.rules.specs.Take.{Took, Taken, Operand, took, matches_arg, take_flag, value_text, take_value, take_arg, is_operand, operand, take_positional_word}
 use Rattle.rules.specs.Eval.{Ran, ended, after, ◌then◌, visit, leaf, flag_value, eval_flag, argument_value, eval_argument, positional_value, eval_positional, fewer, swallowed}
 use Rattle.rules.specs.Eval.{parse_option, eval_optional, idle, repeat, repeated, eval_many, eval_some, eval_count, last_of, eval_last, side, picks_first, won, picked, chosen}
@@ -311,7 +312,7 @@ module _ {W : ℕ → Type 0} where
 
 -- the place where two states differ is one of both
 pick_below : (i : ℕ) (ms os : List ℕ) (w : ℕ) → (pick_from i ms os).place ≡ some w → (w < i + length ms) × (w < i + length os)
-unfolding pick_from if◌then◌else◌
+unfolding pick_from
 pick_below i [] os w e = absurd (none-ne-some w e)
 pick_below i (m ∷ ms) [] w e = absurd (none-ne-some w e)
 pick_below i (m ∷ ms) (o ∷ os) w e = go (xor (parsed m) (parsed o)) e (pick_below (suc i) ms os w)

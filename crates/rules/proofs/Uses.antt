@@ -10,14 +10,15 @@ use native.Mathlib.Omega.{arith}
 use lib.Dec.{leb, eqb}
 use lib.ListN.{length, get_elem?}
 use borrow.Author.Tests.{eq-eqb, ne_eqb, eqb-true}
-use Rattle.utf8.specs.Utf8.{if◌then◌else◌}
+use Rattle.std.specs.Prelude.{if◌then◌else◌}
 use Rattle.rules.specs.Base.{occurrences, numbers, concat_map}
 use Rattle.rules.specs.Form.{Node, Form, read_form}
 use Rattle.rules.specs.Tree.{Tree}
 use Rattle.rules.specs.Accept.{Accepted, accepted, check_form, trees_at, children_of, uses, used_once, leaf_count}
 use Rattle.rules.specs.Demands.{All}
 use Rattle.rules.specs.Sound.{leaves, all_leaves}
-use Rattle.rules.proofs.Acceptance.{Made, flag_made, argument_made, positional_made, optional_made, many_made, some_made, count_made, last_made, choice_made, fallback_made, guard_made, Child}
+use Rattle.rules.proofs.Acceptance.{Made, flag_made, argument_made, positional_made, optional_made, many_made, some_made, count_made, last_made, choice_made, fallback_made, guard_made}
+use Rattle.rules.proofs.Acceptance.{Child}
 use Rattle.rules.proofs.Acceptance.{TreesAt, trees_made, trees_length, fields_step, no_fault, lookup_inside, All-append, Passed, accepted_passed}
 
 -- ---- sums over lists of numbers
@@ -51,14 +52,14 @@ at g y k = if eqb k y then g k else 0
 
 module _ (g : ℕ → ℕ) (y : ℕ) where
   sum_before : (n k : ℕ) → y < k → sum_over (at g y) (numbers n k) ≡ 0
-  unfolding sum_over numbers at if◌then◌else◌
+  unfolding sum_over numbers at
   sum_before zero k h = refl
   sum_before (suc n) k h =
       let r = sum_before n (suc k) (omega arith) in
       rw (ne_eqb k y (λ e. omega arith)) (omega arith)
 
   sum_at : (n k : ℕ) → k ≤ y → y < k + n → sum_over (at g y) (numbers n k) ≡ g y
-  unfolding sum_over numbers at if◌then◌else◌
+  unfolding sum_over numbers at
   sum_at zero k h l = absurd (omega arith)
   sum_at (suc n) k h l =
       ⊎_elim
@@ -68,7 +69,7 @@ module _ (g : ℕ → ℕ) (y : ℕ) where
 
 -- a sum over numbers below n, by how often each occurs
 times : (g : ℕ → ℕ) (y : ℕ) (ys : List ℕ) (k : ℕ) → occurrences k (y ∷ ys) * g k ≡ at g y k + occurrences k ys * g k
-unfolding occurrences at if◌then◌else◌
+unfolding occurrences at
 times g y ys k = go (eqb k y) refl
   where
     go : (b : Bool) → eqb k y ≡ b → occurrences k (y ∷ ys) * g k ≡ at g y k + occurrences k ys * g k
@@ -137,7 +138,7 @@ module _ (f : Form) (ts : List Tree) (k : ℕ) (x : Node) where
       subst (Parts t) (sym z) (record { total = rw e (omega arith); lower = rw e (h.0, tt) })
 
   made_parts : (t : Tree) → Made f ts k x t → Parts t x.kind
-  unfolding leaves own children_by sum_over if◌then◌else◌
+  unfolding leaves own children_by sum_over
   made_parts t (flag_made l z r u n) = leaf_parts _ 1 z refl refl refl
   made_parts t (argument_made l z r u n) = leaf_parts _ 2 z refl refl refl
   made_parts t (positional_made z p r u) = leaf_parts _ 3 z refl refl refl
@@ -160,7 +161,7 @@ children_lower f ts k x t m = (made_parts f ts k x t m).lower
 
 -- ---- all nodes
 count_own : (x : Node) (xs : List Node) → leaf_count (x ∷ xs) ≡ own x.kind + leaf_count xs
-unfolding leaf_count own if◌then◌else◌
+unfolding leaf_count own
 count_own x xs = go (leb x.kind 3) refl
   where
     go : (b : Bool) → leb x.kind 3 ≡ b → leaf_count (x ∷ xs) ≡ own x.kind + leaf_count xs
@@ -249,7 +250,7 @@ leaves_law b a e =
 
 -- and no more than its nodes
 pub leaf_few : (xs : List Node) → leaf_count xs ≤ length xs
-unfolding leaf_count if◌then◌else◌
+unfolding leaf_count
 leaf_few [] = omega arith
 leaf_few (x ∷ xs) = go (leb x.kind 3) refl (leaf_few xs)
   where

@@ -1,24 +1,26 @@
 -- A form is accepted exactly when it is well made, and refused by the number and place of its lowest fault.
+use Rattle.std.specs.Prelude.{if◌then◌else◌}
 use mathlib.Core.Bool.{Bool, true, false, not, ◌&&◌, ◌||◌, false≢true, true≢false}
 use mathlib.Core.List.{List, [], ◌∷◌, ◌++◌}
 use mathlib.Core.Logic.{◌⊎◌, inl, inr, ⊎_elim}
 use mathlib.Core.Option.{Option, some, none, some-injective, none-ne-some}
 use mathlib.Core.Path.{◌≡◌, refl, sym, ◌∙◌, ap, subst}
-use Prim.Native.Nat.{ℕ, zero, suc, ◌+◌, ◌-◌, ◌*◌, ◌%◌, ◌≤◌, ◌<◌}
+use Prim.Native.Nat.{ℕ, zero, suc, ◌+◌, ◌-◌, ◌%◌, ◌≤◌, ◌<◌}
 use native.Mathlib.Nat.{zero-add, add-zero, eq-or-lt_of_le}
 use native.Mathlib.Omega.{arith}
 use lib.Dec.{leb, eqb}
 use lib.ListN.{length, take, drop, get_elem?, length-append, length-map, length-take, length-drop}
 use lib.Seq.{length-take-le}
 use borrow.Author.Tests.{eq-eqb, le-leb, lt-leb, eqb-true, eqb-false, leb-true, leb-false}
-use Rattle.utf8.specs.Utf8.{if◌then◌else◌, well_formed}
+use Rattle.utf8.specs.Utf8.{well_formed}
 use Rattle.rules.specs.Base.{null, all, contains, occurrences, numbers, is_some, ◌>>?◌, slice, first_fault}
 use Rattle.rules.specs.Value.{Base, yes_no, text, number, same_base, base_number, Kind, one, optional, list, list_of_optional, optional_list, name, BaseValue, is_yes, is_text, is_number}
 use Rattle.rules.specs.Value.{base_of}
 use Rattle.rules.specs.Form.{Node, Name, Form, node_count, field_count, name_count, area_length, counts_good, nodes_at, names_at, area_at, form_length, read_form, name_bytes, one_character}
 use Rattle.rules.specs.Form.{type_good, name_good}
 use Rattle.rules.specs.Tree.{Named, Tree, Flag, Argument, Positional, Optional, Many, Some, Count, Last, Choice, Fallback, Guard, optional_kind, list_kind, count_kind, last_kind, shape_of}
-use Rattle.rules.specs.Tree.{inner_base, same_kind, choice_kind, base_kind, kind_of, has_repeat, zeros, names_of, named_by, named_of, flag_of, argument_of, position_of, positional_of, fitting}
+use Rattle.rules.specs.Tree.{inner_base, same_kind, choice_kind, base_kind, kind_of, has_repeat, zeros, names_of, named_by, named_of, flag_of, argument_of, position_of, positional_of}
+use Rattle.rules.specs.Tree.{fitting}
 use Rattle.rules.specs.Tree.{repeat_of, fallback_value, fallback_of, guard_of, child_of, caught_of, choice_of, tree_of}
 use Rattle.rules.specs.Accept.{Checked, accepted, refused_at, Accepted, length_good, trees_from, uses, used_once, trees_at, check_use, check_records, check_form}
 use Rattle.rules.specs.Demands.{All}
@@ -85,14 +87,14 @@ type_good_lem :
     → (t ≡ 0 → (c : ℕ) × (one_character s ≡ some c))
     → (t ≡ 1 → well_formed s ≡ true)
     → type_good t s ≡ true
-unfolding type_good if◌then◌else◌ is_some
+unfolding type_good is_some
 type_good_lem zero s h f g = let (c, e) = f refl in rw e
 type_good_lem (suc zero) s h f g = g refl
 type_good_lem (suc (suc zero)) s h f g = refl
 type_good_lem (suc (suc (suc t))) s h f g = absurd (omega arith)
 
 type_long : (t : ℕ) (s : List ℕ) → type_good t s ≡ true → t ≡ 1 → well_formed s ≡ true
-unfolding type_good if◌then◌else◌
+unfolding type_good
 type_long t s g e = subst (λ (t : ℕ). type_good t s ≡ true) e g
 
 module _ (area : List ℕ) where
@@ -149,7 +151,7 @@ base_kind_lem b k l e =
     (q, sym (some-injective k l p.1) ∙ q)
 
 base_takes : (b : Base) → base_kind b (one b) ≡ some (one b)
-unfolding base_kind same_kind shape_of inner_base same_base base_number if◌then◌else◌
+unfolding base_kind same_kind shape_of inner_base same_base base_number
 base_takes yes_no = refl
 base_takes text = refl
 base_takes number = refl
@@ -184,7 +186,6 @@ positional_base_lem :
     → contains (0 ∷ 2 ∷ []) r ≡ true
     → k ≡ one (positional_base r)
     → ((r ≡ 0) × (k ≡ one text)) ⊎ ((r ≡ 2) × (k ≡ one number))
-unfolding if◌then◌else◌
 positional_base_lem r k h e =
     ⊎_elim
     (λ z. inl (z, subst (λ (r : ℕ). k ≡ one (positional_base r)) z e))
@@ -479,7 +480,7 @@ module _ (f : Form) (kind : ℕ → Kind) (repeats : ℕ → Bool) (below : List
       → one (argument_base x.r) ≡ kind (length below)
       → repeats (length below) ≡ false
       → Next
-  unfolding kind_of has_repeat tree_by argument_of if◌then◌else◌
+  unfolding kind_of has_repeat tree_by argument_of
   argument_next z n r u e s =
       let (m, h) = named_is n in
       next_is 2 (Argument (length below) m (argument_base x.r) (eqb (x.r % 2) 1)) z
@@ -497,7 +498,7 @@ module _ (f : Form) (kind : ℕ → Kind) (repeats : ℕ → Bool) (below : List
       → one (positional_base r) ≡ kind (length below)
       → repeats (length below) ≡ false
       → Next
-  unfolding kind_of has_repeat tree_by positional_of if◌then◌else◌
+  unfolding kind_of has_repeat tree_by positional_of
   positional_next r c w z l u e s =
       let test : contains (0 ∷ 2 ∷ []) x.r ≡ true = subst (λ (r : ℕ). contains (0 ∷ 2 ∷ []) r ≡ true) (sym w) c in
       next_is 3 (Positional (length below) (position_of x.p) (positional_base x.r)) z
@@ -505,7 +506,7 @@ module _ (f : Form) (kind : ℕ → Kind) (repeats : ℕ → Bool) (below : List
       (ap {B = Option Kind} some (subst (λ (r : ℕ). one (positional_base r) ≡ kind (length below)) (sym w) e)) (sym s)
 
   next : NodeMade f kind repeats (length below) x → Next
-  unfolding kind_of has_repeat tree_by flag_of choice_of fallback_of guard_of contains if◌then◌else◌
+  unfolding kind_of has_repeat tree_by flag_of choice_of fallback_of guard_of contains
   next (flag_row z n r u e s) =
       let (m, h) = named_is n in
       next_is 1 (Flag (length below) m (eqb x.r 1)) z
@@ -662,7 +663,7 @@ record Lowest (A : Type 0) (p : A → Bool) (j : ℕ) (l : List A) (k : ℕ) : T
   lower : All (λ (a : A). p a ≡ true) (take at l)
 
 first_fault_lem : {A : Type 0} (p : A → Bool) (j : ℕ) (l : List A) (k : ℕ) → first_fault p j l ≡ some k → Lowest A p j l k
-unfolding first_fault if◌then◌else◌
+unfolding first_fault
 first_fault_lem p j [] k e = absurd (none-ne-some k e)
 first_fault_lem {A} p j (x ∷ l) k e = go (p x) refl (first_fault_lem p (suc j) l k) e
   where
@@ -685,7 +686,7 @@ pub first_number :
     (p : ℕ → Bool) (n j k : ℕ)
     → first_fault p j (numbers n j) ≡ some k
     → (j ≤ k) × (k < j + n) × (p k ≡ false) × ((i : ℕ) → j ≤ i → i < k → p i ≡ true)
-unfolding first_fault numbers if◌then◌else◌
+unfolding first_fault numbers
 first_number p zero j k e = absurd (none-ne-some k e)
 first_number p (suc n) j k e = go (p j) refl (first_number p n (suc j) k) e
   where
@@ -894,7 +895,7 @@ module _ (b : List ℕ) (counts : CountsMade b) (n : ℕ) (k : Option ℕ) where
 
 -- a form that is refused is at fault as its number and place say
 pub check_fault : (b : List ℕ) (n : ℕ) (k : Option ℕ) → check_form b ≡ refused_at n k → FormFault b n k
-unfolding check_form if◌then◌else◌
+unfolding check_form
 check_fault b n k = go (length_good b) refl
   where
     go : (t : Bool) → length_good b ≡ t → (if t then check_records (read_form b) else refused_at 1 none) ≡ refused_at n k → FormFault b n k

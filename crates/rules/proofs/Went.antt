@@ -5,7 +5,7 @@ use mathlib.Core.Path.{◌≡◌, refl}
 use Prim.Native.Nat.{ℕ, ◌+◌, ◌≤◌}
 use native.Mathlib.Nat.{add-le-add, le_trans}
 use native.Mathlib.Omega.{arith}
-use Rattle.utf8.specs.Utf8.{if◌then◌else◌}
+use Rattle.std.specs.Prelude.{if◌then◌else◌}
 use Rattle.rules.specs.Outcome.{Outcome, ok, refused, fault}
 use Rattle.rules.specs.Value.{BaseValue}
 use Rattle.rules.specs.State.{State}
@@ -17,7 +17,6 @@ use Rattle.rules.proofs.StepLaws.{step_refl, step_trans}
 
 -- a test, by what holds of either side
 pub if_holds : {A : Type 0} (P : A → Type 0) (b : Bool) (x y : A) → (b ≡ true → P x) → (b ≡ false → P y) → P (if b then x else y)
-unfolding if◌then◌else◌
 if_holds P true x y p q = p refl
 if_holds P false x y p q = q refl
 

@@ -10,7 +10,7 @@ use native.Mathlib.Omega.{arith}
 use borrow.Author.Tests.{eq-eqb, ne_eqb, eqb-true, eqb-false, le-leb, lt-leb, leb-true, leb-false, not-true}
 use lib.Dec.{leb, eqb}
 use lib.ListN.{length, take, get_elem?}
-use Rattle.utf8.specs.Utf8.{if◌then◌else◌}
+use Rattle.std.specs.Prelude.{if◌then◌else◌}
 use Rattle.rules.specs.Base.{all, same, contains, minus, ◌>>?◌}
 use Rattle.rules.specs.Outcome.{Outcome, ok, refused, fault, at, ◌>>=◌}
 use Rattle.rules.specs.Sheet.{arguments}
@@ -154,7 +154,7 @@ lost_told x w e =
     record { mark = there ∙ ap some is; conflict = omega (arith, leb-false marker_mark m low, is) }
 
 lost_holds : (x : LeftPlace) (w : ℕ) → LostTo x w → winner_of x ≡ some w
-unfolding winner_of winner parsed minus if◌then◌else◌
+unfolding winner_of winner parsed minus
 lost_holds x w h =
     let back : 2 + w - 2 ≡ w = omega arith in
     bind_is (get_elem? x.marks x.place) winner h.mark ∙ rw (lt-leb marker_mark (2 + w) h.conflict, le-leb 2 (2 + w) (omega arith), back)
@@ -206,7 +206,6 @@ module _ (test : Item → Bool) (is : List Item) where
   search_step : (i k : ℕ) (x : Item) → get_elem? is i ≡ some x → (b : Bool) → test x ≡ b → (o : Option ℕ)
       → Searched i (suc k) o
       → Searched (suc i) k (if b then some k else o)
-  unfolding if◌then◌else◌
   search_step i k x at true p o h =
       (i, omega arith, record { before = omega arith; item = x; there = at; passes = p; nearest = λ m z a b e. absurd (omega (arith, a, b)) })
   search_step i k x at false p none h = λ j z l e. fails_more i x (λ _. Unit {0}) at p (λ j z _ l e. h j z l e) j z tt l e
@@ -240,7 +239,7 @@ module _ (is : List Item) (i : ℕ) (y : Item) (here : get_elem? is i ≡ some y
   no_name z f s = true≢false (sym (name_holds y z s) ∙ f)
 
   told_before : (found : Option ℕ) → Searched (same_named y) is i 0 found → (e : Option ℕ) → before i found ≡ ok e → Earlier e
-  unfolding before at minus if◌then◌else◌ ◌>>?◌ ◌>>=◌
+  unfolding before at minus ◌>>?◌ ◌>>=◌
   told_before none h e q = subst Earlier (ok_injective q) (λ j z l t s. no_name z (h j z l t) s)
   told_before (some d) h e q =
       let (j, sum, n) = h in
@@ -366,7 +365,7 @@ shape_told os ls e =
 
 module _ (l : Letters) where
   unknown_told : (ls : List Letter) (c : ℕ) → first_unknown l ls ≡ some c → UnknownBehind l (KnownLetter l) ls c
-  unfolding first_unknown if◌then◌else◌
+  unfolding first_unknown
   unknown_told [] c e = absurd (some≢none (sym e))
   unknown_told (x ∷ ls) c e = go (contains l.flags x.character) refl (contains l.arguments x.character) refl (unknown_told ls c) e
     where
@@ -468,7 +467,7 @@ module _ (x : LeftPlace) (y : Item) (here : get_elem? (line_items x) x.place ≡
       }
 
   letter_holds : (c : ℕ) → WordUnknown x c → unknown_in x y ≡ some c
-  unfolding unknown_in is_whole if◌then◌else◌
+  unfolding unknown_in is_whole
   letter_holds c h =
       bind_is (argument_at x.arguments x.groups x.place) _ h.whole
       ∙ rw (← is_here (Word h.text) h.item, same_self h.text) (unknown_cluster (letters_of x.form) h.text c h.unknown)
@@ -525,7 +524,7 @@ module _ (b s : List ℕ) (i ni na nl : ℕ) (r : Report) (ran : run b s ni na n
   not_before n = rw n
 
   as_run_lem : refused_before r.number ≡ true → WhyAnswered b s i ni na nl
-  unfolding explain if◌then◌else◌
+  unfolding explain
   as_run_lem e = record {
     answer = record { number = r.number; place = r.place; reason = none; ran = r };
     answered = explained ∙ rw e;
@@ -537,7 +536,7 @@ module _ (b s : List ℕ) (i ni na nl : ℕ) (r : Report) (ran : run b s ni na n
 
   module _ (e : refused_before r.number ≡ false) where
     not_left_lem : (eqb r.number 27 && present_at r.state.marks i) ≡ false → WhyAnswered b s i ni na nl
-    unfolding explain if◌then◌else◌
+    unfolding explain
     not_left_lem f = record {
       answer = record { number = 28; place = none; reason = none; ran = r };
       answered = explained ∙ rw (e, f);
@@ -564,7 +563,7 @@ module _ (b s : List ℕ) (i ni na nl : ℕ) (r : Report) (ran : run b s ni na n
       spot_below = omega (arith, marks_present r.state.marks i p, over.marks, ap length over.items)
 
       given_reason : (q : Reason) → reason_at spot ≡ ok q → WhyAnswered b s i ni na nl
-      unfolding explain if◌then◌else◌ ◌>>=◌
+      unfolding explain ◌>>=◌
       given_reason q h = let (holds, first) = reason_first spot q spot_below h in record {
         answer = record { number = 0; place = none; reason = some q; ran = r };
         answered = explained ∙ rw (e, eq-eqb r.number 27 n, p, spot_found, h);

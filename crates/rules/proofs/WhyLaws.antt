@@ -8,7 +8,6 @@ use Prim.Native.Nat.{ℕ, ◌≤◌, ◌<◌}
 use native.Mathlib.Omega.{arith}
 use lib.Dec.{ltb}
 use lib.ListN.{length}
-use Rattle.utf8.specs.Utf8.{if◌then◌else◌}
 use Rattle.rules.specs.Base.{contains}
 use Rattle.rules.specs.Outcome.{Outcome, ok, refused, fault, MissingItem}
 use Rattle.rules.specs.Value.{Value, answer_words}
@@ -47,7 +46,7 @@ marks_present = present_below
 
 -- ---- a line that splitting does not refuse
 line_items_lem : (args : List (List ℕ)) (x : Split) (l : Line) → line_of args x ≡ ok l → l.refusal ≡ none → (x.ambiguous ≡ none) × (l.items ≡ items_of x)
-unfolding line_of if◌then◌else◌ too_many
+unfolding line_of too_many
 line_items_lem args x l e u = go (ltb 256 (length (items_of x))) refl
   where
     go : (t : Bool) → ltb 256 (length (items_of x)) ≡ t → (x.ambiguous ≡ none) × (l.items ≡ items_of x)

@@ -1,4 +1,5 @@
 -- What splitting withdraws: looking letters up, the sixth reason, and the arguments that are one Word.
+use Rattle.std.specs.Prelude.{if◌then◌else◌}
 use mathlib.Core.Bool.{Bool, true, false, ◌||◌, or-true}
 use mathlib.Core.List.{List, [], ◌∷◌, ◌++◌}
 use mathlib.Core.Logic.{inl, ⊎_elim}
@@ -9,7 +10,7 @@ use native.Mathlib.Omega.{arith}
 use lib.Dec.{leb}
 use lib.ListN.{length}
 use borrow.Author.Tests.{le-leb}
-use Rattle.utf8.specs.Utf8.{if◌then◌else◌, decode, decode_at, well_formed}
+use Rattle.utf8.specs.Utf8.{decode, decode_at, well_formed}
 use Rattle.utf8.specs.declared.Decoded.{Decoded}
 use Rattle.utf8.specs.declared.Decoded.TheVariants.{Char, Bad}
 use Rattle.rules.specs.Base.{null, contains, ◌>>?◌}
@@ -89,7 +90,7 @@ looked_up l before (x ∷ ls) place e =
 -- two letters or more are looked up
 module _ (l : Letters) (b : ℕ) (s : List ℕ) where
   pub several : (ls : List Letter) → cluster_from 0 0 (b ∷ s) ≡ ok ls → 2 ≤ length ls → disambiguate_short l ls ≡ look_up l [] ls
-  unfolding disambiguate_short if◌then◌else◌
+  unfolding disambiguate_short
   several [] e h = absurd (omega arith)
   several (x ∷ []) e h = absurd (omega arith)
   several (x ∷ y ∷ ls) e h = rw (first_rest b 0 s x y ls e)
@@ -101,7 +102,7 @@ module _ (l : Letters) (b : ℕ) (s : List ℕ) where
       → cluster_from 0 0 (b ∷ s) ≡ ok ls
       → disambiguate_short l ls ≡ withdrawn place
       → 2 ≤ length ls
-  unfolding disambiguate_short if◌then◌else◌
+  unfolding disambiguate_short
   withdrawn_two [] place w e h = absurd (let z : ◌≡◌ {A = ℕ} 0 1 = cc in omega arith)
   withdrawn_two (x ∷ []) place w e h =
       absurd (let one = rw (alone b s x w e) at h in let z : ◌≡◌ {A = ℕ} 0 1 = cc in omega arith)
@@ -124,7 +125,7 @@ cluster_name os ls h = record {
 }
 
 pub shape_cluster : (os : List ℕ) (ls : List Letter) → ClusterShape os ls → cluster_letters os ≡ some ls
-unfolding cluster_letters ◌>>?◌ if◌then◌else◌
+unfolding cluster_letters ◌>>?◌
 shape_cluster os ls h =
     rw (shape_name os (h.first ∷ h.more) (cluster_name os ls h)) (ap at_least_two h.these ∙ rw (le-leb 2 (length ls) h.two))
 
@@ -148,7 +149,7 @@ first_unknown_lem :
     → All (KnownLetter l) known
     → Unknown l u.character
     → first_unknown l (known ++ (u ∷ rest)) ≡ some u.character
-unfolding first_unknown if◌then◌else◌
+unfolding first_unknown
 first_unknown_lem l [] u rest h nobody = rw (nobody.no_flag, nobody.no_argument)
 first_unknown_lem l (x ∷ known) u rest h nobody = rw (known_letter l x h.0) (first_unknown_lem l known u rest h.1 nobody)
 
@@ -247,7 +248,7 @@ unfolding plain
 plain_items g is e = ap (λ (x : Group). x.items) (ok_injective e)
 
 flags_no_word : (os cs : List ℕ) (c : ℕ) (rest t : List ℕ) → flag_items os cs ++ argument_items os c rest ≡ Word t ∷ [] → ⊥
-unfolding flag_items argument_items if◌then◌else◌ null
+unfolding flag_items argument_items null
 flags_no_word os [] c [] t e = let z : ◌≡◌ {A = ℕ} 0 1 = cc in omega arith
 flags_no_word os [] c (b ∷ rest) t e = let z : ◌≡◌ {A = ℕ} 0 1 = cc in omega arith
 flags_no_word os (x ∷ cs) c rest t e = let z : ◌≡◌ {A = ℕ} 0 1 = cc in omega arith

@@ -9,7 +9,7 @@ use native.Mathlib.Omega.{arith}
 use lib.Dec.{ltb}
 use lib.ListN.{length, length-append, get_elem?, take}
 use borrow.Author.Tests.{ltb-true, ltb-false}
-use Rattle.utf8.specs.Utf8.{if◌then◌else◌, well_formed}
+use Rattle.utf8.specs.Utf8.{well_formed}
 use Rattle.rules.specs.Base.{null, contains, same}
 use Rattle.rules.specs.Outcome.{Outcome, ok, refused, fault, ◌>>=◌}
 use Rattle.rules.specs.Accept.{Letters}
@@ -52,7 +52,7 @@ module _ (l : Letters) (os : List ℕ) where
   flags_are t (c ∷ cs) is h = (tt, flags_are [] cs is h)
 
   argument_are : (c : ℕ) (rest : List ℕ) → length rest < length os → ItemsAre false (argument_items os c rest)
-  unfolding argument_items adjacent_short null if◌then◌else◌
+  unfolding argument_items adjacent_short null
   argument_are c [] h = (tt, refl)
   argument_are c (b ∷ rest) h = (tt, (h, refl))
 
@@ -174,7 +174,7 @@ module _ (l : Letters) (k : ℕ) (os : List ℕ) (rest : List (List ℕ)) (x : S
       → split_from l (k + length is) rest ≡ others
       → joined k (record { items = is; ambiguous = a; marker = m }) rest others ≡ ok x
       → Cut l k os rest x
-  unfolding joined if◌then◌else◌ ◌>>=◌
+  unfolding joined ◌>>=◌
   joined_cut is (some i) m others g h o e = absurd (some≢none (ap (λ (y : Split). y.ambiguous) (ok_injective e) ∙ clear))
   joined_cut is none true others g h o e = record {
     group = _;

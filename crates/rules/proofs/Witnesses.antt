@@ -13,22 +13,17 @@ use Rattle.rules.specs.Accept.{Letters}
 use Rattle.rules.specs.Split.{Item, Short, Word}
 use Rattle.rules.specs.State.{State}
 use Rattle.rules.specs.Eval.{Visit}
-use Rattle.rules.specs.Base.{same}
-use Rattle.rules.specs.Base.{write}
-use Rattle.rules.specs.Outcome.{at, refuse}
+use Rattle.rules.specs.Outcome.{refuse}
 use Rattle.rules.specs.Value.{of_kind}
-use Rattle.rules.specs.Value.{word}
 use Rattle.rules.specs.Tree.{kind_of}
 use Rattle.rules.specs.Split.{cluster_from}
 use Rattle.rules.specs.Split.{short_group}
-use Rattle.rules.specs.State.{present, construct}
-use Rattle.rules.specs.State.{first, used, remove}
-use Rattle.rules.specs.State.{conflict, set_scope}
+use Rattle.rules.specs.State.{construct}
+use Rattle.rules.specs.State.{first, remove}
+use Rattle.rules.specs.State.{set_scope}
 use Rattle.rules.specs.State.{adjacent_scope}
 use Rattle.rules.specs.State.{before, only_once}
-use Rattle.rules.specs.Eval.{after}
 use Rattle.rules.specs.Eval.{repeat}
-use Rattle.rules.specs.Eval.{side}
 use Rattle.rules.specs.Eval.{eval}
 use Rattle.rules.proofs.Opened.{formats, forms, splitting, states, evaluation}
 

@@ -1,19 +1,18 @@
 -- The answer words fix the values: two lists of values of their kinds with the same words are equal.
-use mathlib.Core.Bool.{Bool, true, false, ◌&&◌, false≢true}
+use mathlib.Core.Bool.{Bool, true, false, false≢true}
 use mathlib.Core.List.{List, [], ◌∷◌, ◌++◌, append_assoc}
-use mathlib.Core.Logic.{◌⊎◌, inl, inr, ⊎_elim}
 use mathlib.Core.Option.{Option, some, none}
 use mathlib.Core.Path.{◌≡◌, refl, sym, ap, ap₂, ◌∙◌}
-use Prim.Native.Nat.{ℕ, suc, ◌+◌, ◌≤◌}
+use Prim.Native.Nat.{ℕ, ◌+◌, ◌≤◌}
 use native.Mathlib.Omega.{arith}
 use lib.ListN.{length, get_or, drop}
-use Rattle.utf8.specs.Utf8.{if◌then◌else◌}
-use Rattle.rules.specs.Value.{Base, yes_no, text, number, Kind, one, optional, list, list_of_optional, optional_list, item, name, BaseValue, is_yes, is_text, is_number, Value, base, absent}
-use Rattle.rules.specs.Value.{present, nil, cons, base_number, same_base, base_of, is_base, is_optional, is_list, has_kind, word, size, words, elements, answer_words, of_kind, bases_of}
+use Rattle.std.specs.Prelude.{if◌then◌else◌}
+use Rattle.rules.specs.Value.{Base, Kind, one, optional, list, list_of_optional, optional_list, item, name, BaseValue, is_yes, is_text, is_number, Value, base, absent}
+use Rattle.rules.specs.Value.{present, nil, cons, base_number, base_of, is_base, is_optional, is_list, has_kind, word, size, words, elements, answer_words, of_kind, bases_of}
 use Rattle.rules.specs.Form.{Name}
 use Rattle.rules.specs.Tree.{Tree, kind_of}
 use Rattle.rules.specs.Split.{Item}
-use Rattle.rules.specs.Demands.{All, Means, OfKind, OnePerField}
+use Rattle.rules.specs.Demands.{All, Means, OnePerField}
 use Rattle.rules.proofs.Acceptance.{and-true, All-split, lookup_inside}
 use Rattle.rules.proofs.KindLaws.{same_base_lem}
 
@@ -26,7 +25,6 @@ tail_same x y l m e = ap (drop 1) e
 
 -- ---- base values
 yes_fix : (a b : Bool) → ◌≡◌ {A = ℕ} (if a then 1 else 0) (if b then 1 else 0) → a ≡ b
-unfolding if◌then◌else◌
 yes_fix true true e = refl
 yes_fix true false e = absurd (omega arith)
 yes_fix false true e = absurd (omega arith)

@@ -2,7 +2,7 @@
 use Rattle.std.specs.Prelude.{Bool, ◌&&◌, List, [], ◌∷◌, ◌++◌, ℕ, suc, leb, eqb, length}
 use Rattle.std.proofs.Math.Option.{Option, some, none}
 use Rattle.std.proofs.Math.ListN.{get_elem?}
-use Rattle.utf8.specs.Utf8.{if◌then◌else◌}
+use Rattle.std.specs.Prelude.{if◌then◌else◌}
 use Rattle.rules.specs.Base.{◌>>?◌, contains, occurrences, numbers, concat_map, first_fault}
 use Rattle.rules.specs.Form.{Node, Form, counts_good, form_length, read_form, name_good}
 use Rattle.rules.specs.Tree.{Tree, named_of, tree_of}

@@ -1,7 +1,7 @@
 -- Document 02's batch: 0 to 32 sheets run with one form, a record and parts of the slices for each.
 use Rattle.std.specs.Prelude.{Bool, ◌&&◌, List, [], ◌∷◌, map, ℕ, ◌*◌, leb, length}
 use Rattle.std.proofs.Math.Option.{none}
-use Rattle.utf8.specs.Utf8.{if◌then◌else◌}
+use Rattle.std.specs.Prelude.{if◌then◌else◌}
 use Rattle.wire.specs.Wire.{number_at, table_good, entry_of}
 use Rattle.rules.specs.Base.{numbers, concat_map}
 use Rattle.rules.specs.Outcome.{Outcome, ok, refused, fault, ◌>>=◌, refuse}

@@ -2,7 +2,7 @@
 use Rattle.std.specs.Prelude.{Bool, true, false, ◌&&◌, List, [], ◌∷◌, ℕ, zero, suc, ◌+◌, ◌-◌, ◌*◌, ◌/◌, leb, eqb, ltb, length, get_or, take, drop}
 use Rattle.std.proofs.Math.Option.{Option, some, none}
 use Rattle.std.proofs.Math.ListN.{get_elem?}
-use Rattle.utf8.specs.Utf8.{if◌then◌else◌}
+use Rattle.std.specs.Prelude.{if◌then◌else◌}
 use Rattle.rules.specs.Base.{◌>>?◌}
 use Rattle.rules.specs.Outcome.{Outcome, ok, refused, fault, ◌>>=◌, MissingItem, list_words, Refusal, refuse}
 use Rattle.rules.specs.Value.{Kind, Value, words}
@@ -10,7 +10,8 @@ use Rattle.rules.specs.Form.{name_bytes, portable}
 use Rattle.rules.specs.Tree.{Named, Tree, Flag, Argument, Positional, Optional, Many, Some, Count, Last, Choice, Fallback, Guard, zeros, kind_of}
 use Rattle.rules.specs.Accept.{Accepted, field_of}
 use Rattle.rules.specs.Split.{Item, Short, Long, ArgWord, Word, PosWord, ItemRecord}
-use Rattle.rules.specs.State.{State, command_mark, field_mark, empty_state, state_good, get, remove, Conflict, conflict, Picked, pick_winner, save_conflicts, Scope, set_scope, adjacent_scope}
+use Rattle.rules.specs.State.{State, command_mark, field_mark, empty_state, state_good, get, remove, Conflict, conflict, Picked, pick_winner, save_conflicts, Scope, set_scope}
+use Rattle.rules.specs.State.{adjacent_scope}
 use Rattle.rules.specs.State.{adjacently_available_from, only_once}
 use Rattle.rules.specs.Take.{Took, took, Taken, Operand, matches_arg, text_of, take_flag, take_arg, take_positional_word, take_cmd}
 use Rattle.rules.specs.Eval.{Ran, eval}

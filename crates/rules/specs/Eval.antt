@@ -2,7 +2,7 @@
 use Rattle.std.specs.Prelude.{Bool, true, false, not, ◌&&◌, ◌||◌, List, [], ◌∷◌, ◌++◌, ℕ, zero, suc, ◌+◌, ◌-◌, ◌*◌, leb, eqb, ltb, length}
 use Rattle.std.proofs.Math.Option.{Option, some, none}
 use Rattle.std.proofs.Math.ListN.{get_elem?}
-use Rattle.utf8.specs.Utf8.{if◌then◌else◌}
+use Rattle.std.specs.Prelude.{if◌then◌else◌}
 use Rattle.rules.specs.Base.{null, all}
 use Rattle.rules.specs.Outcome.{Spot, Outcome, ok, refused, fault, panic, wrong_kind, endless, ◌>>=◌, at, Refusal, refuse, is_missing, can_catch, wrong_input, combine_with}
 use Rattle.rules.specs.Outcome.{short_long125, short_long126, short_long127, parse_flag559, take_argument679, or_else305, or_else307}

@@ -1,7 +1,7 @@
 -- The form: header of counts, field numbers, nodes of 16 bytes, names of 6 bytes, the area.
-use Rattle.std.specs.Prelude.{Bool, true, false, not, ◌&&◌, ◌||◌, List, map, ℕ, ◌+◌, ◌*◌, leb, eqb, length, take, drop}
+use Rattle.std.specs.Prelude.{Bool, true, false, not, ◌&&◌, ◌||◌, List, map, ℕ, ◌+◌, ◌*◌, leb, eqb, length, take, drop, if◌then◌else◌}
 use Rattle.std.proofs.Math.Option.{Option, some, none}
-use Rattle.utf8.specs.Utf8.{if◌then◌else◌, decode, well_formed}
+use Rattle.utf8.specs.Utf8.{decode, well_formed}
 use Rattle.utf8.specs.declared.Decoded.TheVariants.{Char, Bad}
 use Rattle.wire.specs.Wire.{number_at}
 use Rattle.rules.specs.Base.{all, is_some, numbers}

@@ -1,7 +1,7 @@
 -- The tests before a call, in this order: 1 to 4, 6 and 5, 7, 14. A call makes those whose input it has.
 use Rattle.std.proofs.Math.Option.{none}
-use Rattle.std.specs.Prelude.{List, [], ℕ, leb, eqb, length}
-use Rattle.utf8.specs.Utf8.{if◌then◌else◌}
+use Rattle.std.specs.Prelude.{List, ℕ, leb, eqb, length}
+use Rattle.std.specs.Prelude.{if◌then◌else◌}
 use Rattle.rules.specs.Outcome.{Outcome, ok, refused, ◌>>=◌, refuse}
 use Rattle.rules.specs.Sheet.{sheet_fault, sheet_area}
 use Rattle.rules.specs.Accept.{Accepted, accepted, refused_at, check_form}

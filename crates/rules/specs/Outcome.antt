@@ -1,7 +1,7 @@
 -- How an evaluation ends: a value, a refusal, or a fault.
 use Rattle.std.specs.Prelude.{Bool, List, [], ◌∷◌, ◌++◌, ℕ, suc, eqb}
 use Rattle.std.proofs.Math.Option.{Option, some, none}
-use Rattle.utf8.specs.Utf8.{if◌then◌else◌}
+use Rattle.std.specs.Prelude.{if◌then◌else◌}
 use Rattle.rules.specs.Base.{contains, concat_map}
 
 -- Spots where the Rust would panic: the function, and the line of its file.

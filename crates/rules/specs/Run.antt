@@ -1,7 +1,7 @@
 -- The run: the whole answer to a form and a sheet, with what the three slices hold.
 use Rattle.std.specs.Prelude.{List, [], ◌∷◌, ◌++◌, ℕ, suc, ◌+◌, ◌-◌, ltb, length, replicate}
 use Rattle.std.proofs.Math.Option.{Option, some, none}
-use Rattle.utf8.specs.Utf8.{if◌then◌else◌}
+use Rattle.std.specs.Prelude.{if◌then◌else◌}
 use Rattle.rules.specs.Outcome.{Outcome, ok, refused, fault, ◌>>=◌, MissingItem, list_words, Refusal, refuse}
 use Rattle.rules.specs.Value.{Value, answer_words}
 use Rattle.rules.specs.Sheet.{arguments}

@@ -1,6 +1,6 @@
 -- The sheet: count n of arguments (0..256), n + 1 offsets, then the byte area (at most 32,768).
 use Rattle.std.specs.Prelude.{Bool, ◌&&◌, List, map, ℕ, leb, ltb, length}
-use Rattle.utf8.specs.Utf8.{if◌then◌else◌}
+use Rattle.std.specs.Prelude.{if◌then◌else◌}
 use Rattle.wire.specs.Wire.{number_at, area, table_good, entry_of}
 use Rattle.rules.specs.Base.{numbers}
 

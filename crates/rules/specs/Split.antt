@@ -1,8 +1,8 @@
 -- Splitting: from arguments to items.
-use Rattle.std.specs.Prelude.{Bool, true, false, ℕ, zero, suc, ◌+◌, ◌-◌, eqb, ltb, length}
+use Rattle.std.specs.Prelude.{Bool, true, false, ℕ, zero, suc, ◌+◌, ◌-◌, eqb, ltb, length, if◌then◌else◌}
 use mathlib.Core.List.{List, [], ◌∷◌, ◌++◌, flatten}
 use Rattle.std.proofs.Math.Option.{Option, some, none}
-use Rattle.utf8.specs.Utf8.{if◌then◌else◌, decode, well_formed}
+use Rattle.utf8.specs.Utf8.{decode, well_formed}
 use Rattle.utf8.specs.declared.Decoded.TheVariants.{Char, Bad}
 use Rattle.rules.specs.Base.{null, contains, same, slice_from, concat_map}
 use Rattle.rules.specs.Outcome.{Outcome, ok, fault, panic, ◌>>=◌, at, split_os_argument185, disambiguate_short207, construct361}

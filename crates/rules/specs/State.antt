@@ -3,7 +3,7 @@ use Rattle.std.specs.Prelude.{Bool, true, false, not, ◌&&◌, List, [], ◌∷
 use Rattle.std.specs.Bool.{xor}
 use Rattle.std.proofs.Math.Option.{Option, some, none}
 use Rattle.std.proofs.Math.ListN.{get_elem?}
-use Rattle.utf8.specs.Utf8.{if◌then◌else◌}
+use Rattle.std.specs.Prelude.{if◌then◌else◌}
 use Rattle.rules.specs.Base.{all, null, same, ◌>>?◌, minus, write, slice_from, slice}
 use Rattle.rules.specs.Outcome.{Outcome, ok, ◌>>=◌, at}
 use Rattle.rules.specs.Outcome.{construct390, construct391, remove431, remove433, remove434, adjacent_scope506, adjacent_scope508, set_scope561, args_iter635, only_once282, only_once288}

@@ -2,7 +2,7 @@
 use Rattle.std.specs.Prelude.{Bool, true, false, not, ◌&&◌, ◌||◌, List, [], ◌∷◌, ℕ, ◌+◌, ◌%◌, leb, eqb, length}
 use Rattle.std.proofs.Math.Option.{Option, some, none}
 use Rattle.std.proofs.Math.ListN.{get_elem?}
-use Rattle.utf8.specs.Utf8.{if◌then◌else◌}
+use Rattle.std.specs.Prelude.{if◌then◌else◌}
 use Rattle.rules.specs.Base.{all, null, is_some, ◌>>?◌, contains, concat_map, slice}
 use Rattle.rules.specs.Value.{Base, yes_no, text, number, same_base, Kind, one, optional, list, list_of_optional, optional_list, name, BaseValue, is_yes, is_text, is_number, base_of}
 use Rattle.rules.specs.Form.{Node, Name, Form, name_bytes, one_character}

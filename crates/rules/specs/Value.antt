@@ -1,7 +1,7 @@
 -- Kinds, values and answer words.
 use Rattle.std.specs.Prelude.{Bool, true, false, ◌&&◌, List, [], ◌∷◌, ◌++◌, ℕ, suc, ◌+◌, eqb}
 use Rattle.std.proofs.Math.Option.{Option, some, none}
-use Rattle.utf8.specs.Utf8.{if◌then◌else◌}
+use Rattle.std.specs.Prelude.{if◌then◌else◌}
 
 -- A base value is yes/no, text or number.
 pub data Base : Type 0 where

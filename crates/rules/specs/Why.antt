@@ -1,9 +1,9 @@
 -- Document 02, request five: why a place was left over.
-use Rattle.std.specs.Prelude.{Bool, true, false, not, ◌&&◌, ◌||◌, ℕ, zero, suc, ◌-◌, leb, eqb, ltb, length}
+use Rattle.std.specs.Prelude.{Bool, true, false, not, ◌&&◌, ◌||◌, ℕ, zero, suc, ◌-◌, leb, eqb, ltb, length, if◌then◌else◌}
 use mathlib.Core.List.{List, [], ◌∷◌, flatten}
 use Rattle.std.proofs.Math.Option.{Option, some, none}
 use Rattle.std.proofs.Math.ListN.{get_elem?}
-use Rattle.utf8.specs.Utf8.{if◌then◌else◌, well_formed}
+use Rattle.utf8.specs.Utf8.{well_formed}
 use Rattle.rules.specs.Base.{all, same, contains, is_some, ◌>>?◌}
 use Rattle.rules.specs.Outcome.{Outcome, ok, refused, fault, ◌>>=◌}
 use Rattle.rules.specs.Sheet.{arguments}

@@ -10,7 +10,6 @@ use native.Mathlib.Numerals.{add-one}
 use native.Mathlib.Omega.{arith}
 use lib.ListN.{length, take, drop, get_elem?, replicate}
 use lib.Seq.{take_at, drop_at, drop-append-add}
-use Rattle.utf8.specs.Utf8.{if◌then◌else◌}
 use Rattle.rules.specs.Base.{concat_map}
 use Rattle.rules.specs.Outcome.{Outcome, ok, refused, fault, ◌>>=◌}
 use Rattle.rules.specs.Run.{Report, padded, run}
@@ -137,11 +136,11 @@ module _ (call : List ℕ → Outcome Report) (b : List ℕ) (nr ni na nl : ℕ)
       → batch_good b && parts_fit (sheet_count b) nr ni na nl ≡ true
       → sheets_by call (batch_sheets b) ≡ ok rs
       → batch_by call b nr ni na nl ≡ ok (batch_report 0 nr ni na nl rs)
-  unfolding batch_by sheets_in if◌then◌else◌ ◌>>=◌
+  unfolding batch_by sheets_in ◌>>=◌
   batch_runs rs e h = rw (e, batch_by, h)
 
   pub batch_stops : batch_good b && parts_fit (sheet_count b) nr ni na nl ≡ false → batch_by call b nr ni na nl ≡ ok (batch_report 15 nr ni na nl [])
-  unfolding batch_by sheets_in if◌then◌else◌ ◌>>=◌
+  unfolding batch_by sheets_in ◌>>=◌
   batch_stops e = rw (e, batch_by)
 
   module _ (a : Answers call) where

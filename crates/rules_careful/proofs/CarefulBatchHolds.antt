@@ -1,12 +1,11 @@
 -- The careful run of a batch is answered where the plain run is, and each record and part is the careful run's.
 use mathlib.Core.List.{List}
 use mathlib.Core.Logic.{⊎_elim}
-use mathlib.Core.Path.{◌≡◌, refl, sym, ap, ◌∙◌}
+use mathlib.Core.Path.{◌≡◌, sym, ap, ◌∙◌}
 use Prim.Native.Nat.{ℕ}
 use lib.ListN.{length, length-replicate}
 use Rattle.rules.specs.Outcome.{Outcome, ok, ◌>>=◌}
 use Rattle.rules.specs.Run.{Report, run}
-use Rattle.rules_careful.specs.Careful.{careful}
 use Rattle.rules_careful.specs.Looks.{Looks}
 use Rattle.rules.proofs.SplitLaws.{ok_injective}
 use Rattle.rules.proofs.InputFaults.{padded_nil}

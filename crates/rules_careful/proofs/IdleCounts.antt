@@ -7,7 +7,7 @@ use Prim.Native.Nat.{ℕ, zero, suc, ◌+◌, ◌-◌, ◌≤◌, ◌<◌}
 use native.Mathlib.Nat.{le_refl}
 use native.Mathlib.Omega.{arith}
 use lib.ListN.{length}
-use Rattle.utf8.specs.Utf8.{if◌then◌else◌}
+use Rattle.std.specs.Prelude.{if◌then◌else◌}
 use Rattle.rules.specs.Base.{null}
 use Rattle.rules.specs.Outcome.{Outcome, ok, refused, fault, refuse}
 use Rattle.rules.specs.Value.{is_yes, is_text, is_number, Value, base, absent, present, nil, cons, list_of, size}

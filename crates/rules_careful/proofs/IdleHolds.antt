@@ -8,7 +8,7 @@ use native.Mathlib.Nat.{zero-add}
 use native.Mathlib.Omega.{arith}
 use lib.ListN.{get_elem?}
 use borrow.Author.Tests.{eq-eqb, ne_eqb}
-use Rattle.utf8.specs.Utf8.{if◌then◌else◌}
+use Rattle.std.specs.Prelude.{if◌then◌else◌}
 use Rattle.rules.specs.Base.{contains}
 use Rattle.rules.specs.Outcome.{Outcome, ok, ◌>>=◌}
 use Rattle.rules.specs.Value.{Value}
@@ -38,7 +38,7 @@ use Rattle.rules_careful.proofs.IdleCounts.{at_most_used}
 -- ---- the numbers of the nodes
 -- those behind a node have higher ones
 none_below : (k : ℕ) (ts : List Tree) (n : ℕ) → n < k → contains (idle_from k ts) n ≡ false
-unfolding idle_from contains if◌then◌else◌
+unfolding idle_from contains
 none_below k [] n h = refl
 none_below k (t ∷ ts) n h = go (is_idle_repeat t) (none_below (suc k) ts n (omega arith))
   where
@@ -47,7 +47,7 @@ none_below k (t ∷ ts) n h = go (is_idle_repeat t) (none_below (suc k) ts n (om
     go false e = e
 
 found_at : (k : ℕ) (ts : List Tree) (m : ℕ) (t : Tree) → get_elem? ts m ≡ some t → contains (idle_from k ts) (k + m) ≡ is_idle_repeat t
-unfolding idle_from contains if◌then◌else◌
+unfolding idle_from contains
 found_at k [] m t e = absurd (none-ne-some t e)
 found_at k (u ∷ ts) zero t e =
     go (is_idle_repeat u) (none_below (suc k) ts (k + 0) (omega arith)) ∙ ap is_idle_repeat (some-injective u t e)
@@ -68,7 +68,7 @@ found_at k (u ∷ ts) (suc m) t e =
 
 -- ---- a sheet with no arguments
 starts_empty : (f : Form) (sheet : List ℕ) → arguments sheet ≡ [] → StartsEmpty f sheet
-unfolding split split_from line_of items_of flatten records_from construct ambiguity empty_state ◌>>=◌ if◌then◌else◌
+unfolding split split_from line_of items_of flatten records_from construct ambiguity empty_state ◌>>=◌
 starts_empty f sheet e = record {
   line = record { refusal = none; items = []; records = []; state = empty_state };
   splits = rw e refl;

@@ -8,7 +8,7 @@ use mathlib.Core.Path.{◌≡◌, refl, sym, subst}
 use Prim.Native.Nat.{ℕ}
 use native.Mathlib.Omega.{arith}
 use lib.Dec.{leb}
-use Rattle.utf8.specs.Utf8.{if◌then◌else◌}
+use Rattle.std.specs.Prelude.{if◌then◌else◌}
 use Rattle.rules.specs.Base.{contains, all}
 use Rattle.rules.specs.Outcome.{Outcome, ok, refused, fault, Refusal, refuse, is_missing, can_catch, wrong_input, combine_with, at, ◌>>=◌}
 use Rattle.rules.specs.Value.{Base, Kind, BaseValue, is_yes, is_text, is_number, Value, base, absent, present, nil, cons}
@@ -62,12 +62,12 @@ not_wrong may e (inl p) = rw p.1 refl
 not_wrong may e (inr p) = rw p.1 refl
 
 pub swallowed_20 : (c : Bool) (e : Refusal) → e.number ≡ 20 → swallowed c e empty_state empty_state ≡ true
-unfolding swallowed is_missing wrong_input contains empty_state if◌then◌else◌
+unfolding swallowed is_missing wrong_input contains empty_state
 swallowed_20 true e n = rw n refl
 swallowed_20 false e n = rw n refl
 
 pub swallowed_26 : (c : Bool) (e : Refusal) → e.number ≡ 26 → swallowed c e empty_state empty_state ≡ c
-unfolding swallowed is_missing can_catch wrong_input contains if◌then◌else◌
+unfolding swallowed is_missing can_catch wrong_input contains
 swallowed_26 true e n = rw n refl
 swallowed_26 false e n = rw n refl
 
@@ -80,7 +80,7 @@ or-false true b h = absurd (true≢false h)
 or-false false b h = (refl, h)
 
 combined : (a b : Bool) (e f : Refusal) → NothingEnds a (refused e) → NothingEnds b (refused f) → NothingEnds (a || b) (refused (combine_with e f))
-unfolding combine_with is_missing can_catch contains if◌then◌else◌
+unfolding combine_with is_missing can_catch contains
 combined a b e f (inl p) q = rw (p.0, p.1) (inl (refl, refl))
 combined a b e f (inr p) (inl q) = rw (p.0, p.1, q.0, q.1) (inl (refl, refl))
 combined a b e f (inr p) (inr q) = rw (p.0, p.1, q.0, q.1) (inr (refl, refl))
@@ -88,7 +88,7 @@ combined a b e f (inr p) (inr q) = rw (p.0, p.1, q.0, q.1) (inr (refl, refl))
 -- ---- what each kind of node makes of its child
 module _ (r : Ran Value) where
   optional_ends : (c may : Bool) (o : Outcome Value) → NothingEnds may o → NothingEnds true (eval_optional c empty_state (idle_ran r o)).outcome
-  unfolding eval_optional parse_option fewer ◌then◌ after ended if◌then◌else◌
+  unfolding eval_optional parse_option fewer ◌then◌ after ended
   optional_ends c may (ok v) p = refl
   optional_ends true may (refused e) (inl p) = rw (swallowed_26 true e p.1) refl
   optional_ends false may (refused e) (inl p) = rw (swallowed_26 false e p.1) (inl (refl, p.1))
@@ -96,7 +96,7 @@ module _ (r : Ran Value) where
   optional_ends c may (fault x) p = p
 
   fallback_ends : (v : BaseValue) (may : Bool) (o : Outcome Value) → NothingEnds may o → NothingEnds true (eval_fallback v empty_state (idle_ran r o)).outcome
-  unfolding eval_fallback after ended can_catch contains if◌then◌else◌
+  unfolding eval_fallback after ended can_catch contains
   fallback_ends v may (ok w) p = refl
   fallback_ends v may (refused e) (inl p) = rw p.1 (inl (refl, refl))
   fallback_ends v may (refused e) (inr p) = rw p.1 refl
@@ -104,7 +104,7 @@ module _ (r : Ran Value) where
 
   -- only a number comes to a guard: any other value would be a fault
   guarded_ends : (lo hi : ℕ) (v : Value) → NoFault (guarded lo hi v empty_state) → NothingEnds true (guarded lo hi v empty_state)
-  unfolding guarded if◌then◌else◌
+  unfolding guarded
   guarded_ends lo hi (base (is_yes b)) p = p
   guarded_ends lo hi (base (is_text t)) p = p
   guarded_ends lo hi (base (is_number n)) p =
@@ -137,7 +137,7 @@ module _ (r : Ran Value) where
       → NothingEnds a o
       → NothingEnds b u
       → NothingEnds (a || b) (eval_choice empty_state (idle_ran r o) (idle_ran q u)).outcome
-  unfolding by eval_choice chosen picks_first picked value_of side won at after ended empty_state if◌then◌else◌
+  unfolding by eval_choice chosen picks_first picked value_of side won at after ended empty_state
   choice_ends q a b (ok v) (ok w) x y = rw x refl
   choice_ends q a b (ok v) (refused e) x y =
       subst (λ (w : Bool). NothingEnds (a || b) (by q (ok v) (refused e) (if w then refused e else side true none)).outcome) (sym (not_wrong b e y)) (rw x refl)
@@ -166,7 +166,7 @@ module _ (j : ℕ) where
 
   -- no item is found
   flag_ends : (n : ℕ) (m : Named) → is_named m ≡ true → (w : Bool) → NothingEnds w (eval_flag (field_mark j) [] n m w empty_state).outcome
-  unfolding eval_flag leaf take_flag took find find_in unused present_from empty_state ◌>>=◌ flag_value not_found refuse_missing if◌then◌else◌
+  unfolding eval_flag leaf take_flag took find find_in unused present_from empty_state ◌>>=◌ flag_value not_found refuse_missing
   flag_ends n m h true = refl
   flag_ends n m h false = rw (named_shown m h) (inr (refl, refl))
 
@@ -174,7 +174,7 @@ module _ (j : ℕ) where
       (n : ℕ) (m : Named) (b : Base) (a : Bool)
       → is_named m ≡ true
       → NothingEnds false (eval_argument (field_mark j) [] n m b a empty_state).outcome
-  unfolding eval_argument leaf take_arg took find find_in unused present_from empty_state ◌>>=◌ argument_value not_found refuse_missing if◌then◌else◌
+  unfolding eval_argument leaf take_arg took find find_in unused present_from empty_state ◌>>=◌ argument_value not_found refuse_missing
   argument_ends n m b a h = rw (named_shown m h) (inr (refl, refl))
 
   positional_ends : (n : ℕ) (p : Position) (b : Base) → NothingEnds false (eval_positional (field_mark j) [] n p b empty_state).outcome
@@ -198,7 +198,8 @@ module _ (j : ℕ) where
       let y = sound_choice t u z in
       let g = or-false (has_repeat t) (has_repeat u) f in
       subst (λ (r : Ran Value). NothingEnds (may_idle t || may_idle u) (eval_choice empty_state r (ran_on u)).outcome) (sym (idle_ran_lem (ran_on t) (state_stays t y.0)))
-      (subst (λ (r : Ran Value). NothingEnds (may_idle t || may_idle u) (eval_choice empty_state (idle_ran (ran_on t) (ran_on t).outcome) r).outcome) (sym (idle_ran_lem (ran_on u) (state_stays u y.1)))
+      (subst (λ (r : Ran Value). NothingEnds (may_idle t || may_idle u) (eval_choice empty_state (idle_ran (ran_on t) (ran_on t).outcome) r).outcome)
+      (sym (idle_ran_lem (ran_on u) (state_stays u y.1)))
       (choice_ends (ran_on t) (ran_on u) (may_idle t) (may_idle u) (ran_on t).outcome (ran_on u).outcome (nothing_ends t y.0 g.0) (nothing_ends u y.1 g.1)))
   nothing_ends (Fallback v t) z f =
       let y = sound_fallback v t z in

@@ -5,7 +5,7 @@ use mathlib.Core.Logic.{inl, inr}
 use mathlib.Core.Option.{Option, some, none}
 use mathlib.Core.Path.{◌≡◌, refl, sym, ap, ◌∙◌, subst}
 use Prim.Native.Nat.{ℕ, suc}
-use Rattle.utf8.specs.Utf8.{if◌then◌else◌}
+use Rattle.std.specs.Prelude.{if◌then◌else◌}
 use Rattle.rules.specs.Base.{null}
 use Rattle.rules.specs.Outcome.{Outcome, ok, refused, fault, Refusal, refuse}
 use Rattle.rules.specs.Value.{is_number, Value, base, nil, cons, list_of}
@@ -55,7 +55,7 @@ module _ (c : Bool) (len : Option ℕ) (r : Ran Value) where
       (record { outcome = ap (λ (z : Bool). ok (if z then some v else none)) h; state = refl })
 
   parse_refused : (x : Refusal) (b : Bool) → Ends r (refused x) → swallowed c x empty_state empty_state ≡ b → parsed_as r (if b then ok none else refused x)
-  unfolding parse_option after ended if◌then◌else◌
+  unfolding parse_option after ended
   parse_refused x b e h =
       subst (λ (y : Ran Value). parsed_as y (if b then ok none else refused x)) (sym (ran_path r (refused x) e)) (go (swallowed c x empty_state empty_state) b h)
     where
@@ -88,7 +88,7 @@ module _ (run : State → Ran Value) (c stops : Bool) where
   loop_refused x e = then_refused _ (turn 1 empty_state) x e
 
   loop_one : (v : Value) → Ends (run empty_state) (ok v) → Ends (repeated c stops run empty_state) (ok (v ∷ []))
-  unfolding repeated repeat turn fewer idle empty_state if◌then◌else◌
+  unfolding repeated repeat turn fewer idle empty_state
   loop_one v e =
       then_ok _ (turn 1 empty_state) (some v) (ok (v ∷ [])) (parse_value c none (run empty_state) v true e refl) (go stops refl)
     where
@@ -105,11 +105,10 @@ module _
     (of_one : (v : Value) → Ends (f (v ∷ []) empty_state) (one v)) (of_none : Ends (f [] empty_state) no)
   where
     swallowed_none : (x : Refusal) → Ends (run empty_state) (refused x) → swallowed c x empty_state empty_state ≡ true → Ends (repeated c stops run empty_state then f) no
-    unfolding repeated empty_state if◌then◌else◌
+    unfolding repeated empty_state
     swallowed_none x e h = then_ok _ f [] no (loop_ends run c stops 1 none (parse_refused c none (run empty_state) x true e h)) of_none
 
     passed_on_lem : (x : Refusal) → Ends (run empty_state) (refused x) → swallowed c x empty_state empty_state ≡ false → Ends (repeated c stops run empty_state then f) (refused x)
-    unfolding if◌then◌else◌
     passed_on_lem x e h = then_refused _ f x (loop_refused run c stops x (parse_refused c none (run empty_state) x false e h))
 
     -- a child that may be idle
@@ -118,7 +117,7 @@ module _
         → Ends (run empty_state) o
         → NothingEnds true o
         → Ends (repeated c stops run empty_state then f) (made one (λ e. if c then no else refused e) o)
-    unfolding made if◌then◌else◌
+    unfolding made
     repeat_one (ok v) e p = then_ok _ f (v ∷ []) (one v) (loop_one run c stops v e) (of_one v)
     repeat_one (refused x) e (inl p) = go c refl
       where
@@ -185,7 +184,7 @@ module _ (j : ℕ) where
         no_element e = (repeat_none run c stops f one no of_one of_none (ran_on j t).outcome child_ends (child_nothing false e)).outcome
 
   pub one_from_nothing : (t : Tree) → Sound t → is_idle_repeat t ≡ true → OneFromNothing j t
-  unfolding is_idle_repeat on_nothing eval visit eval_many eval_some eval_count eval_last list_of null last_of if◌then◌else◌
+  unfolding is_idle_repeat on_nothing eval visit eval_many eval_some eval_count eval_last list_of null last_of
   one_from_nothing (Flag n m w) z e = absurd (false≢true e)
   one_from_nothing (Argument n m b a) z e = absurd (false≢true e)
   one_from_nothing (Positional n p b) z e = absurd (false≢true e)
@@ -207,7 +206,7 @@ module _ (j : ℕ) where
   one_from_nothing (Guard l h t) z e = absurd (false≢true e)
 
   pub none_from_nothing : (t : Tree) → Sound t → is_idle_repeat t ≡ false → NoneFromNothing j t
-  unfolding is_idle_repeat on_nothing eval visit eval_many eval_some eval_count eval_last list_of null last_of if◌then◌else◌
+  unfolding is_idle_repeat on_nothing eval visit eval_many eval_some eval_count eval_last list_of null last_of
   none_from_nothing (Flag n m w) z e = tt
   none_from_nothing (Argument n m b a) z e = tt
   none_from_nothing (Positional n p b) z e = tt

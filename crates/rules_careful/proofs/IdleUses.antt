@@ -7,7 +7,6 @@ use Prim.Native.Nat.{ℕ, suc, ◌<◌}
 use native.Mathlib.Omega.{arith}
 use lib.Dec.{eqb}
 use lib.ListN.{length}
-use Rattle.utf8.specs.Utf8.{if◌then◌else◌}
 use Rattle.rules.specs.Outcome.{Spot, Outcome, ok, refused, fault, Fault, Refusal, refuse, wrong_input, at, ◌>>=◌}
 use Rattle.rules.specs.Value.{Base, Value}
 use Rattle.rules.specs.Tree.{Named, Position, Tree, Flag, Argument, Positional, Optional, Many, Some, Count, Last, Choice, Fallback, Guard, has_repeat}
@@ -74,7 +73,7 @@ unfolding leaf
 leaf_refused s o follows x e = rw e tt
 
 not_found_lem : (s u : State) (n : ℕ) (m : Named) → is_named m ≡ true → (spot : Spot) → Falls s u (not_found spot n m u)
-unfolding not_found refuse_missing ◌>>=◌ if◌then◌else◌
+unfolding not_found refuse_missing ◌>>=◌
 not_found_lem s u n m h spot = rw (named_shown m h) tt
 
 module _ (k : ℕ) (p : parsed k ≡ true) (is : List Item) (s : State) (g : Good (length is) s) where
@@ -89,7 +88,7 @@ module _ (k : ℕ) (p : parsed k ≡ true) (is : List Item) (s : State) (g : Goo
       remove_free k p (length is) (with_current (some c) s) i (current_good_lem (length is) s c g h) (record { from = f.from; to = f.to; here = f.here })
 
   flag_falls : (n : ℕ) (m : Named) → is_named m ≡ true → RunFalls s (eval_flag k is n m false s)
-  unfolding eval_flag take_flag took flag_value ◌>>=◌ if◌then◌else◌
+  unfolding eval_flag take_flag took flag_value ◌>>=◌
   flag_falls n m h = let f = find_good is (matches_arg m false) s g in go f.0 f.1 f.2
     where
       go : (x : Option Found) → find is (matches_arg m false) s ≡ ok x → Finds is (matches_arg m false) s x → RunFalls s (eval_flag k is n m false s)
@@ -171,7 +170,7 @@ module _ (s : State) (a b : Ran Value) where
       (λ _. won_falls b.state a.state p.place y)
 
   choice_falls : (o u : Outcome Value) → Falls s a.state o → Falls s b.state u → RunFalls s (eval_choice s (with_outcome a o) (with_outcome b u))
-  unfolding by eval_choice chosen picks_first picked value_of at side won after ended if◌then◌else◌
+  unfolding by eval_choice chosen picks_first picked value_of at side won after ended
   choice_falls (ok v) (ok w) x y =
       if_holds (λ q. RunFalls s (by (ok v) (ok w) q)) (eqb s.remaining a.state.remaining && eqb s.remaining b.state.remaining) (side true none) (ok (pick_winner a.state b.state))
       (λ _. x)

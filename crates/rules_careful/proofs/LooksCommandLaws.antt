@@ -10,24 +10,23 @@ use native.Mathlib.Omega.{arith}
 use borrow.Author.Tests.{eqb-true, leb-true}
 use lib.Dec.{leb, eqb, ltb}
 use lib.ListN.{length, get_elem?, replicate}
-use Rattle.utf8.specs.Utf8.{if◌then◌else◌}
 use Rattle.rules.specs.Base.{contains, same}
 use Rattle.rules.specs.Outcome.{Outcome, ok, refused, fault, ◌>>=◌, MissingItem, Refusal, refuse}
 use Rattle.rules.specs.Value.{Value, answer_words}
 use Rattle.rules.specs.Sheet.{sheet_fault, sheet_area, arguments}
 use Rattle.rules.specs.Accept.{Accepted}
 use Rattle.rules.specs.Split.{Item, Word, Split, split_from, items_of}
-use Rattle.rules.specs.State.{State, Found, marker_mark, command_mark, construct, find, first}
+use Rattle.rules.specs.State.{State, Found, marker_mark, command_mark, construct, first}
 use Rattle.rules.specs.Take.{Took, command_text, is_command, take_cmd}
 use Rattle.rules.specs.Sound.{Good}
 use Rattle.rules.specs.Eval.{Ran}
 use Rattle.rules.specs.Given.{sheet_in, room_in, list_room_in}
 use Rattle.rules.specs.Run.{Line, too_many, line_of, run_all, Report, padded, refused_input, report_with, report as reported}
-use Rattle.rules.specs.Commands.{Command, table_in, forms_in, CommandTable, entry_at_fault, commands_in, table_forms, table_letters, split_with, Candidate, candidates_from}
+use Rattle.rules.specs.Commands.{Command, table_in, forms_in, CommandTable, commands_in, table_letters, split_with, Candidate, candidates_from}
 use Rattle.rules.specs.Commands.{Tried, try_names, narrowed, fields_at, run_chosen, Commanded, run_table, CommandReport, command_report, run_commands}
-use Rattle.rules.specs.CommandsAnswered.{Compared, CommandsEnd, refused_inputs, refused_form, refused_line, refused_names, ran}
+use Rattle.rules.specs.CommandsAnswered.{CommandsEnd, refused_inputs, refused_form, refused_line, refused_names, ran}
 use Rattle.rules.proofs.Acceptance.{All-at, accepted_sound}
-use Rattle.rules.proofs.StepLaws.{Hit, Finds, find_good, removed}
+use Rattle.rules.proofs.StepLaws.{Finds, find_good, removed}
 use Rattle.rules.proofs.SplitLaws.{some≢none, ok_injective, same_true, LineGood, ambiguity_none}
 use Rattle.rules.proofs.InputFaults.{bind_ok}
 use Rattle.rules.proofs.CallsAnswer.{if_ok}
@@ -39,7 +38,7 @@ use Rattle.rules_careful.proofs.LooksLaws.{RanLine}
 
 -- ---- a line that splitting does not refuse
 line_items_lem : (args : List (List ℕ)) (x : Split) (l : Line) → line_of args x ≡ ok l → l.refusal ≡ none → (x.ambiguous ≡ none) × (l.items ≡ items_of x)
-unfolding line_of if◌then◌else◌ too_many
+unfolding line_of too_many
 line_items_lem args x l e u = go (ltb 256 (length (items_of x))) refl
   where
     go : (t : Bool) → ltb 256 (length (items_of x)) ≡ t → (x.ambiguous ≡ none) × (l.items ≡ items_of x)

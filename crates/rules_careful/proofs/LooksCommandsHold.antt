@@ -9,12 +9,11 @@ use native.Mathlib.Omega.{arith}
 use borrow.Author.Tests.{eq-eqb, eqb-true, eqb-false}
 use lib.Dec.{eqb}
 use lib.ListN.{get_elem?}
-use Rattle.utf8.specs.Utf8.{if◌then◌else◌}
 use Rattle.rules.specs.Base.{contains}
 use Rattle.rules.specs.Outcome.{ok, ◌>>=◌}
 use Rattle.rules.specs.Sheet.{arguments}
 use Rattle.rules.specs.Accept.{Accepted, Letters}
-use Rattle.rules.specs.Split.{Word, Split, split_from, items_of}
+use Rattle.rules.specs.Split.{Split, split_from, items_of}
 use Rattle.rules.specs.Commands.{table_forms, table_letters, CommandReport, run_commands}
 use Rattle.rules_careful.specs.Careful.{first_misread, misread_letter, refused_word, look_at}
 use Rattle.rules_careful.specs.CarefulCommands.{looked_at, careful_commands}
@@ -39,7 +38,7 @@ module _ (t s : List ℕ) (ni na nl : ℕ) where
 
   -- refused
   refused_looks : eqb ran.report.number 0 ≡ false → LooksCommands t s ni na nl
-  unfolding careful_commands ◌>>=◌ if◌then◌else◌
+  unfolding careful_commands ◌>>=◌
   refused_looks h = record {
     report = ran;
     ran = runs;
@@ -65,7 +64,7 @@ module _ (t s : List ℕ) (ni na nl : ℕ) where
     formed = rw over.tabled over.formed
 
     looked : careful_commands t s ni na nl ≡ ok (looked_at ran (look_at l 1 (arguments s) given.groups na nl ran.report))
-    unfolding careful_commands ◌>>=◌ if◌then◌else◌
+    unfolding careful_commands ◌>>=◌
     looked = rw (runs, eq-eqb ran.report.number 0 fine, over.tabled, over.formed, over.line.grouped)
 
     -- of the places below 1 there is the command word's alone

@@ -8,7 +8,6 @@ use Prim.Native.Nat.{ℕ, ◌≤◌}
 use native.Mathlib.Omega.{arith}
 use borrow.Author.Tests.{eq-eqb, eqb-true, eqb-false}
 use lib.Dec.{eqb}
-use Rattle.utf8.specs.Utf8.{if◌then◌else◌}
 use Rattle.rules.specs.Outcome.{ok, ◌>>=◌}
 use Rattle.rules.specs.Sheet.{arguments}
 use Rattle.rules.specs.Form.{read_form}
@@ -42,7 +41,7 @@ module _ (b s : List ℕ) (ni na nl : ℕ) where
 
   -- refused
   refused_looks : eqb ran.number 0 ≡ false → Looks b s ni na nl
-  unfolding careful ◌>>=◌ if◌then◌else◌
+  unfolding careful ◌>>=◌
   refused_looks h = record {
     report = ran;
     ran = runs;
@@ -67,7 +66,7 @@ module _ (b s : List ℕ) (ni na nl : ℕ) where
     clear = (accepted_line b s ni na nl ran runs fine).line.clear
 
     looked : careful b s ni na nl ≡ ok (look_at l 0 (arguments s) given.groups na nl ran)
-    unfolding careful ◌>>=◌ if◌then◌else◌
+    unfolding careful ◌>>=◌
     looked = rw (runs, eq-eqb ran.number 0 fine, splits)
 
     accepted_looks : first_misread 0 (arguments s) given.groups ≡ none → Looks b s ni na nl

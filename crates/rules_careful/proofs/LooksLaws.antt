@@ -9,7 +9,7 @@ use native.Mathlib.Omega.{arith}
 use borrow.Author.Tests.{eqb-true, eqb-false}
 use lib.Dec.{eqb}
 use lib.ListN.{length, get_elem?}
-use Rattle.utf8.specs.Utf8.{if◌then◌else◌, well_formed}
+use Rattle.utf8.specs.Utf8.{well_formed}
 use Rattle.rules.specs.Base.{null, same, ◌>>?◌}
 use Rattle.rules.specs.Outcome.{ok, ◌>>=◌}
 use Rattle.rules.specs.Sheet.{sheet_fault, arguments}
@@ -158,7 +158,7 @@ pub misread_letter_lem :
     → is_misread args groups i ≡ true
     → misread_letter (letters_of (read_form b)) args groups i
     ≡ place_code (unknown_in (record { form = read_form b; arguments = args; groups = groups; marks = m; place = i }) y)
-unfolding misread_letter unknown_in ◌>>?◌ if◌then◌else◌
+unfolding misread_letter unknown_in ◌>>?◌
 misread_letter_lem b args groups m i y here e =
     let f = misread_facts args groups i e in
     let item : f.item ≡ y = some-injective f.item y (sym f.here ∙ here) in
@@ -168,7 +168,7 @@ misread_letter_lem b args groups m i y here e =
 -- ---- a name that is not UTF-8
 -- without a `=` all stands before it
 before_all : (s : List ℕ) → behind_equals s ≡ none → before_equals s ≡ s
-unfolding behind_equals before_equals if◌then◌else◌
+unfolding behind_equals before_equals
 before_all [] e = refl
 before_all (b ∷ s) e = go (eqb b equals) refl (before_all s)
   where
@@ -182,7 +182,7 @@ no_parts t n b =
     if_elim (λ (o : Option Parts). o ≡ none → well_formed n ≡ false) (well_formed n) _ none (λ w e. absurd (some≢none e)) (λ w e. w)
 
 bad_long : (s : List ℕ) → same (dash ∷ dash ∷ s) dashes ≡ false → split_long s ≡ none → BadName (dash ∷ dash ∷ s)
-unfolding split_long null if◌then◌else◌
+unfolding split_long null
 bad_long [] other e = absurd (true≢false (sym (same_self dashes) ∙ other))
 bad_long (c ∷ s) other e = go (behind_equals (c ∷ s)) refl
   where
@@ -199,7 +199,7 @@ bad_short b s apart e = go (behind_equals s) refl
     go (some v) h = short_value b s v apart h (no_parts short (b ∷ []) _ (ok_injective (rw (h, split_short, short_body_lem b s v h) at e)))
 
 pub bad_name_lem : (os : List ℕ) → looks_like_options os ≡ true → same os dashes ≡ false → split_os_argument os ≡ ok none → BadName os
-unfolding looks_like_options split_os_argument behind_dash if◌then◌else◌
+unfolding looks_like_options split_os_argument behind_dash
 bad_name_lem [] looks other e = absurd (false≢true looks)
 bad_name_lem (b ∷ []) looks other e = absurd (false≢true looks)
 bad_name_lem (b ∷ c ∷ s) looks other e =

@@ -9,7 +9,7 @@ use native.Mathlib.Omega.{arith}
 use borrow.Author.Tests.{le-ltb, ltb-true, ltb-false, not-true, not-false}
 use lib.Dec.{ltb}
 use lib.ListN.{length, take, get_elem?}
-use Rattle.utf8.specs.Utf8.{if◌then◌else◌, well_formed}
+use Rattle.utf8.specs.Utf8.{well_formed}
 use Rattle.rules.specs.Base.{null, same, ◌>>?◌}
 use Rattle.rules.specs.Outcome.{Outcome, ok, refused, fault, ◌>>=◌}
 use Rattle.rules.specs.Sheet.{arguments}
@@ -69,7 +69,7 @@ module _ (l : Letters) (os : List ℕ) where
       (look_more c (before ++ (x.character ∷ [])) ls) (λ _. option (Short c false os) _ refl)
 
   argument_begins : (c : ℕ) (rest : List ℕ) → Begins os (argument_items os c rest)
-  unfolding argument_items null if◌then◌else◌ is_name
+  unfolding argument_items null is_name
   argument_begins c [] = option (Short c false os) _ refl
   argument_begins c (b ∷ rest) = option (Short c true os) _ refl
 
@@ -100,7 +100,7 @@ module _ (l : Letters) (os : List ℕ) where
   short_begins b s (some v) w = let x = letter_ok b s w in rw (x.2, short_group) (λ _. option (Short x.0 true os) _ refl)
 
   group_begins : same os dashes ≡ false → GroupBegins (split_argument l os)
-  unfolding split_argument parts_group word_group plain if◌then◌else◌ ◌>>=◌
+  unfolding split_argument parts_group word_group plain ◌>>=◌
   group_begins other = parts_cases Given (λ e. rw (e, split_argument, other) (λ _. word)) longs shorts os refl
     where
       Given : Outcome (Option Parts) → Type 0
@@ -126,7 +126,7 @@ word_place :
     → get_elem? args k ≡ some os
     → get_elem? gs k ≡ some (Word os ∷ [])
     → (i : ℕ) × (get_elem? (flatten gs) i ≡ some (Word os)) × (argument_at args gs i ≡ some os) × Behind k i gs
-unfolding argument_at flatten if◌then◌else◌
+unfolding argument_at flatten
 word_place [] gs k os a g = absurd (some≢none (sym a))
 word_place (o ∷ rest) [] k os a g = absurd (some≢none (sym g))
 word_place (o ∷ rest) (is ∷ gs) zero os a g =
@@ -174,7 +174,7 @@ first_or_other :
     → argument_at (o ∷ rest) (is ∷ gs) i ≡ some os
     → get_elem? (is ++ flatten gs) i ≡ some y
     → (o ≡ os) ⊎ ((argument_at rest gs (i - length is) ≡ some os) × (get_elem? (flatten gs) (i - length is) ≡ some y))
-unfolding argument_at if◌then◌else◌
+unfolding argument_at
 first_or_other o rest is gs i os y at here = go (ltb i (length is)) refl
   where
     go :

@@ -1,7 +1,7 @@
 -- A careful run of a table of commands: as the table's run, but an argument that looks like options is not taken for a word, unless it is
 -- the command word.
 use Rattle.std.specs.Prelude.{List, ℕ, eqb}
-use Rattle.utf8.specs.Utf8.{if◌then◌else◌}
+use Rattle.std.specs.Prelude.{if◌then◌else◌}
 use Rattle.rules.specs.Outcome.{Outcome, ok, ◌>>=◌}
 use Rattle.rules.specs.Sheet.{arguments}
 use Rattle.rules.specs.Split.{split_from}

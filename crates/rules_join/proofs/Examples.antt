@@ -1,12 +1,10 @@
 -- What moves of each kind of node behind a form of 3 nodes, 5 names and 7 bytes of area, and what does not.
-use mathlib.Core.Bool.{◌&&◌}
 use mathlib.Core.List.{List, [], ◌∷◌, map}
-use mathlib.Core.Option.{Option, some}
+use mathlib.Core.Option.{some}
 use mathlib.Core.Path.{◌≡◌, refl}
-use Prim.Native.Nat.{ℕ, ◌+◌}
-use Rattle.utf8.specs.Utf8.{if◌then◌else◌}
+use Prim.Native.Nat.{ℕ}
 use Rattle.rules.specs.Value.{Kind, one, optional, yes_no, text, number, same_base, base_number}
-use Rattle.rules.specs.Form.{Node, Name}
+use Rattle.rules.specs.Form.{Node}
 use Rattle.rules.specs.Tree.{same_kind, shape_of, inner_base}
 use Rattle.rules_join.specs.Join.{Moves, move_name, is_text_kind, move_p, move_q, move_r, move_node}
 
@@ -36,7 +34,7 @@ examples =
     ∷ []
 
 pub nodes_told : map (λ x. move_node behind (some x.0) x.1) examples ≡ map (λ x. x.2) examples
-unfolding move_node move_p move_q move_r is_text_kind same_kind shape_of inner_base same_base base_number if◌then◌else◌
+unfolding move_node move_p move_q move_r is_text_kind same_kind shape_of inner_base same_base base_number
 nodes_told = refl
 
 -- a name: where its bytes begin, and not its type and how many there are

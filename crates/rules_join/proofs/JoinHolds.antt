@@ -1,22 +1,21 @@
 -- Every joining of two forms of bytes is answered.
 use mathlib.Core.Bool.{Bool, true, false, ◌&&◌, false≢true}
-use mathlib.Core.List.{List, ◌++◌, map}
+use mathlib.Core.List.{List}
 use mathlib.Core.Logic.{◌⊎◌, inl, inr}
 use mathlib.Core.Option.{Option, none}
 use mathlib.Core.Path.{◌≡◌, refl, sym, ◌∙◌}
 use Prim.Native.Nat.{ℕ, ◌<◌}
 use lib.Dec.{leb}
 use borrow.Author.Tests.{leb-true, leb-false}
-use Rattle.utf8.specs.Utf8.{if◌then◌else◌}
+use Rattle.std.specs.Prelude.{if◌then◌else◌}
 use Rattle.rules.specs.Form.{Form}
-use Rattle.rules.specs.Tree.{kind_of}
-use Rattle.rules.specs.Accept.{Accepted, Checked, accepted, refused_at, check_form, letters_of}
+use Rattle.rules.specs.Accept.{Accepted, Checked, accepted, refused_at, check_form}
 use Rattle.rules.specs.Run.{padded, run}
 use Rattle.rules.specs.Encode.{encode_form}
 use Rattle.rules.specs.Demands.{Bytes}
 use Rattle.rules.proofs.InputFaults.{padded_nil}
-use Rattle.rules_join.specs.Join.{join_forms, letters_of_both, run_two, joined, not_joined, in_limits, join_into, join}
-use Rattle.rules_join.specs.JoinAnswered.{joined_accepted, LimitsKept, Joins, Cleared, Written, JoinAnswered, first_refused, second_refused, too_large, joined_form}
+use Rattle.rules_join.specs.Join.{join_forms, joined, not_joined, in_limits, join_into, join}
+use Rattle.rules_join.specs.JoinAnswered.{LimitsKept, Joins, Cleared, Written, JoinAnswered, first_refused, second_refused, too_large, joined_form}
 use Rattle.rules_join.proofs.RunLaws.{kinds_joined, run_joined}
 use Rattle.rules_join.proofs.LimitLaws.{kept_limits, limits_kept, encode_fits}
 use Rattle.rules_join.proofs.JoinAccepts.{join_accepts, join_letters, join_portable}
@@ -50,7 +49,7 @@ module _ (x y : List ℕ) (n : ℕ) (bytes : Bytes x) (more : Bytes y) where
     too_large_lem h = too_large a b e g refl refl refl h (not_joined_lem n 18 none 0)
 
     into_answered : JoinAnswered x y n (join_into n (join_forms a b))
-    unfolding join_into joined if◌then◌else◌
+    unfolding join_into joined
     into_answered = go (in_limits (join_forms a b)) refl (leb 5928 n) refl
       where
         go :

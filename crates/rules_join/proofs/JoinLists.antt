@@ -10,7 +10,7 @@ use lib.Dec.{leb, eqb}
 use lib.ListN.{length, take, drop, get_elem?, length-append, length-drop, length-map}
 use lib.Seq.{take-append-le, drop-append-le, drop-append-add}
 use borrow.Author.Tests.{le-leb, lt-leb, leb-true, leb-false, eq-eqb, ne_eqb, eqb-true, eqb-false}
-use Rattle.utf8.specs.Utf8.{if◌then◌else◌}
+use Rattle.std.specs.Prelude.{if◌then◌else◌}
 use Rattle.rules.specs.Base.{null, all, occurrences, concat_map, ◌>>?◌, slice}
 use Rattle.rules.specs.Demands.{All}
 use Rattle.rules.proofs.Acceptance.{if_true, both, slice_some}
@@ -57,7 +57,6 @@ module _ {A B : Type 0} (f : A → B) where
       → (t ≡ true → w ≡ Option.map f u)
       → (t ≡ false → y ≡ Option.map f v)
       → (if t then w else y) ≡ Option.map f (if t then u else v)
-  unfolding if◌then◌else◌
   if_map true u v g h = g refl
   if_map false u v g h = h refl
 
@@ -123,7 +122,7 @@ slice_map f i j l =
 
 -- ---- how often a number occurs
 pub occurs_append : (k : ℕ) (l m : List ℕ) → occurrences k (l ++ m) ≡ occurrences k l + occurrences k m
-unfolding occurrences if◌then◌else◌
+unfolding occurrences
 occurs_append k [] m = omega arith
 occurs_append k (i ∷ l) m = let h = occurs_append k l m in go (eqb k i) h
   where
@@ -142,11 +141,11 @@ module _ (n : ℕ) where
   occurs_behind k (i ∷ l) = rw (eqb_behind n k i, occurs_behind k l)
 
   pub occurs_not_behind : (k : ℕ) (l : List ℕ) → k < n → occurrences k (map (λ i. n + i) l) ≡ 0
-  unfolding occurrences if◌then◌else◌
+  unfolding occurrences
   occurs_not_behind k [] h = refl
   occurs_not_behind k (i ∷ l) h = rw (ne_eqb k (n + i) (λ e. omega arith)) (occurs_not_behind k l h)
 
   pub occurs_not_before : (k : ℕ) (l : List ℕ) → All (λ (i : ℕ). i < n) l → n ≤ k → occurrences k l ≡ 0
-  unfolding occurrences if◌then◌else◌
+  unfolding occurrences
   occurs_not_before k [] a h = refl
   occurs_not_before k (i ∷ l) a h = rw (ne_eqb k i (λ e. omega (arith, a.0))) (occurs_not_before k l a.1 h)

@@ -7,13 +7,14 @@ use native.Mathlib.Omega.{arith}
 use lib.Dec.{eqb}
 use lib.ListN.{length}
 use borrow.Author.Tests.{eqb-true}
-use Rattle.utf8.specs.Utf8.{if◌then◌else◌}
+use Rattle.std.specs.Prelude.{if◌then◌else◌}
 use Rattle.rules.specs.Base.{concat_map}
 use Rattle.rules.specs.Form.{Node, Form}
 use Rattle.rules.specs.Tree.{Tree, kind_of, named_of}
 use Rattle.rules.specs.Accept.{Accepted, short_names, letters_for, letters_of}
 use Rattle.rules.specs.Demands.{All}
-use Rattle.rules.proofs.Acceptance.{NameGood, Made, flag_made, argument_made, positional_made, optional_made, many_made, some_made, count_made, last_made, choice_made, fallback_made, guard_made}
+use Rattle.rules.proofs.Acceptance.{NameGood, Made, flag_made, argument_made, positional_made, optional_made, many_made, some_made, count_made, last_made, choice_made, fallback_made}
+use Rattle.rules.proofs.Acceptance.{guard_made}
 use Rattle.rules.proofs.Acceptance.{TreesAt, trees_made, Passed}
 use Rattle.rules.proofs.ConcatLaws.{concat_append}
 use Rattle.rules_join.specs.Join.{Moves, moves_behind, move_node, move_nodes, join_by, join_forms, letters_of_both}
@@ -29,7 +30,7 @@ letters_alike :
     → y.kind ≡ x.kind
     → (x.kind ≡ n → named_of g y ≡ named_of f x)
     → letters_at g n y ≡ letters_at f n x
-unfolding short_names if◌then◌else◌
+unfolding short_names
 letters_alike f g n x y k same = rw (ap (λ (m : ℕ). eqb m n) k) (go (eqb x.kind n) refl)
   where
     go :

@@ -7,7 +7,7 @@ use mathlib.Core.Path.{◌≡◌, refl, sym, ap, ◌∙◌}
 use Prim.Native.Nat.{ℕ, zero, suc, ◌+◌}
 use lib.Dec.{leb, eqb}
 use lib.ListN.{get_elem?, length-map}
-use Rattle.utf8.specs.Utf8.{if◌then◌else◌}
+use Rattle.std.specs.Prelude.{if◌then◌else◌}
 use Rattle.rules.specs.Base.{null, minus, write}
 use Rattle.rules.specs.Outcome.{Spot, Outcome, ok, refused, fault, panic, ◌>>=◌, at, Refusal, refuse, is_missing, can_catch, wrong_input, combine_with}
 use Rattle.rules.specs.Outcome.{args_iter635, remove431, remove433, remove434, short_long125, short_long126, short_long127, parse_flag559, take_argument679, or_else305, or_else307}
@@ -26,7 +26,6 @@ use Rattle.rules_join.proofs.TreeLaws.{kind_moved}
 
 -- what a test chooses, passed through a function
 if_pass : {A B : Type 0} (f : A → B) (b : Bool) (x y : A) → (if b then f x else f y) ≡ f (if b then x else y)
-unfolding if◌then◌else◌
 if_pass f true x y = refl
 if_pass f false x y = refl
 
@@ -216,7 +215,7 @@ module _ (d : Moves) where
   -- 20's entry has the node's moved number
   not_found_moved :
       (unnamed : Spot) (n : ℕ) (m : Named) (s : State) → not_found unnamed (d.nodes + n) m s ≡ move_outcome d (move_value d) (not_found unnamed n m s)
-  unfolding not_found refuse_missing if◌then◌else◌ move_outcome move_refusal move_missing
+  unfolding not_found refuse_missing move_outcome move_refusal move_missing
   not_found_moved unnamed n m s = bind_moved (move_value d) (shown_name m) _ _ (shown_stays m) go
     where
       go : (shown : Bool)
@@ -227,7 +226,7 @@ module _ (d : Moves) where
 
   flag_value_moved :
       (n : ℕ) (m : Named) (w there : Bool) (s : State) → flag_value (d.nodes + n) m w there s ≡ move_outcome d (move_value d) (flag_value n m w there s)
-  unfolding flag_value if◌then◌else◌ move_outcome move_value move_base
+  unfolding flag_value move_outcome move_value move_base
   flag_value_moved n m w true s = refl
   flag_value_moved n m true false s = refl
   flag_value_moved n m false false s = not_found_moved parse_flag559 n m s
@@ -389,7 +388,7 @@ module _ (d : Moves) where
 
   -- ---- choice
   combine_moved : (a b : Refusal) → combine_with (move_refusal d a) (move_refusal d b) ≡ move_refusal d (combine_with a b)
-  unfolding combine_with is_missing can_catch move_refusal if◌then◌else◌
+  unfolding combine_with is_missing can_catch move_refusal
   combine_moved a b = go (is_missing a) (is_missing b) (can_catch a)
     where
       both : Refusal → Refusal → Refusal

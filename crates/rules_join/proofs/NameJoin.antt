@@ -10,7 +10,7 @@ use lib.Dec.{leb}
 use lib.ListN.{length, length-append}
 use lib.Seq.{drop-append-add}
 use borrow.Author.Tests.{le-leb, leb-true, ne_eqb}
-use Rattle.utf8.specs.Utf8.{if◌then◌else◌}
+use Rattle.std.specs.Prelude.{if◌then◌else◌}
 use Rattle.rules.specs.Base.{null, all, concat_map, ◌>>?◌, slice}
 use Rattle.rules.specs.Form.{Node, Name, Form, name_bytes, name_good, portable_name, portable}
 use Rattle.rules.specs.Tree.{names_of, short_of, long_of, Named, named_by, named_of}
@@ -157,7 +157,7 @@ module _ (a b : Accepted) where
       (if_map (map (move_name moves)) (not (null l) && all short l) (some l) none (λ e. refl) (λ e. refl))
 
   names_second : (x : Node) (k : Option Kind) → x.kind ≤ 2 → names_of whole (move_node moves k x) ≡ Option.map (map (move_name moves)) (names_of b.form x)
-  unfolding names_of named_good_lem join_forms join_by moves_behind move_node move_p move_q if◌then◌else◌
+  unfolding names_of named_good_lem join_forms join_by moves_behind move_node move_p move_q
   names_second x k h =
       let first = a.form.names in
       let mv = move_name moves in

@@ -9,7 +9,7 @@ use native.Mathlib.Omega.{arith}
 use lib.Dec.{leb, eqb}
 use lib.ListN.{length, get_elem?, length-append, length-map}
 use borrow.Author.Tests.{lt-leb, eq-eqb, ne_eqb, eqb-true}
-use Rattle.utf8.specs.Utf8.{if◌then◌else◌}
+use Rattle.std.specs.Prelude.{if◌then◌else◌}
 use Rattle.rules.specs.Base.{is_some, ◌>>?◌, contains}
 use Rattle.rules.specs.Value.{yes_no, text, number, same_base, base_number, Kind, one, optional, list, list_of_optional, optional_list, name, BaseValue, is_yes, is_text, is_number}
 use Rattle.rules.specs.Form.{Node, Form}
@@ -91,7 +91,7 @@ module _ (a b : Accepted) where
     Alike n = tree_by n whole below x ≡ tree_by n a.form below x
 
     made_first : (t : Tree) → Made a.form below (length below) x t → Alike x.kind
-    unfolding tree_by if◌then◌else◌
+    unfolding tree_by
     made_first t (flag_made l z r u n) = subst Alike (sym z) (leaf_alike a.form whole (length below) x (named_first a b good x l n)).0
     made_first t (argument_made l z r u n) = subst Alike (sym z) (leaf_alike a.form whole (length below) x (named_first a b good x l n)).1
     made_first t (positional_made z p r u) = subst Alike (sym z) refl
@@ -113,23 +113,23 @@ module _ (a b : Accepted) where
   mv = move_tree moves
 
   p_child : (x : Node) → 4 ≤ x.kind → move_p moves x ≡ moves.nodes + x.p
-  unfolding move_p if◌then◌else◌
+  unfolding move_p
   p_child x h = rw (lt-leb x.kind 2 (omega arith), ne_eqb x.kind 3 (λ e. omega arith))
 
   p_kept : (x : Node) → x.kind ≡ 3 → move_p moves x ≡ x.p
-  unfolding move_p if◌then◌else◌
+  unfolding move_p
   p_kept x e = rw (lt-leb x.kind 2 (omega arith), eq-eqb x.kind 3 e)
 
   q_kept : (x : Node) → (x.kind ≡ 9 → ⊥) → move_q moves x ≡ x.q
-  unfolding move_q if◌then◌else◌
+  unfolding move_q
   q_kept x h = rw (ne_eqb x.kind 9 h)
 
   q_child : (x : Node) → x.kind ≡ 9 → move_q moves x ≡ moves.nodes + x.q
-  unfolding move_q if◌then◌else◌
+  unfolding move_q
   q_child x e = rw (eq-eqb x.kind 9 e)
 
   r_kept : (k : Option Kind) (x : Node) → (x.kind ≡ 10 → ⊥) → move_r moves k x ≡ x.r
-  unfolding move_r if◌then◌else◌
+  unfolding move_r
   r_kept k x h = rw (ne_eqb x.kind 10 h)
 
   r_by : (k : Option Kind) (x : Node) (t : Bool) → x.kind ≡ 10 → is_text_kind k ≡ t → move_r moves k x ≡ (if t then moves.names + x.r else x.r)
@@ -158,7 +158,7 @@ module _ (a b : Accepted) where
     moved = move_node moves k x
 
     text_second : is_text_kind k ≡ true → fallback_value whole moved (one text) ≡ Option.map (move_base moves) (fallback_value b.form x (one text))
-    unfolding fallback_value move_node move_name move_base join_forms join_by moves_behind if◌then◌else◌
+    unfolding fallback_value move_node move_name move_base join_forms join_by moves_behind
     text_second h =
         let names = b.form.names in
         rw (r_by k x true z h, lookup_behind a.form.names (map (move_name moves) names) x.r, lookup_map (move_name moves) names x.r)
@@ -166,7 +166,7 @@ module _ (a b : Accepted) where
         (λ m e. if_map (move_base moves) (eqb m.type 2 && zeros (x.lo ∷ x.hi ∷ [])) (some (is_text (name x.r))) none (λ e. refl) (λ e. refl)))
 
     value_second : (κ : Kind) → is_text_kind k ≡ is_text_kind (some κ) → fallback_value whole moved κ ≡ Option.map (move_base moves) (fallback_value b.form x κ)
-    unfolding fallback_value move_node move_base is_text_kind same_kind shape_of inner_base same_base base_number if◌then◌else◌
+    unfolding fallback_value move_node move_base is_text_kind same_kind shape_of inner_base same_base base_number
     value_second (one yes_no) h =
         rw (r_by k x false z h)
         (if_map (move_base moves) (leb x.lo 1 && zeros (x.r ∷ x.hi ∷ [])) (some (is_yes (eqb x.lo 1))) none (λ e. refl) (λ e. refl))

@@ -8,7 +8,7 @@ use Prim.Native.Nat.{ℕ, ◌+◌}
 use native.Mathlib.Nat.{zero-add}
 use native.Mathlib.Omega.{arith}
 use lib.ListN.{length, get_elem?, length-append}
-use Rattle.utf8.specs.Utf8.{if◌then◌else◌}
+use Rattle.std.specs.Prelude.{if◌then◌else◌}
 use Rattle.rules.specs.Base.{is_some, ◌>>?◌}
 use Rattle.rules.specs.Value.{Kind, one, BaseValue, base_of}
 use Rattle.rules.specs.Form.{Node, Form}
@@ -23,7 +23,7 @@ use Rattle.rules_join.proofs.TreeJoin.{tree_by, tree_by_lem, tree_first, Agrees,
 
 -- ---- a fallback has its child's kind
 fallback_kind : (v : BaseValue) (c : Tree) → is_some (kind_of (Fallback v c)) ≡ true → kind_of (Fallback v c) ≡ kind_of c
-unfolding kind_of ◌>>?◌ is_some base_kind if◌then◌else◌
+unfolding kind_of ◌>>?◌ is_some base_kind
 fallback_kind v c e = go (kind_of c) e
   where
     test : (κ : Kind) (t : Bool) → is_some (if t then some κ else none) ≡ true → (if t then some κ else none) ≡ some κ
@@ -109,7 +109,7 @@ module _ (a b : Accepted) where
   module _ (above : List Tree) (long : length above ≡ moves.nodes) where
     -- the kind of a node is that of its own tree
     tree_moved : (below : List Tree) (x : Node) (t : Tree) → tree_of b.form below x ≡ some t → tree_of whole (above ++ map mv below) (move_node moves (kind_of t) x) ≡ some (mv t)
-    unfolding tree_by if◌then◌else◌
+    unfolding tree_by
     tree_moved below x t e =
         tree_second a b above below long x (kind_of t) agrees ∙ ap (Option.map mv) e
       where

@@ -9,7 +9,6 @@ use native.Mathlib.Omega.{arith}
 use lib.Dec.{leb, ltb, eqb}
 use lib.ListN.{length, length-append}
 use borrow.Author.Tests.{ltb-true, ltb-false, lt-leb, leb-false, eq-eqb, ne_eqb, eqb-true}
-use Rattle.utf8.specs.Utf8.{if◌then◌else◌}
 use Rattle.rules.specs.Base.{occurrences, numbers, concat_map, first_fault}
 use Rattle.rules.specs.Value.{Kind}
 use Rattle.rules.specs.Form.{Node, Form}
@@ -25,7 +24,7 @@ use Rattle.rules_join.proofs.JoinLists.{map-append, occurs_append, occurs_behind
 -- ---- the children of moved nodes
 module _ (d : Moves) where
   children_moved : (k : Option Kind) (x : Node) → children_of (move_node d k x) ≡ map (λ i. d.nodes + i) (children_of x)
-  unfolding children_of move_node move_p move_q if◌then◌else◌
+  unfolding children_of move_node move_p move_q
   children_moved k x = go (leb x.kind 3) refl (eqb x.kind 9) refl
     where
       go :

@@ -2,7 +2,7 @@
 -- run of both on one line.
 use Rattle.std.specs.Prelude.{Bool, false, ◌&&◌, List, [], ◌∷◌, ◌++◌, map, ℕ, ◌+◌, leb, eqb, length}
 use Rattle.std.proofs.Math.Option.{Option, some, none}
-use Rattle.utf8.specs.Utf8.{if◌then◌else◌}
+use Rattle.std.specs.Prelude.{if◌then◌else◌}
 use Rattle.rules.specs.Outcome.{Outcome, ok, refused, fault, ◌>>=◌, MissingItem, Refusal}
 use Rattle.rules.specs.Value.{Kind, one, text, item, name, BaseValue, is_yes, is_text, is_number, Value, base, absent, present, nil, cons}
 use Rattle.rules.specs.Sheet.{arguments}

@@ -6,12 +6,13 @@ use mathlib.Core.Path.{◌≡◌, refl, ◌∙◌}
 use Prim.Native.Nat.{ℕ, suc}
 use native.Mathlib.Omega.{arith}
 use lib.ListN.{length}
-use Rattle.utf8.specs.Utf8.{if◌then◌else◌}
+use Rattle.std.specs.Prelude.{if◌then◌else◌}
 use Rattle.rules.specs.Outcome.{ok, ◌>>=◌}
 use Rattle.rules.specs.Tree.{Named}
 use Rattle.rules.specs.Split.{Item}
 use Rattle.rules.specs.State.{State, Found, parsed, find, first, get, remove, with_current}
-use Rattle.rules.specs.Take.{Took, took, Taken, Operand, matches_arg, take_flag, value_text, take_value, take_arg, is_operand, operand, take_positional_word, is_command, take_command, take_cmd}
+use Rattle.rules.specs.Take.{Took, took, Taken, Operand, matches_arg, take_flag, value_text, take_value, take_arg, is_operand, operand, take_positional_word, is_command, take_command}
+use Rattle.rules.specs.Take.{take_cmd}
 use Rattle.rules.specs.Calls.{operand_or20}
 use Rattle.rules.specs.Sound.{Good}
 use Rattle.rules.proofs.StepLaws.{Free, free_below_lem, Finds, find_good, removed, removed_good, removed_other, remove_free, get_free, current_good_lem}
@@ -112,7 +113,7 @@ module _ (k : ℕ) (told : parsed k ≡ true) (is : List Item) (s : State) (g : 
           rw (e, r) (record { mark = k; told = told; places = i ∷ []; written = one i h.free.here; more = refl })
 
   pub cmd_uses : (word : List ℕ) → Leaves (Uses CmdPlaces s) (take_cmd k is word s)
-  unfolding take_cmd take_command is_command first took with_current ◌>>=◌ if◌then◌else◌
+  unfolding take_cmd take_command is_command first took with_current ◌>>=◌
   cmd_uses word = let f = find_good is (λ _. true) s g in go f.0 f.1 f.2
     where
       not_taken : Uses CmdPlaces s (record { answer = false; state = with_current none s })

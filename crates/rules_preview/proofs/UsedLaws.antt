@@ -8,7 +8,7 @@ use borrow.Author.Tests.{eq-eqb, ne_eqb, eqb-true, eqb-false}
 use lib.Dec.{eqb}
 use lib.ListN.{length, get_or, set, replicate, length-set}
 use lib.Seq.{get_or-set_other}
-use Rattle.utf8.specs.Utf8.{if◌then◌else◌}
+use Rattle.std.specs.Prelude.{if◌then◌else◌}
 use Rattle.rules.specs.Base.{contains, all}
 use Rattle.rules.specs.Tree.{zeros}
 use Rattle.rules.specs.State.{marker_mark, parsed, present, present_at}
@@ -24,7 +24,7 @@ from_least j k [] us h = tt
 from_least j k (m ∷ ms) [] h = tt
 from_least j k (m ∷ ms) (u ∷ us) h =
     let rest = from_least j (suc k) ms us (omega arith) in
-    if_elim (All (λ i. j ≤ i)) _ _ _ (λ _. (h, rest)) (λ _. rest)
+    if_elim (All (λ i. j ≤ i)) _ (k ∷ used_from (suc k) ms us) (used_from (suc k) ms us) (λ _. (h, rest)) (λ _. rest)
 
 from_rising : (k : ℕ) (ms us : List ℕ) → Rising (used_from k ms us)
 unfolding used_from
@@ -32,7 +32,7 @@ from_rising k [] us = tt
 from_rising k (m ∷ ms) [] = tt
 from_rising k (m ∷ ms) (u ∷ us) =
     let rest = from_rising (suc k) ms us in
-    if_elim Rising _ _ _ (λ _. (from_least (suc k) (suc k) ms us (omega arith), rest)) (λ _. rest)
+    if_elim Rising _ (k ∷ used_from (suc k) ms us) (used_from (suc k) ms us) (λ _. (from_least (suc k) (suc k) ms us (omega arith), rest)) (λ _. rest)
 
 pub between_rising : (ms us : List ℕ) → Rising (used_between ms us)
 unfolding used_between
@@ -45,12 +45,12 @@ below_none j [] h = refl
 below_none j (i ∷ l) h = rw (ne_eqb i j (λ e. omega (arith, h.0)), below_none j l h.1)
 
 from_here : (b : Bool) (k : ℕ) (l : List ℕ) → contains l k ≡ false → contains (if b then k ∷ l else l) k ≡ b
-unfolding contains if◌then◌else◌
+unfolding contains
 from_here true k l h = rw (eq-eqb k k refl)
 from_here false k l h = h
 
 from_later : (b : Bool) (k i : ℕ) (l : List ℕ) → contains (if b then k ∷ l else l) (k + suc i) ≡ contains l (k + suc i)
-unfolding contains if◌then◌else◌
+unfolding contains
 from_later true k i l = rw (ne_eqb k (k + suc i) (λ e. omega arith))
 from_later false k i l = refl
 
@@ -83,7 +83,7 @@ not_both m = go (parsed m)
     go false = refl
 
 same_none : (k : ℕ) (ms : List ℕ) → used_from k ms ms ≡ []
-unfolding used_from if◌then◌else◌
+unfolding used_from
 same_none k [] = refl
 same_none k (m ∷ ms) = rw (not_both m) (same_none (suc k) ms)
 
@@ -94,14 +94,14 @@ between_same ms = same_none 0 ms
 -- ---- marks of which a mark w was written at a place that is present, or at two
 module _ (w : ℕ) (told : parsed w ≡ true) where
   one_used : (k : ℕ) (ms : List ℕ) (i : ℕ) → present_at ms i ≡ true → used_from k ms (set ms i w) ≡ (k + i) ∷ []
-  unfolding used_from present_at if◌then◌else◌
+  unfolding used_from present_at
   one_used k [] i p = absurd (false≢true p)
   one_used k (m ∷ ms) zero p = let z : k + 0 ≡ k = omega arith in rw (p, told, same_none (suc k) ms, z)
   one_used k (m ∷ ms) (suc i) p = let z : k + suc i ≡ suc k + i = omega arith in rw (not_both m, z) (one_used (suc k) ms i p)
 
   two_used : (k : ℕ) (ms : List ℕ) (i : ℕ) → present_at ms i ≡ true → present_at ms (suc i) ≡ true
       → used_from k ms (set (set ms i w) (suc i) w) ≡ (k + i) ∷ (k + suc i) ∷ []
-  unfolding used_from present_at if◌then◌else◌
+  unfolding used_from present_at
   two_used k [] i p q = absurd (false≢true p)
   two_used k (m ∷ ms) zero p q =
       let z : k + 0 ≡ k = omega arith in
@@ -118,7 +118,7 @@ unfolding parsed marker_mark
 zero_unused = refl
 
 zeros_none : (k : ℕ) (ms : List ℕ) (n : ℕ) → used_from k ms (replicate n 0) ≡ []
-unfolding used_from if◌then◌else◌
+unfolding used_from
 zeros_none k [] n = refl
 zeros_none k (m ∷ ms) zero = refl
 zeros_none k (m ∷ ms) (suc n) = rw (zero_unused, and-false (present m)) (zeros_none (suc k) ms n)

@@ -1,7 +1,7 @@
 -- Request seven: what a take would do. The answer of the take, the places that it would use, and the state that would result.
 use Rattle.std.specs.Prelude.{Bool, ◌&&◌, List, [], ◌∷◌, ℕ, suc}
 use Rattle.std.proofs.Math.Option.{Option}
-use Rattle.utf8.specs.Utf8.{if◌then◌else◌}
+use Rattle.std.specs.Prelude.{if◌then◌else◌}
 use Rattle.rules.specs.Outcome.{Outcome, ok, ◌>>=◌}
 use Rattle.rules.specs.State.{parsed, present}
 use Rattle.rules.specs.Take.{Taken, Operand}

@@ -9,7 +9,7 @@ use native.Mathlib.Omega.{arith}
 use lib.Dec.{eqb, ltb}
 use lib.ListN.{length, replicate, length-replicate}
 use borrow.Author.Tests.{ltb-true, ltb-false, lt-ltb, le-ltb, eqb-true}
-use Rattle.utf8.specs.Utf8.{if◌then◌else◌}
+use Rattle.std.specs.Prelude.{if◌then◌else◌}
 use Rattle.rules.specs.Demands.{All}
 use Rattle.rules_short.specs.Short.{count_up, lex_less}
 use Rattle.rules_short.specs.ShortAnswered.{sum_below}
@@ -22,7 +22,7 @@ abbrev pub Highest : ℕ → List ℕ → Type 0
 Highest base ds = All (λ (d : ℕ). base ≤ suc d) ds
 
 pub count_highest : (base : ℕ) (ds : List ℕ) → Highest base ds → count_up base ds ≡ none
-unfolding count_up if◌then◌else◌
+unfolding count_up
 count_highest base [] h = refl
 count_highest base (d ∷ ds) h = rw (count_highest base ds h.1, le-ltb (suc d) base h.0)
 
@@ -32,7 +32,7 @@ pub count_at :
     → suc d < base
     → Highest base ds
     → count_up base (front ++ d ∷ ds) ≡ some (front ++ suc d ∷ replicate (length ds) 0)
-unfolding count_up if◌then◌else◌
+unfolding count_up
 count_at base [] d ds l h = rw (count_highest base ds h, lt-ltb (suc d) base l)
 count_at base (x ∷ front) d ds l h = rw (count_at base front d ds l h)
 
@@ -106,7 +106,7 @@ module _ (W : ℕ → ℕ) where
     CountsTo ds none = rank ds + weight ds ≡ full (length ds)
 
     pub counts : (ds : List ℕ) → Below base ds → CountsTo ds (count_up base ds)
-    unfolding count_up rank weight full if◌then◌else◌
+    unfolding count_up rank weight full
     counts [] h = omega (arith, pow-zero (sum_below W base))
     counts (d ∷ ds) h = go (count_up base ds) (counts ds h.1) (ltb (suc d) base) refl
       where
@@ -146,7 +146,7 @@ module _ (W : ℕ → ℕ) where
         → length ds ≡ length es
         → lex_less ds es ≡ true
         → rank ds + weight ds ≤ rank es
-    unfolding lex_less rank weight if◌then◌else◌
+    unfolding lex_less rank weight
     rank_order [] [] p q l e = absurd (false≢true e)
     rank_order [] (x ∷ es) p q l e = absurd (omega arith)
     rank_order (d ∷ ds) [] p q l e = absurd (omega arith)

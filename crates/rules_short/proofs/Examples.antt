@@ -5,7 +5,6 @@ use mathlib.Core.Option.{Option, some, none}
 use mathlib.Core.Path.{◌≡◌, refl}
 use Prim.Native.Nat.{ℕ}
 use lib.ListN.{replicate}
-use Rattle.utf8.specs.Utf8.{if◌then◌else◌}
 use Rattle.rules.specs.Base.{all, contains}
 use Rattle.rules.specs.Accept.{index_of}
 use Rattle.rules_short.specs.Short.{argument_legal, arguments_legal, lengths, places, order_key, lex_less, comes_before}
@@ -42,7 +41,7 @@ pairs =
     ∷ []
 
 pub order_told : map (λ x. comes_before alphabet x.0 x.1) pairs ≡ replicate 4 true
-unfolding comes_before order_key lex_less lengths places flatten index_of if◌then◌else◌
+unfolding comes_before order_key lex_less lengths places flatten index_of
 order_told = refl
 
 abbrev examples : List (List (List ℕ) × Option (List (List ℕ)))
@@ -60,5 +59,5 @@ examples =
     ∷ []
 
 pub steps_told : map (λ x. next_arguments alphabet x.0) examples ≡ map (λ x. x.1) examples
-unfolding next_arguments count_up lengths places parted letter_at flatten index_of if◌then◌else◌
+unfolding next_arguments count_up lengths places parted letter_at flatten index_of
 steps_told = refl

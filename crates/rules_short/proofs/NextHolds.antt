@@ -10,7 +10,7 @@ use native.Mathlib.Omega.{arith}
 use lib.Dec.{ltb, lit<}
 use lib.ListN.{length}
 use borrow.Author.Tests.{ltb-true, ltb-false}
-use Rattle.utf8.specs.Utf8.{if◌then◌else◌}
+use Rattle.std.specs.Prelude.{if◌then◌else◌}
 use Rattle.rules.specs.Sheet.{arguments}
 use Rattle.rules.specs.Encode.{encode_sheet}
 use Rattle.rules.specs.Run.{padded}
@@ -158,7 +158,7 @@ module _ (al s : List ℕ) (n : ℕ) where
     }
 
   pub next_answered : NextAnswered al s n (next_sheet al s n)
-  unfolding next_sheet if◌then◌else◌
+  unfolding next_sheet
   next_answered = go (alphabet_good al) refl (sheet_legal al s) refl (ltb n 22) refl (next_arguments al (arguments s)) refl
     where
       go :

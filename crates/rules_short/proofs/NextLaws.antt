@@ -8,7 +8,7 @@ use native.Mathlib.Omega.{arith}
 use lib.Dec.{ltb}
 use lib.ListN.{length, replicate, length-map, length-replicate}
 use borrow.Author.Tests.{ltb-true, ltb-false, lt-ltb, le-ltb}
-use Rattle.utf8.specs.Utf8.{if◌then◌else◌}
+use Rattle.std.specs.Prelude.{if◌then◌else◌}
 use Rattle.rules.specs.Accept.{index_of}
 use Rattle.rules.specs.Demands.{All}
 use Rattle.rules_short.specs.Short.{lengths, places, count_up, parted, letter_at, next_arguments}
@@ -29,7 +29,7 @@ all_same P (suc n) x p = (p, all_same P n x p)
 
 -- one digit below 4
 count_up_lem : (n : ℕ) (b : Bool) → ltb n 3 ≡ b → count_up 4 (n ∷ []) ≡ (if b then some (suc n ∷ []) else none)
-unfolding count_up if◌then◌else◌
+unfolding count_up
 count_up_lem n true e = rw (lt-ltb (suc n) 4 (omega (arith, ltb-true n 3 e)))
 count_up_lem n false e = rw (le-ltb (suc n) 4 (omega (arith, ltb-false n 3 e)))
 
@@ -165,7 +165,7 @@ module _ (al : List ℕ) (made : AlphabetMade al) where
         )
 
     pub next_ranked : StepsTo args (next_arguments al args)
-    unfolding next_arguments if◌then◌else◌ alike
+    unfolding next_arguments alike
     next_ranked =
         go (count_up a (places al args)) (counts (λ _. 1) a (places al args) (places_below al args h))
         (count_up 5 (lengths args)) (counts (λ k. a ^ k) 5 (lengths args) h.sizes)

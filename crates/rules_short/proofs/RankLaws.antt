@@ -11,7 +11,7 @@ use lib.ListN.{length, take, drop, length-append, length-map}
 use lib.Pow.{pow-add}
 use lib.Seq.{take_at, drop_at}
 use borrow.Author.Tests.{ltb-false, lt-ltb, eqb-true, eqb-false}
-use Rattle.utf8.specs.Utf8.{if◌then◌else◌}
+use Rattle.std.specs.Prelude.{if◌then◌else◌}
 use Rattle.rules.specs.Accept.{index_of}
 use Rattle.rules_short.specs.Short.{lengths, places, order_key, lex_less, comes_before}
 use Rattle.rules_short.specs.ShortAnswered.{sum_below, argument_total, sheet_total}
@@ -21,7 +21,7 @@ use Rattle.rules_short.proofs.ShortLaws.{places_of_lem, InDigits, told_by_digits
 -- ---- the order of lists of numbers
 -- one of the three
 pub lex_cases : (xs ys : List ℕ) → (lex_less xs ys ≡ true) ⊎ ((xs ≡ ys) ⊎ (lex_less ys xs ≡ true))
-unfolding lex_less if◌then◌else◌
+unfolding lex_less
 lex_cases [] [] = inr (inl refl)
 lex_cases [] (y ∷ ys) = inl refl
 lex_cases (x ∷ xs) [] = inr (inr refl)
@@ -52,7 +52,7 @@ pub lex_split :
     → length xs ≡ length ys
     → lex_less (xs ++ us) (ys ++ vs) ≡ true
     → (lex_less xs ys ≡ true) ⊎ ((xs ≡ ys) × (lex_less us vs ≡ true))
-unfolding lex_less if◌then◌else◌
+unfolding lex_less
 lex_split [] [] us vs l e = inr (refl, e)
 lex_split [] (y ∷ ys) us vs l e = absurd (omega arith)
 lex_split (x ∷ xs) [] us vs l e = absurd (omega arith)

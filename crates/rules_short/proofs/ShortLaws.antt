@@ -9,7 +9,7 @@ use lib.ListN.{length, take, drop, get_or, replicate, length-append, length-take
 use lib.ListN.{take-append-drop, replicate-append-replicate}
 use lib.Seq.{take-append_seam, drop-append_seam, take-append-le, drop-append-le, take_at, drop_at}
 use borrow.Author.Tests.{eqb-true, eqb-false}
-use Rattle.utf8.specs.Utf8.{if◌then◌else◌}
+use Rattle.std.specs.Prelude.{if◌then◌else◌}
 use Rattle.rules.specs.Accept.{index_of}
 use Rattle.rules.specs.Demands.{All}
 use Rattle.rules.proofs.Acceptance.{All-append, All-split}
@@ -23,7 +23,7 @@ letter_behind x al b zero n h e = absurd (n (sym e))
 letter_behind x al b (suc k) n h e = record { place = k; below = omega arith; here = e }
 
 pub place_of : (al : List ℕ) (b : ℕ) → Letter al b → (index_of b al < length al) × (letter_at al (index_of b al) ≡ b)
-unfolding index_of letter_at if◌then◌else◌
+unfolding index_of letter_at
 place_of [] b l = absurd (omega (arith, l.below))
 place_of (x ∷ al) b l = go (eqb b x) refl (place_of al b)
   where

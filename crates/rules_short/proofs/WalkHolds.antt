@@ -9,7 +9,6 @@ use lib.Dec.{ltb}
 use lib.ListN.{length, replicate}
 use lib.Seq.{take-append_seam}
 use borrow.Author.Tests.{ltb-true, ltb-false, le-ltb}
-use Rattle.utf8.specs.Utf8.{if◌then◌else◌}
 use Rattle.rules.specs.Base.{◌>>?◌, concat_map}
 use Rattle.rules.specs.Sheet.{arguments}
 use Rattle.rules.specs.Encode.{bytes_of, words_of, offsets_from, encode_sheet}
@@ -36,7 +35,7 @@ encoded (some xs) = some (encode_sheet xs)
 module _ (al : List ℕ) (n : ℕ) (made : AlphabetMade al) (room : 22 ≤ n) where
   -- the sheet that the call hands out is that of the next arguments
   handed : (args : List (List ℕ)) → InDigits al args → sheet_of (next_sheet al (encode_sheet args) n) ≡ encoded (next_arguments al args)
-  unfolding sheet_of next_sheet written padded if◌then◌else◌
+  unfolding sheet_of next_sheet written padded
   handed args h =
       let short = digits_short al args h in
       rw (

@@ -10,7 +10,6 @@ use lib.ListN.{length, take, drop, get_elem?, replicate, length-append, length-d
 use lib.Seq.{drop-append-add, drop_at, take_at, take-append_seam, length-take-le}
 use borrow.Author.Tests.{le-leb, eqb-true}
 use Rattle.rules.specs.Base.{concat_map, ◌>>?◌}
-use Rattle.utf8.specs.Utf8.{if◌then◌else◌}
 use Rattle.rules.specs.Outcome.{ok}
 use Rattle.rules.specs.Sheet.{sheet_area, sheet_fault, arguments}
 use Rattle.rules.specs.Accept.{Letters}
@@ -32,14 +31,14 @@ use Rattle.run.proofs.Within.{Suffix, Within, AllWithin, bind_ok, splits_in}
 
 -- ---- a part of the area
 part_back : (pre t post : List ℕ) → part_in (pre ++ (t ++ post)) (length pre) (length t) ≡ some t
-unfolding part_in if◌then◌else◌
+unfolding part_in
 part_back pre t post =
     let a = length-append pre (t ++ post) in
     let b = length-append t post in
     rw (le-leb (length pre + length t) (length (pre ++ (t ++ post))) (omega arith), drop_at pre (t ++ post) (length pre) refl, take-append_seam t post)
 
 part_nothing : (area : List ℕ) → part_in area 0 0 ≡ some []
-unfolding part_in if◌then◌else◌
+unfolding part_in
 part_nothing area = rw (le-leb 0 (length area) (omega arith))
 
 -- an empty part has offset 0
@@ -48,7 +47,7 @@ part_of_back :
     → length t ≡ n
     → part_in area o n ≡ some t
     → part_in area (part_of o n).offset (part_of o n).length ≡ some t
-unfolding part_of if◌then◌else◌
+unfolding part_of
 part_of_back area o n t l e = go (eqb n 0) refl
   where
     empty : (t : List ℕ) → length t ≡ 0 → [] ≡ t
@@ -171,7 +170,7 @@ record Splits (ls : Letters) (s : List ℕ) (l : Line) : Type 0 where
   records : l.records ≡ records_from 0 (arguments s) whole.groups
 
 line_splits : (ls : Letters) (s : List ℕ) (l : Line) → split_with ls s ≡ ok l → l.refusal ≡ none → Splits ls s l
-unfolding split_with line_of too_many if◌then◌else◌
+unfolding split_with line_of too_many
 line_splits ls s l e z =
     let (x, p, q) = bind_ok (split_from ls 0 (arguments s)) (line_of (arguments s)) e in
     go x p (ltb 256 (length (items_of x))) refl q

@@ -5,8 +5,8 @@ use mathlib.Core.Option.{Option, some, none, some-injective, none-ne-some}
 use mathlib.Core.Path.{◌≡◌, refl, sym, ap, ◌∙◌, subst}
 use Prim.Native.Nat.{ℕ, ◌+◌, ◌-◌, ◌≤◌, ◌<◌}
 use native.Mathlib.Omega.{arith}
-use lib.ListN.{length, get_or, get_elem?, replicate, length-replicate}
-use lib.Seq.{sets, length-sets}
+use lib.ListN.{length, get_or, get_elem?, replicate}
+use lib.Seq.{sets}
 use Rattle.rules.specs.Outcome.{Outcome, ok, refused, fault, ◌>>=◌, MissingItem, list_words, Refusal}
 use Rattle.rules.specs.Value.{Value}
 use Rattle.rules.specs.Codes.{place_code, check_code, place_of}
@@ -48,7 +48,7 @@ use Rattle.run_fields.proofs.Lacked.{left_items, none_missing, refused_inside, r
 use Rattle.run_fields.specs.declared.Reached.{Reached}
 use Rattle.run.specs.Runner.{Ended, run_answer, ended, answer_of, CheckedInput, AfterSplit, LineFault, sheet, items, answers, list, LineTested, InputTested, ItemsBegin, RunsListed}
 use Rattle.run.proofs.States.{zero_at}
-use Rattle.run.proofs.Begun.{LineBegins, LineRefused, line_refused, state_is, line_begins}
+use Rattle.run.proofs.Begun.{LineBegins, line_refused, state_is, line_begins}
 
 -- ---- slices
 nothing_padded : (n : ℕ) → padded n [] ≡ replicate n 0

@@ -1,4 +1,5 @@
 -- Every item lies in its argument: a text is the end of it, a long name stands behind the two dashes.
+use Rattle.std.specs.Prelude.{if◌then◌else◌}
 use mathlib.Core.Bool.{Bool, true, false}
 use mathlib.Core.List.{List, [], ◌∷◌, ◌++◌}
 use mathlib.Core.Option.{Option, some, none, some-injective, none-ne-some}
@@ -9,7 +10,7 @@ use lib.Dec.{leb, eqb}
 use borrow.Author.Tests.{leb-true}
 use lib.ListN.{length, take, drop, length-drop}
 use lib.Seq.{drop-drop, drop-length, take-length}
-use Rattle.utf8.specs.Utf8.{if◌then◌else◌, decode, well_formed}
+use Rattle.utf8.specs.Utf8.{decode, well_formed}
 use Rattle.utf8.specs.declared.Decoded.{Decoded}
 use Rattle.utf8.specs.declared.Decoded.TheVariants.{Char, Bad}
 use Rattle.rules.specs.Base.{null, same, contains, slice_from}
@@ -67,7 +68,7 @@ behind_suffix (b ∷ s) v e =
     e
 
 before_prefix : (s : List ℕ) → (k : ℕ) × (k ≤ length s) × (take k s ≡ before_equals s)
-unfolding before_equals if◌then◌else◌
+unfolding before_equals
 before_prefix [] = (0, omega arith, refl)
 before_prefix (b ∷ s) = go (eqb b equals) refl (before_prefix s)
   where
@@ -104,7 +105,7 @@ long_in a b s x e = go (behind_equals s) refl
         parts_in (a ∷ b ∷ s) (before_equals s) long (some v) x ((k, omega arith, q), (suc (suc j), omega arith, r)) (rw (h, split_long) at e)
 
 short_in : (a b : ℕ) (s : List ℕ) (x : Parts) → split_short b s ≡ ok (some x) → NameIn (a ∷ b ∷ s) x.type x.body x.name
-unfolding split_short if◌then◌else◌ ◌>>=◌
+unfolding split_short ◌>>=◌
 short_in a b s x e = go (behind_equals s) refl
   where
     value : (v : List ℕ) (t : Bool) → Suffix v s → Suffix (if t then v else s) (a ∷ b ∷ s)
@@ -138,7 +139,7 @@ bind_ok (refused r) f e = absurd (let z : ◌≡◌ {A = ℕ} 0 1 = cc in omega 
 bind_ok (fault r) f e = absurd (let z : ◌≡◌ {A = ℕ} 0 1 = cc in omega arith)
 
 slice_suffix : (n : ℕ) (l : List ℕ) (spot : Spot) (t : List ℕ) → at spot (slice_from n l) ≡ ok t → Suffix t l
-unfolding slice_from if◌then◌else◌ at
+unfolding slice_from at
 slice_suffix n l spot t e = go (leb n (length l)) refl e
   where
     go : (b : Bool) → leb n (length l) ≡ b → at spot (if b then some (drop n l) else none) ≡ ok t → Suffix t l
@@ -275,7 +276,7 @@ joined_in :
     → All (Within os) is
     → ((y : Split) → others ≡ ok y → AllWithin rest y.groups)
     → AllWithin (os ∷ rest) x.groups
-unfolding joined if◌then◌else◌
+unfolding joined
 joined_in k os rest is (some i) m others x e h later = subst (λ (y : Split). AllWithin (os ∷ rest) y.groups) (ok_injective e) (h, tt)
 joined_in k os rest is none true others x e h later = subst (λ (y : Split). AllWithin (os ∷ rest) y.groups) (ok_injective e) (h, positionals_in rest)
 joined_in k os rest is none false others x e h later =

@@ -1,5 +1,6 @@
 // The run: from a form and a sheet to values or a refusal. It asks nothing of its input.
 #![tactic(auto)]
+
 ghost use Rattle.std.specs.Prelude.{◌≡◌, ◌≤◌, length, replicate};
 ghost use Rattle.std.proofs.Math.Option.{some};
 ghost use Rattle.rules.specs.Outcome.{ok};

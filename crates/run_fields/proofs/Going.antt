@@ -10,7 +10,7 @@ use native.Mathlib.Omega.{arith}
 use lib.Dec.{eqb}
 use lib.ListN.{length, get_or, set, drop, get_elem?, replicate, length-append, drop_of_length-le}
 use lib.Seq.{sets, length-sets, get_or-set_other}
-use Rattle.utf8.specs.Utf8.{if◌then◌else◌}
+use Rattle.std.specs.Prelude.{if◌then◌else◌}
 use Rattle.rules.specs.Outcome.{Outcome, ok, refused, fault, Refusal, is_missing}
 use Rattle.rules.specs.Value.{Value, words, answer_words}
 use Rattle.rules.specs.Codes.{place_code}
@@ -32,12 +32,11 @@ use Rattle.rules.proofs.Places.{drop_below}
 use Rattle.rules.proofs.MissingLaws.{missing_told}
 use Rattle.rules.proofs.Steps.{Runs, most}
 use Rattle.state_marks.specs.declared.Numbers.{Numbers}
-use Rattle.state_marks.specs.Lent.{state_of, Fine}
+use Rattle.state_marks.specs.Lent.{state_of}
 use Rattle.take_search.specs.States.{LeftState, Items}
 use Rattle.take_search.proofs.States.{left_same, left_more}
 use Rattle.eval_told.specs.declared.Ran.{Ran}
 use Rattle.eval_told.specs.Told.{Told, told, told_with, Numbered}
-use Rattle.eval_told.specs.Nodes.{tree_at}
 use Rattle.eval_told.proofs.Visits.{runs_numbered}
 use Rattle.eval_told.proofs.Repeats.{append_three, told_state, told_tries, told_value, told_denied}
 use Rattle.eval_words.proofs.Words.{sets_append, sets_back}
@@ -131,7 +130,6 @@ module _ (first : ℕ) (is : List Item) (fields : List Tree) (k : ℕ) (t : Tree
       (s left : State) (e : Refusal)
       → Lacks (lacking (field_mark (first + k)) is t s) s left e
       → e.missing ≡ (if is_missing e then lacking_field first is fields k left else [])
-  unfolding if◌then◌else◌
   field_lacks s left e l = go (is_missing e) refl
     where
       go : (b : Bool) → is_missing e ≡ b → e.missing ≡ (if b then lacking_field first is fields k left else [])
@@ -244,7 +242,7 @@ module _ (b known s words m₀ : List ℕ) (p₀ : Numbers) (first : ℕ) (o₀ 
 
     pub going_end : n ≤ k → (r : Reached) → r ≡ values_of tries at p
         → (x : Accepted) → check_form b ≡ accepted x → RunsFields (sheet_area s) words first x.fields m₀ p₀ m o₀ o r
-    unfolding run_fields ended behind answer_words missing_of if◌then◌else◌
+    unfolding run_fields ended behind answer_words missing_of
     going_end l r q =
         let few = field_count_lem b a e in
         let none_left : drop k a.fields ≡ [] = drop_of_length-le a.fields {i = k} (omega (arith, g.count)) in

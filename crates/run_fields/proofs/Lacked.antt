@@ -7,7 +7,6 @@ use Prim.Native.Nat.{ℕ, ◌+◌, ◌<◌}
 use native.Mathlib.Omega.{arith}
 use lib.ListN.{get_elem?}
 use borrow.Author.Tests.{eq-eqb, ne_eqb}
-use Rattle.utf8.specs.Utf8.{if◌then◌else◌}
 use Rattle.rules.specs.Form.{field_count, read_form}
 use Rattle.rules.specs.Sheet.{sheet_area}
 use Rattle.rules.specs.Value.{Value}
@@ -34,7 +33,6 @@ module _ (b known s words m : List ℕ) (p : Numbers) (first : ℕ) (o : List �
 
     -- nothing is missing but with 20
     pub none_missing : (r.number ≡ 20 → ⊥) → (is : List Item) → Items (sheet_area s) words p is → missing_of (run is) ≡ []
-    unfolding if◌then◌else◌
     none_missing z is i = t.lacks is i ∙ rw (ne_eqb r.number 20 z) refl
 
     module _ (z : r.number ≡ 20) where
@@ -63,6 +61,5 @@ module _ (b known s words m : List ℕ) (p : Numbers) (first : ℕ) (o : List �
         -- what was missing is what the tree lacks in the state that is left
         pub refused_missing : (is : List Item) → Items (sheet_area s) words p is
             → missing_of (run is) ≡ lacking (field_mark (first + r.field)) is refused_field.tree (state_of m' r.numbers)
-        unfolding if◌then◌else◌
         refused_missing is i =
             t.lacks is i ∙ rw (eq-eqb r.number 20 z) (lacking_here first is a.fields r.field refused_field.tree refused_field.here (state_of m' r.numbers))

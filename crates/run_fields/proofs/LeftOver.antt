@@ -7,8 +7,7 @@ use Prim.Native.Nat.{ℕ, suc, ◌+◌, ◌-◌, ◌≤◌, ◌<◌}
 use native.Mathlib.Omega.{arith}
 use lib.ListN.{length, get_elem?, replicate}
 use lib.Seq.{sets}
-use Rattle.utf8.specs.Utf8.{if◌then◌else◌}
-use Rattle.rules.specs.Outcome.{Outcome, ok, refused, fault, ◌>>=◌, at, refuse}
+use Rattle.rules.specs.Outcome.{Outcome, ok, refused, fault, ◌>>=◌, at}
 use Rattle.rules.specs.Value.{Value}
 use Rattle.rules.specs.Sheet.{sheet_area}
 use Rattle.rules.specs.Accept.{Accepted, accepted, check_form}
@@ -122,7 +121,7 @@ find_here :
     (is : List Item) (i : ℕ) (l : List ℕ) (x : Item)
     → get_elem? is i ≡ some x
     → find_in is (λ _. true) (i ∷ l) ≡ ok (some (record { place = i; item = x }))
-unfolding find_in at ◌>>=◌ if◌then◌else◌
+unfolding find_in at ◌>>=◌
 find_here is i l x g = rw g
 
 module _ (m : List ℕ) (p : Numbers) (f : Fine m p) (is : List Item) (n : length is ≡ p.count) (place : ℕ)
@@ -208,7 +207,7 @@ module _ (b known s words m₀ : List ℕ) (p₀ : Numbers) (first : ℕ) (o₀ 
       pub all_left : r.number ≡ 0 → place < y → (n : ℕ) → n ≡ r.words → (o' : List ℕ) → o' ≡ sets o 0 (replicate n 0) → (v : Reached)
           → v ≡ refused_with 27 (place + 1) r.tries 0 r.numbers
           → RunsAll (sheet_area s) words first a.fields m₀ p₀ m o₀ o' v
-      unfolding run_all if◌then◌else◌
+      unfolding run_all
       all_left z h n w o' q v u =
           let cleared : o' ≡ o₀ =
           q ∙ ap (λ (l : List ℕ). sets l 0 (replicate n 0)) t.put

@@ -1,5 +1,6 @@
 // All fields of a form on one state, each from where the last one ended, and then refusal 27.
 #![tactic(auto)]
+
 ghost use Rattle.std.specs.Prelude.{◌≡◌, ◌+◌, ◌≤◌, length, replicate};
 ghost use Rattle.rules.specs.Accept.{Accepted, accepted, check_form};
 ghost use Rattle.rules.specs.Sheet.{sheet_area};

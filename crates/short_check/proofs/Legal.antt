@@ -8,7 +8,6 @@ use native.Mathlib.Omega.{arith}
 use lib.ListN.{length, get_or, take, drop, length-drop, drop_of_length-le}
 use lib.Seq.{drop-cons, take_all}
 use borrow.Author.Tests.{le-leb, lt-leb, eq-eqb, ne_eqb, lt-ltb, le-ltb}
-use Rattle.utf8.specs.Utf8.{if◌then◌else◌}
 use Rattle.wire.specs.Wire.{entry_of}
 use Rattle.rules.specs.Base.{all, contains, numbers}
 use Rattle.rules.specs.Accept.{index_of}
@@ -159,18 +158,18 @@ module _ (al s : List ℕ) where
 
 module _ (al s : List ℕ) (n : ℕ) (a : Bool) (e : a ≡ alphabet_good al) where
   pub alphabet_bad : not a ≡ true → 16 ≡ input_fault al s n
-  unfolding input_fault if◌then◌else◌
+  unfolding input_fault
   alphabet_bad h = rw (← e, h)
 
   module _ (good : not a ≡ false) (t : Bool) (f : t ≡ sheet_legal al s) where
     pub sheet_other : not t ≡ true → 17 ≡ input_fault al s n
-    unfolding input_fault if◌then◌else◌
+    unfolding input_fault
     sheet_other h = rw (← e, good, ← f, h)
 
     pub output_short : not t ≡ false → n < 22 → 19 ≡ input_fault al s n
-    unfolding input_fault if◌then◌else◌
+    unfolding input_fault
     output_short h l = rw (← e, good, ← f, h, lt-ltb n 22 l)
 
     pub input_good : not t ≡ false → 22 ≤ n → 0 ≡ input_fault al s n
-    unfolding input_fault if◌then◌else◌
+    unfolding input_fault
     input_good h l = rw (← e, good, ← f, h, le-ltb n 22 l)

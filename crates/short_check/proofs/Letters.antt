@@ -9,7 +9,7 @@ use lib.Dec.{eqb}
 use lib.ListN.{length, get_or, drop, drop_of_length-le}
 use lib.Seq.{drop-cons}
 use borrow.Author.Tests.{eq-eqb, ne_eqb, eqb-true, eqb-false}
-use Rattle.utf8.specs.Utf8.{if◌then◌else◌}
+use Rattle.std.specs.Prelude.{if◌then◌else◌}
 use Rattle.rules.specs.Base.{contains}
 use Rattle.rules.specs.Accept.{index_of}
 
@@ -23,11 +23,11 @@ sought_first al x = record { within = omega arith; same = omega arith }
 
 module _ (al : List ℕ) (x i : ℕ) (s : Sought al x i) where
   pub sought_here : get_or al i 0 ≡ x → i < length al → i ≡ index_of x al
-  unfolding index_of if◌then◌else◌
+  unfolding index_of
   sought_here e h = sym (s.same ∙ rw (drop-cons al i 0 h, e, eq-eqb x x refl) (omega arith))
 
   pub sought_next : (get_or al i 0 ≡ x → ⊥) → i < length al → Sought al x (i + 1)
-  unfolding index_of if◌then◌else◌
+  unfolding index_of
   sought_next e h =
       let other : eqb x (get_or al i 0) ≡ false = ne_eqb x (get_or al i 0) (λ p. e (sym p)) in
       let step : index_of x (drop i al) ≡ suc (index_of x (drop (suc i) al)) = rw (drop-cons al i 0 h, other) in
@@ -49,7 +49,7 @@ eqb_both x y = go (eqb x y) refl
 
 -- a byte is there if its place is
 pub place_there : (al : List ℕ) (x : ℕ) → index_of x al < length al → contains al x ≡ true
-unfolding contains index_of if◌then◌else◌
+unfolding contains index_of
 place_there [] x h = absurd (omega arith)
 place_there (y ∷ al) x h = go (eqb x y) refl h (place_there al x)
   where
@@ -63,7 +63,7 @@ place_there (y ∷ al) x h = go (eqb x y) refl h (place_there al x)
     go false e l later = rw (eqb_both x y, e) (later (omega arith))
 
 pub no_place : (al : List ℕ) (x : ℕ) → length al ≤ index_of x al → contains al x ≡ false
-unfolding contains index_of if◌then◌else◌
+unfolding contains index_of
 no_place [] x h = refl
 no_place (y ∷ al) x h = go (eqb x y) refl h (no_place al x)
   where

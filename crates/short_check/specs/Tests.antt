@@ -1,6 +1,6 @@
 -- The tests before a step, in the order of the refusals.
 use Rattle.std.specs.Prelude.{not, List, ℕ, ltb}
-use Rattle.utf8.specs.Utf8.{if◌then◌else◌}
+use Rattle.std.specs.Prelude.{if◌then◌else◌}
 use Rattle.rules_short.specs.Short.{alphabet_good, sheet_legal}
 
 -- 0, or the first test that the input does not pass

@@ -1,5 +1,6 @@
 // What the step to the next short sheet asks: an alphabet, a sheet over it, and room. 16, 17 and 19.
 #![tactic(auto)]
+
 ghost use Rattle.std.specs.Prelude.{◌≡◌};
 ghost use Rattle.rules.specs.Accept.{index_of};
 ghost use Rattle.rules_short.specs.Short.{distinct as none_twice, alphabet_good, argument_legal, sheet_legal};

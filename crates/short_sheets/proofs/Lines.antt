@@ -8,7 +8,7 @@ use native.Mathlib.Nat.{zero-add}
 use native.Mathlib.Omega.{arith}
 use lib.ListN.{length, take, drop, replicate, length-append, length-drop, length-map, length-replicate, take-append-drop, replicate-append-replicate}
 use lib.Seq.{sets, sets-eq, take_at, drop_at, take_all, length-take-le}
-use Rattle.utf8.specs.Utf8.{if◌then◌else◌}
+use Rattle.std.specs.Prelude.{if◌then◌else◌}
 use Rattle.wire.specs.Wire.{offset, area_start, area, entry_of}
 use Rattle.wire.specs.Laws.{good_table}
 use Rattle.rules.specs.Accept.{index_of}
@@ -70,7 +70,7 @@ counted_good base ds some-base h = go (count_up base ds) (counts (λ _. 1) base 
     go (some es) c = record { below = c.below; long = c.size }
 
 pub lengths_good : (base : ℕ) (ns ds : List ℕ) → Below 5 ns → Good 5 ns (next_lengths base ns ds)
-unfolding next_lengths if◌then◌else◌
+unfolding next_lengths
 lengths_good base ns ds h = go (is_some (count_up base ds))
   where
     go : (t : Bool) → Good 5 ns (if t then ns else counted 5 ns)
@@ -87,7 +87,7 @@ module _ (base n size : ℕ) (ns ds : List ℕ) (can : CanCount base n size ns d
   long = length-take-le n ns can.lengths
 
   pub counts_places : b ≡ true → Counts base n size ns ds n ns (es ++ drop size ds)
-  unfolding next_count next_lengths if◌then◌else◌
+  unfolding next_count next_lengths
   counts_places e =
       let found : is_some (count_up base (take size ds)) ≡ true = sym up.found ∙ e in
       record {
@@ -101,13 +101,13 @@ module _ (base n size : ℕ) (ns ds : List ℕ) (can : CanCount base n size ns d
     none_found = sym up.found ∙ e
 
     pub counts_lengths : b' ≡ true → Counts base n size ns ds n (es' ++ drop n ns) (es ++ drop size ds)
-    unfolding next_count next_lengths if◌then◌else◌
+    unfolding next_count next_lengths
     counts_lengths e' =
         let found : is_some (count_up 5 (take n ns)) ≡ true = sym up'.found ∙ e' in
         record { count = rw (none_found, found) (sym long); lengths = rw (none_found, up'.digits); places = rw up.digits }
 
     pub counts_more : b' ≡ false → Counts base n size ns ds (n + 1) (es' ++ drop n ns) (es ++ drop size ds)
-    unfolding next_count next_lengths if◌then◌else◌
+    unfolding next_count next_lengths
     counts_more e' =
         let found : is_some (count_up 5 (take n ns)) ≡ false = sym up'.found ∙ e' in
         record { count = rw (none_found, found, long); lengths = rw (none_found, up'.digits); places = rw up.digits }

@@ -9,7 +9,7 @@ use lib.Dec.{ltb}
 use lib.ListN.{length, take, replicate, length-map, length-replicate, replicate-append-replicate}
 use lib.Seq.{take_at, length-take-le}
 use borrow.Author.Tests.{lt-ltb, le-ltb, ltb-false}
-use Rattle.utf8.specs.Utf8.{if◌then◌else◌}
+use Rattle.std.specs.Prelude.{if◌then◌else◌}
 use Rattle.wire.specs.Wire.{area_start}
 use Rattle.rules.specs.Base.{is_some}
 use Rattle.rules.specs.Run.{padded}
@@ -87,7 +87,7 @@ module _ (al : List ℕ) (args : List (List ℕ)) where
 
   module _ (short : length ns ≤ 3) (sized : length ds ≤ 12) (bytes : length ds ≡ length (flatten args)) where
     ends : (u v : Option (List ℕ)) → 3 < count_of u v → chosen u v ≡ none
-    unfolding is_some if◌then◌else◌
+    unfolding is_some
     ends (some es) v h = absurd (omega arith)
     ends none (some ms) h = absurd (omega arith)
     ends none none h = rw (le-ltb (length args) 3 (omega (arith, count_same)))
@@ -117,7 +117,7 @@ module _ (al : List ℕ) (args : List (List ℕ)) where
         → CountsTo (λ _. 1) 5 ns v
         → count_of u v ≤ 3
         → chosen u v ≡ some (parted (take (count_of u v) (lengths_of u v)) (map (letter_at al) (places_of u)))
-    unfolding is_some if◌then◌else◌ or_zeros alike
+    unfolding is_some or_zeros alike
     goes (some es) v c k h =
         ap some
         (sym (rw (take_padded 3 ns) (padded_bytes es c.size)))
@@ -247,7 +247,7 @@ module _ (al s : List ℕ) (o : List ℕ) (can : CanStep al s (length o)) (k : �
       → r ≡ answered 0 1 0
       → o' ≡ take 0 o ++ replicate (length o - 0) 0
       → Reports (stepped al s (length o)) r o'
-  unfolding told written if◌then◌else◌
+  unfolding told written
   last_reported r o' h answer out =
       let as_none = stepped_as al s (length o) none (line_ends al s can.given k ns ds line h) in
       record { answer = rw as_none answer; output = rw as_none (out ∙ cleared o) }
@@ -260,7 +260,7 @@ module _ (al s : List ℕ) (o : List ℕ) (can : CanStep al s (length o)) (k : �
       → k ≤ 3
       → WritesLine al k ns ds (length o) r ds' o'
       → Reports (stepped al s (length o)) r o'
-  unfolding told written if◌then◌else◌
+  unfolding told written
   next_reported r ds' o' h wrote =
       let as_some_lem = stepped_as al s (length o) (some (parted (take k ns) (map (letter_at al) ds))) (line_goes al s can.given k ns ds line h) in
       record { answer = rw as_some_lem wrote.answer; output = rw as_some_lem wrote.output }
@@ -269,7 +269,7 @@ module _ (al s : List ℕ) (o : List ℕ) (can : CanStep al s (length o)) (k : �
 
 module _ (al s : List ℕ) (n : ℕ) where
   refusal : (f : ℕ) → f ≡ input_fault al s n → (f ≡ 0 → ⊥) → next_sheet al s n ≡ written n f false []
-  unfolding input_fault next_sheet stepped if◌then◌else◌
+  unfolding input_fault next_sheet stepped
   refusal f e other = go (alphabet_good al) (sheet_legal al s) (ltb n 22) f e other
     where
       go :
@@ -284,7 +284,7 @@ module _ (al s : List ℕ) (n : ℕ) where
       go true true false f e other = absurd (other e)
 
   passed : (f : ℕ) → f ≡ input_fault al s n → f ≡ 0 → CanStep al s n
-  unfolding input_fault if◌then◌else◌
+  unfolding input_fault
   passed f e z = go (alphabet_good al) (sheet_legal al s) (ltb n 22) refl refl refl (sym e ∙ z)
     where
       go :
@@ -307,7 +307,7 @@ pub refused_reported :
     → r ≡ answered f 0 0
     → o' ≡ take 0 o ++ replicate (length o - 0) 0
     → Reports (next_sheet al s (length o)) r o'
-unfolding told written if◌then◌else◌
+unfolding told written
 refused_reported al s o f e other r o' answer out =
     let as-refused = refusal al s (length o) f e other in
     record { answer = rw as-refused answer; output = rw as-refused (out ∙ cleared o) }
@@ -321,7 +321,7 @@ pub step_reported :
     → f ≡ 0
     → Reports (stepped al s n) r o
     → Reports (next_sheet al s n) r o
-unfolding next_sheet stepped if◌then◌else◌
+unfolding next_sheet stepped
 step_reported al s n f r o e z reports =
     let can = passed al s n f e z in
     rw (can.given.alphabet, can.given.sheet, le-ltb n 22 can.room) reports

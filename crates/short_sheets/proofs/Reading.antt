@@ -9,7 +9,7 @@ use native.Mathlib.Omega.{arith}
 use lib.Dec.{eqb}
 use lib.ListN.{length, get_or, get_elem?, set, length-map}
 use lib.Seq.{sets}
-use Rattle.utf8.specs.Utf8.{if◌then◌else◌}
+use Rattle.std.specs.Prelude.{if◌then◌else◌}
 use Rattle.wire.specs.Wire.{entry_of}
 use Rattle.wire.proofs.Stores.{Stored, stored_next, stored_last}
 use Rattle.rules.specs.Accept.{index_of}
@@ -41,7 +41,7 @@ get_d_mapped f (x ∷ l) zero h = refl
 get_d_mapped f (x ∷ l) (suc i) h = get_d_mapped f l i (omega arith)
 
 place_most : (x : ℕ) (al : List ℕ) → index_of x al ≤ length al
-unfolding index_of if◌then◌else◌
+unfolding index_of
 place_most x [] = omega arith
 place_most x (y ∷ al) = go (eqb x y) (place_most x al)
   where

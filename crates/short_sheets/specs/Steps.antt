@@ -1,7 +1,7 @@
 -- A short sheet as digits: what is asked of them, how they are counted up, and what is written and answered.
 use Rattle.std.specs.Prelude.{◌≡◌, Bool, List, [], ◌∷◌, ◌++◌, map, ℕ, ◌+◌, ◌≤◌, ◌<◌, length, take, drop, replicate}
 use Rattle.std.proofs.Math.Option.{Option, some, none}
-use Rattle.utf8.specs.Utf8.{if◌then◌else◌}
+use Rattle.std.specs.Prelude.{if◌then◌else◌}
 use Rattle.wire.specs.Wire.{area_start}
 use Rattle.rules.specs.Accept.{index_of}
 use Rattle.rules.specs.Base.{is_some}

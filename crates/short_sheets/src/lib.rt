@@ -1,6 +1,7 @@
 // The step from a short sheet to the next. Bytes are counted as places in the alphabet, lengths as numbers up to 4, both as digits of which
 // the last goes fastest.
 #![tactic(auto)]
+
 ghost use Rattle.std.specs.Prelude.{◌≡◌, map, ◌+◌, ◌≤◌, ◌<◌, length};
 ghost use Rattle.std.proofs.lemmas.List.Edits.{sets};
 ghost use Rattle.rules.specs.Sheet.{arguments};

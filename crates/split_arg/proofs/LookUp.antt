@@ -11,7 +11,7 @@ use lib.Dec.{eqb}
 use lib.ListN.{length, get_or, take, drop, drop_of_length-le, length-drop, length-append, length-map}
 use lib.Seq.{drop-cons, drop-drop, take_at}
 use borrow.Author.Tests.{le-leb}
-use Rattle.utf8.specs.Utf8.{if◌then◌else◌, decode, decode_at, well_formed}
+use Rattle.utf8.specs.Utf8.{decode, decode_at, well_formed}
 use Rattle.utf8.specs.Laws.{character, well_formed_bad, well_formed_char}
 use Rattle.utf8.specs.declared.Decoded.{Decoded}
 use Rattle.utf8.specs.declared.Decoded.TheVariants.{Char, Bad}
@@ -49,7 +49,7 @@ letters_step :
     (name : List ℕ) (k c n : ℕ)
     → decode_at name k ≡ Char c n
     → letters_from name k ≡ (letters_from name (k + n) >>= λ ls. ok (record { character = c; place = k; rest = drop (k + n) name } ∷ ls))
-unfolding cluster_from decode_at slice_from at ◌>>=◌ if◌then◌else◌
+unfolding cluster_from decode_at slice_from at ◌>>=◌
 letters_step name k c n e =
     let w = character name k c n e in
     let some = w.some in
@@ -220,7 +220,7 @@ module _ (fl ar name : List ℕ) (at before : ℕ) (z : Looked (letters fl ar) n
 -- ---- a letter alone
 module _ (fl ar name : List ℕ) (w : well_formed name ≡ true) where
   pub alone : (c n : ℕ) → decode_at name 0 ≡ Char c n → n ≡ length name → Disambiguates (letters fl ar) name (Single c)
-  unfolding disambiguate_short if◌then◌else◌ cluster_from well_formed
+  unfolding disambiguate_short cluster_from well_formed
   alone c n e h =
       let ls = cluster_ok 0 0 name w in
       let x = next name ls.0 0 ls.1 w c n e in
@@ -239,7 +239,7 @@ module _ (fl ar name : List ℕ) (w : well_formed name ≡ true) where
       → cluster_from 0 0 name ≡ ok ls
       → ((c n : ℕ) → decode_at name 0 ≡ Char c n → n ≡ length name → ⊥)
       → look_up (letters fl ar) [] ls ≡ disambiguate_short (letters fl ar) ls
-  unfolding disambiguate_short look_up if◌then◌else◌
+  unfolding disambiguate_short look_up
   several ls t h = go (decode_at name 0) refl
     where
       go : (d : Decoded) → decode_at name 0 ≡ d → look_up (letters fl ar) [] ls ≡ disambiguate_short (letters fl ar) ls

@@ -1,4 +1,5 @@
 -- Each way out of `split_long`, `split_short` and `split_os_argument`, against the definition.
+use Rattle.std.specs.Prelude.{if◌then◌else◌}
 use mathlib.Core.Path.{◌≡◌, refl, ◌∙◌, ap}
 use mathlib.Core.Bool.{Bool, true, false}
 use mathlib.Core.Logic.{⊎_elim}
@@ -11,7 +12,7 @@ use lib.Dec.{eqb}
 use lib.ListN.{length, get_or, take, drop, length-drop, drop_of_length-le}
 use lib.Seq.{drop-cons, drop-drop, take_all}
 use borrow.Author.Tests.{eq-eqb, ne_eqb}
-use Rattle.utf8.specs.Utf8.{if◌then◌else◌, well_formed, well_formed_after}
+use Rattle.utf8.specs.Utf8.{well_formed, well_formed_after}
 use Rattle.rules.specs.Base.{null}
 use Rattle.rules.specs.Outcome.{Outcome, ok, ◌>>=◌}
 use Rattle.rules.specs.Split.{dash, parts, before_equals, behind_equals, split_long, short_body, split_short, behind_dash, split_os_argument}
@@ -39,7 +40,7 @@ told_none os o e = record { same = e; sized = tt; good = refl }
 module _ (os : List ℕ) (two : 2 ≤ length os) where
   -- `--`
   pub no_long_name : length os ≡ 2 → TellsParts os None (ok (split_long (drop 2 os)))
-  unfolding split_long behind_equals null if◌then◌else◌
+  unfolding split_long behind_equals null
   no_long_name h = told_none os _ (let few : length os ≤ 2 = omega arith in rw (drop_of_length-le os few))
 
   module _ (e : ℕ) (f : e ≡ equals_from os 2) where
@@ -77,7 +78,7 @@ module _ (os : List ℕ) (two : 2 ≤ length os) where
       named = null_false (drop 2 os) (λ z. some-name (omega (arith, length-drop 2 os)))
 
       pub long_bad : well_formed (take (e - 2) (drop 2 os)) ≡ false → TellsParts os None (ok (split_long (drop 2 os)))
-      unfolding split_long parts if◌then◌else◌
+      unfolding split_long parts
       long_bad w =
           told_none os _
           (⊎_elim
@@ -86,7 +87,7 @@ module _ (os : List ℕ) (two : 2 ≤ length os) where
           (eq-or-lt_of_le equals_most))
 
       pub long_whole : e ≡ length os → well_formed (take (e - 2) (drop 2 os)) ≡ true → TellsParts os (Long (e - 2)) (ok (split_long (drop 2 os)))
-      unfolding split_long parts if◌then◌else◌
+      unfolding split_long parts
       long_whole h w = record {
         same = rw (without h, split_long, named, whole h, rw (whole h) at w);
         sized = (omega (arith, two), omega (arith, two));
@@ -97,7 +98,7 @@ module _ (os : List ℕ) (two : 2 ≤ length os) where
           (e ≡ length os → ⊥)
           → well_formed (take (e - 2) (drop 2 os)) ≡ true
           → TellsParts os (LongBody (e - 2) (e + 1)) (ok (split_long (drop 2 os)))
-      unfolding split_long parts if◌then◌else◌
+      unfolding split_long parts
       long_value h w = record {
         same = rw (value h, split_long, before, w);
         sized = (omega (arith, equals_least), omega (arith, equals_most));
@@ -115,14 +116,14 @@ module _ (os : List ℕ) (two : 2 ≤ length os) where
         e ≡ length os
         → well_formed (take (length os - 1) (drop 1 os)) ≡ false
         → TellsParts os None (split_short (get_or os 1 0) (drop 2 os))
-    unfolding split_short parts if◌then◌else◌
+    unfolding split_short parts
     short_bad h w = told_none os _ (rw (without h, split_short, rw (rest, letter) at w))
 
     pub short_whole :
         e ≡ length os
         → well_formed (take (length os - 1) (drop 1 os)) ≡ true
         → TellsParts os (Short (e - 1)) (split_short (get_or os 1 0) (drop 2 os))
-    unfolding split_short parts if◌then◌else◌
+    unfolding split_short parts
     short_whole h w = record {
       same = rw (without h, split_short, h, rest, letter, rw (rest, letter) at w);
       sized = (omega (arith, two), omega (arith, two));
@@ -136,12 +137,12 @@ module _ (os : List ℕ) (two : 2 ≤ length os) where
       body = short_body_lem (get_or os 1 0) (drop 2 os) (drop (e + 1) os) (value h)
 
       pub letter_bad : well_formed (take 1 (drop 1 os)) ≡ false → TellsParts os None (split_short (get_or os 1 0) (drop 2 os))
-      unfolding split_short parts if◌then◌else◌ ◌>>=◌
+      unfolding split_short parts ◌>>=◌
       letter_bad w = told_none os _ (rw (value h, split_short, body, rw letter at w))
 
       module _ (w : well_formed (take 1 (drop 1 os)) ≡ true) where
         pub short_value_lem : e ≡ 2 → TellsParts os (ShortBody 1 3) (split_short (get_or os 1 0) (drop 2 os))
-        unfolding split_short parts if◌then◌else◌ ◌>>=◌
+        unfolding split_short parts ◌>>=◌
         short_value_lem t =
             let three : e + 1 ≡ 3 = omega arith in
             let first = null_true (before_equals (drop 2 os)) (omega (arith, size)) in
@@ -152,14 +153,14 @@ module _ (os : List ℕ) (two : 2 ≤ length os) where
             }
 
         pub short_rest : (e ≡ 2 → ⊥) → TellsParts os (ShortBody 1 2) (split_short (get_or os 1 0) (drop 2 os))
-        unfolding split_short parts if◌then◌else◌ ◌>>=◌
+        unfolding split_short parts ◌>>=◌
         short_rest t =
             let later = null_false (before_equals (drop 2 os)) (λ z. t (omega (arith, size))) in
             record { same = rw (value h, split_short, body, later, letter, rw letter at w); sized = (refl, omega arith, two); good = w }
 
 -- ---- `split_os_argument`
 pub too_short : (os : List ℕ) → length os < 2 → TellsParts os None (split_os_argument os)
-unfolding split_os_argument behind_dash if◌then◌else◌
+unfolding split_os_argument behind_dash
 too_short [] h = told_none [] _ refl
 too_short (b ∷ []) h = told_none (b ∷ []) _ (go (eqb b dash))
   where
@@ -169,7 +170,7 @@ too_short (b ∷ []) h = told_none (b ∷ []) _ (go (eqb b dash))
 too_short (b ∷ c ∷ os) h = absurd (omega arith)
 
 pub no_dash_lem : (os : List ℕ) → 2 ≤ length os → (get_or os 0 0 ≡ 45 → ⊥) → TellsParts os None (split_os_argument os)
-unfolding split_os_argument dash if◌then◌else◌
+unfolding split_os_argument dash
 no_dash_lem [] h e = absurd (omega arith)
 no_dash_lem (b ∷ os) h e = told_none (b ∷ os) _ (rw (ne_eqb b 45 e))
 
@@ -180,7 +181,7 @@ pub two_dashes :
     → get_or os 1 0 ≡ 45
     → TellsParts os r (ok (split_long (drop 2 os)))
     → TellsParts os r (split_os_argument os)
-unfolding split_os_argument behind_dash dash if◌then◌else◌
+unfolding split_os_argument behind_dash dash
 two_dashes [] r h e f t = absurd (omega arith)
 two_dashes (b ∷ []) r h e f t = absurd (omega arith)
 two_dashes (b ∷ c ∷ os) r h e f t = rw (eq-eqb b 45 e, eq-eqb c 45 f) t
@@ -192,7 +193,7 @@ pub one_dash :
     → (get_or os 1 0 ≡ 45 → ⊥)
     → TellsParts os r (split_short (get_or os 1 0) (drop 2 os))
     → TellsParts os r (split_os_argument os)
-unfolding split_os_argument behind_dash dash if◌then◌else◌
+unfolding split_os_argument behind_dash dash
 one_dash [] r h e f t = absurd (omega arith)
 one_dash (b ∷ []) r h e f t = absurd (omega arith)
 one_dash (b ∷ c ∷ os) r h e f t = rw (eq-eqb b 45 e, ne_eqb c 45 f) t

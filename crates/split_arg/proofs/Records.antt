@@ -8,7 +8,6 @@ use lib.Dec.{eqb, leb, lit<}
 use lib.ListN.{length, get_or, drop, set, length-set}
 use lib.Seq.{get_or-take, get_or-drop, sets}
 use borrow.Author.Tests.{ne_eqb}
-use Rattle.utf8.specs.Utf8.{if◌then◌else◌}
 use Rattle.rules.specs.Base.{all}
 use Rattle.rules.specs.Split.{bit}
 use Rattle.rules.specs.Tree.{zeros}
@@ -38,7 +37,7 @@ module _
     text = λ i. record { offset = word_of l at 5 w₅ (lit< tt) e₅ i; length = word_of l at 6 w₆ (lit< tt) e₆ i }
 
     pub read_short : (w₂ : ℕ) → w₂ ≡ get_or l (7 * at + 2) 0 → w₀ ≡ 1 → Short w₂ (eqb w₁ 1) (record { offset = w₅; length = w₆ }) ≡ item_of (record_at l at)
-    unfolding item_of if◌then◌else◌
+    unfolding item_of
     read_short w₂ e₂ k = sym (rw (kind, k, word_of l at 2 w₂ (lit< tt) e₂, word_of l at 1 w₁ (lit< tt) e₁) (ap (λ (p : Part). Short w₂ (eqb w₁ 1) p) text))
 
     pub read_long :
@@ -47,18 +46,18 @@ module _
         → w₄ ≡ get_or l (7 * at + 4) 0
         → w₀ ≡ 2
         → Long (record { offset = w₃; length = w₄ }) (eqb w₁ 1) (record { offset = w₅; length = w₆ }) ≡ item_of (record_at l at)
-    unfolding item_of if◌then◌else◌
+    unfolding item_of
     read_long w₃ w₄ e₃ e₄ k =
         let name : part_at (record_at l at) 3 ≡ record { offset = w₃; length = w₄ } =
         λ i. record { offset = word_of l at 3 w₃ (lit< tt) e₃ i; length = word_of l at 4 w₄ (lit< tt) e₄ i } in
         sym (rw (kind, k, word_of l at 1 w₁ (lit< tt) e₁) (ap₂ (λ (n p : Part). Long n (eqb w₁ 1) p) name text))
 
     pub read_arg_word : w₀ ≡ 3 → ArgWord (record { offset = w₅; length = w₆ }) ≡ item_of (record_at l at)
-    unfolding item_of if◌then◌else◌
+    unfolding item_of
     read_arg_word k = sym (rw (kind, k) (ap ArgWord text))
 
     pub read_word : w₀ ≡ 4 → Word (record { offset = w₅; length = w₆ }) ≡ item_of (record_at l at)
-    unfolding item_of if◌then◌else◌
+    unfolding item_of
     read_word k = sym (rw (kind, k) (ap Word text))
 
     pub read_pos_word :
@@ -67,18 +66,18 @@ module _
         → (w₀ ≡ 3 → ⊥)
         → (w₀ ≡ 4 → ⊥)
         → PosWord (record { offset = w₅; length = w₆ }) ≡ item_of (record_at l at)
-    unfolding item_of if◌then◌else◌
+    unfolding item_of
     read_pos_word a b c d =
         sym (rw (kind, ne_eqb w₀ 1 a, ne_eqb w₀ 2 b, ne_eqb w₀ 3 c, ne_eqb w₀ 4 d) (ap PosWord text))
 
 bit_back : (b : Bool) → eqb (bit b) 1 ≡ b
-unfolding bit if◌then◌else◌
+unfolding bit
 bit_back true = refl
 bit_back false = refl
 
 -- an item read from its own record is that item
 pub item_record_lem : (x : Item) → item_of (record_of x) ≡ x
-unfolding item_of if◌then◌else◌
+unfolding item_of
 item_record_lem (Short c a t) = rw (bit_back a)
 item_record_lem (Long n a t) = rw (bit_back a)
 item_record_lem (ArgWord t) = refl
@@ -93,13 +92,13 @@ pub record_item : (x : Item) (r : List ℕ) → r ≡ record_of x → record_of 
 record_item x r e = rw (e, item_record_lem x)
 
 bit_small : (b : Bool) → leb (bit b) 1 ≡ true
-unfolding bit if◌then◌else◌
+unfolding bit
 bit_small true = refl
 bit_small false = refl
 
 -- what the rules read from the record of an item
 pub from_record : (area : List ℕ) (x : Item) → item_from area (record_of x) ≡ in_area area x
-unfolding item_from short_from long_from word_from if◌then◌else◌ zeros all bit
+unfolding item_from short_from long_from word_from zeros all bit
 from_record area (Short c a t) = rw (bit_small a, bit_back a)
 from_record area (Long n a t) = rw (bit_small a, bit_back a)
 from_record area (ArgWord t) = refl
@@ -138,7 +137,8 @@ seventh_inside l i a b c d e f h =
 pub words_stored :
     (l : List ℕ) (i : ℕ) (w : List ℕ)
     → length w ≡ 7
-    → set (set (set (set (set (set (set l i (get_or w 0 0)) (i + 1) (get_or w 1 0)) (i + 2) (get_or w 2 0)) (i + 3) (get_or w 3 0)) (i + 4) (get_or w 4 0)) (i + 5) (get_or w 5 0)) (i + 6) (get_or w 6 0)
+    → set (set (set (set (set (set (set l i (get_or w 0 0)) (i + 1) (get_or w 1 0)) (i + 2) (get_or w 2 0)) (i + 3) (get_or w 3 0))
+    (i + 4) (get_or w 4 0)) (i + 5) (get_or w 5 0)) (i + 6) (get_or w 6 0)
     ≡ sets l i w
 words_stored l i (a ∷ b ∷ c ∷ d ∷ e ∷ f ∷ g ∷ []) h =
     let one : i + 1 ≡ suc i = omega arith in

@@ -1,7 +1,7 @@
 -- Items of the code, as records of seven words and as items of bytes.
 use Rattle.std.specs.Prelude.{Bool, false, List, [], ◌∷◌, ℕ, ◌+◌, ◌*◌, eqb, get_or, take, drop}
 use Rattle.std.proofs.Math.Option.{Option, some}
-use Rattle.utf8.specs.Utf8.{if◌then◌else◌}
+use Rattle.std.specs.Prelude.{if◌then◌else◌}
 use Rattle.rules.specs.Base.{◌>>?◌}
 use Rattle.rules.specs.Calls.{part_in}
 use Rattle.rules.specs.Split.{bit}

@@ -10,7 +10,7 @@ use lib.Dec.{leb}
 use lib.ListN.{length, take, drop, length-append, drop_of_length-le}
 use lib.Seq.{sets, length-sets, sets-eq, take_at}
 use borrow.Author.Tests.{lt-ltb, le-ltb}
-use Rattle.utf8.specs.Utf8.{if◌then◌else◌}
+use Rattle.std.specs.Prelude.{if◌then◌else◌}
 use Rattle.wire.specs.Wire.{number_at, area_start, offset, entry_of, HasEntry}
 use Rattle.wire.specs.Laws.{good_table}
 use Rattle.rules.specs.Base.{concat_map}
@@ -146,7 +146,7 @@ module _ (l : Letters) (at : ℕ) (os : List ℕ) (rest : List (List ℕ)) (is :
       (a : Option ℕ) (b : Bool)
       → joined at (record { items = is; ambiguous = a; marker = b }) rest (split_from l (at + length is) rest) ≡ ok y
       → Follows l at 0 os rest is a b y
-  unfolding joined rest_from marker_first if◌then◌else◌
+  unfolding joined rest_from marker_first
   joined_follows (some i) b e =
       let f = ok_same e in
       record {
@@ -196,7 +196,7 @@ pub follows :
     → group_at l m os ≡ ok g
     → rest_from l m at (os ∷ rest) ≡ ok y
     → Follows l at m os rest g.items g.ambiguous g.marker y
-unfolding group_at rest_from split_from ◌>>=◌ positionals plain marker_first if◌then◌else◌
+unfolding group_at rest_from split_from ◌>>=◌ positionals plain marker_first
 follows l at zero os rest g y e f =
     joined_follows l at os rest g.items y g.ambiguous g.marker (rw (e, split_from) at f)
 follows l at (suc i) os rest g y e f =
@@ -214,7 +214,7 @@ follows l at (suc i) os rest g y e f =
     })
 
 stored_long : (o : List ℕ) (at n : ℕ) (w : List ℕ) → length (stored o at n w) ≡ length o
-unfolding stored if◌then◌else◌
+unfolding stored
 stored_long o at n w = go (leb (at + n) 256)
   where
     go : (t : Bool) → length (if t then sets o (7 * at) w else o) ≡ length o
@@ -223,7 +223,7 @@ stored_long o at n w = go (leb (at + n) 256)
 
 -- ---- the line
 too_long : (l : Letters) (s : List ℕ) (x : Split) → split_from l 0 (arguments s) ≡ ok x → 256 < length (items_of x) → line_for l s ≡ ok too_many
-unfolding line_of if◌then◌else◌ ◌>>=◌
+unfolding line_of ◌>>=◌
 too_long l s x e h = rw (e, lt-ltb 256 (length (items_of x)) h)
 
 -- what is written at the start of a slice stands there
@@ -244,7 +244,7 @@ module _ (l : Letters) (s b o : List ℕ) (x : Split) (c m : ℕ) where
       → number ≡ refusal_number (ambiguity x.ambiguous)
       → place ≡ refusal_place (ambiguity x.ambiguous)
       → SplitWrites l s o (record { number = number; place = place; count = c; marker = m })
-  unfolding line_of if◌then◌else◌ ◌>>=◌
+  unfolding line_of ◌>>=◌
   ends e size few within marker put long room number place nu pl =
       let st = starts c m few within in
       record {

@@ -1,4 +1,5 @@
 -- Where no argument can be a cluster, splitting comes to the same under any letters.
+use Rattle.std.specs.Prelude.{if◌then◌else◌}
 use mathlib.Core.Path.{◌≡◌, refl, sym, ◌∙◌, ap}
 use mathlib.Core.Bool.{Bool, true, false, not, ◌&&◌, ◌||◌, and-eq-true_iff, true≢false}
 use mathlib.Core.List.{List, [], ◌∷◌}
@@ -8,7 +9,7 @@ use native.Mathlib.Omega.{arith}
 use lib.Dec.{eqb}
 use lib.ListN.{length, get_or, drop, drop_of_length-le}
 use borrow.Author.Tests.{eq-eqb, ne_eqb, not-true, not-false}
-use Rattle.utf8.specs.Utf8.{if◌then◌else◌, decode, decode_at, well_formed}
+use Rattle.utf8.specs.Utf8.{decode, decode_at, well_formed}
 use Rattle.utf8.specs.declared.Decoded.{Decoded}
 use Rattle.utf8.specs.declared.Decoded.TheVariants.{Char, Bad}
 use Rattle.utf8.specs.Laws.{character}
@@ -35,7 +36,7 @@ after_dash first second b s = if first then (if second then ok (split_long s) el
 
 module _ (l m : Letters) where
   long_name_lem : (os n : List ℕ) (v : Option (List ℕ)) → grouped l os (ok (parts long n v)) ≡ grouped m os (ok (parts long n v))
-  unfolding parts parts_group if◌then◌else◌ ◌>>=◌
+  unfolding parts parts_group ◌>>=◌
   long_name_lem os n v = go (well_formed n)
     where
       name : Bool → Outcome (Option Parts)
@@ -46,7 +47,7 @@ module _ (l m : Letters) where
       go false = refl
 
   long_same : (os s : List ℕ) → grouped l os (ok (split_long s)) ≡ grouped m os (ok (split_long s))
-  unfolding split_long if◌then◌else◌ ◌>>=◌
+  unfolding split_long ◌>>=◌
   long_same os s = go (behind_equals s) refl
     where
       go : (o : Option (List ℕ)) → behind_equals s ≡ o → grouped l os (ok (split_long s)) ≡ grouped m os (ok (split_long s))
@@ -59,7 +60,7 @@ module _ (l m : Letters) where
 
   -- a letter alone is Short, whatever it is
   letter_same : (os : List ℕ) (b : ℕ) → short_group l os (b ∷ []) none ≡ short_group m os (b ∷ []) none
-  unfolding short_group cluster_from decode_at slice_from disambiguate_short null at ◌>>=◌ if◌then◌else◌
+  unfolding short_group cluster_from decode_at slice_from disambiguate_short null at ◌>>=◌
   letter_same os b = go (decode (b ∷ [])) refl
     where
       go : (d : Decoded) → decode (b ∷ []) ≡ d → short_group l os (b ∷ []) none ≡ short_group m os (b ∷ []) none
@@ -70,7 +71,7 @@ module _ (l m : Letters) where
           rw (e, one, cluster_from) refl
 
   one_byte : (os : List ℕ) (b : ℕ) → grouped l os (split_short b []) ≡ grouped m os (split_short b [])
-  unfolding split_short behind_equals parts parts_group if◌then◌else◌ ◌>>=◌
+  unfolding split_short behind_equals parts parts_group ◌>>=◌
   one_byte os b = go (well_formed (b ∷ []))
     where
       name : Bool → Outcome (Option Parts)
@@ -81,7 +82,7 @@ module _ (l m : Letters) where
       go false = refl
 
   plain_same : (os : List ℕ) → plain_argument os ≡ true → split_argument l os ≡ split_argument m os
-  unfolding split_argument split_os_argument behind_dash plain_argument if◌then◌else◌ ◌>>=◌
+  unfolding split_argument split_os_argument behind_dash plain_argument ◌>>=◌
   plain_same [] p = refl
   plain_same (a ∷ []) p = go (eqb a dash)
     where

@@ -10,7 +10,7 @@ use native.Mathlib.Omega.{arith}
 use lib.Dec.{leb, ltb}
 use lib.ListN.{length, drop, length-drop, length-map}
 use borrow.Author.Tests.{ltb-false, leb-true}
-use Rattle.utf8.specs.Utf8.{if◌then◌else◌}
+use Rattle.std.specs.Prelude.{if◌then◌else◌}
 use Rattle.wire.specs.Wire.{area, area_start, offset, table_good, entry_of, HasEntry}
 use Rattle.wire.specs.Laws.{good_table, offset_rises, placed, entry_length}
 use Rattle.rules.specs.Base.{numbers}
@@ -24,7 +24,7 @@ pub record GoodSheet (s : List ℕ) : Type 0 where
   pub small : length (sheet_area s) ≤ 32768
 
 pub good_sheet : (s : List ℕ) → sheet_fault s ≡ 0 → GoodSheet s
-unfolding sheet_fault sheet_good if◌then◌else◌
+unfolding sheet_fault sheet_good
 good_sheet s e = go (ltb (length s) 2) refl (ltb 256 (argument_count s)) refl (sheet_good s) refl e
   where
     go :

@@ -8,7 +8,6 @@ use native.Mathlib.Omega.{arith}
 use lib.ListN.{length, set, take, drop, replicate, length-set, length-replicate, replicate-append-replicate, drop_of_length-le}
 use lib.Seq.{sets, sets-eq, length-sets, length-take-le, set-append_left, drop-length}
 use borrow.Author.Tests.{le-leb}
-use Rattle.utf8.specs.Utf8.{if◌then◌else◌}
 use Rattle.rules.specs.Base.{minus, write}
 use Rattle.rules.specs.Outcome.{ok, ◌>>=◌, at}
 use Rattle.rules.specs.Accept.{Letters}
@@ -40,7 +39,7 @@ marker_of (suc i) = some i
 
 marked_by : (mark n j : ℕ) → j < n
     → construct mark n (some j) ≡ ok (record { marks = set (replicate n 0) j mark; remaining = n - 1; current = none; start = 0; end = n })
-unfolding construct minus at ◌>>=◌ if◌then◌else◌
+unfolding construct minus at ◌>>=◌
 marked_by mark n j h =
     rw (
       write_set (replicate n 0) j mark (omega (arith, length-replicate {A = ℕ} n 0)),

@@ -1,7 +1,7 @@
 -- What `construct` and its parts leave: the line of a sheet, its records in the item slice, and its state.
 use Rattle.std.specs.Prelude.{◌≡◌, Bool, true, not, ◌||◌, List, [], ◌∷◌, ℕ, zero, suc, ◌+◌, ◌-◌, ◌*◌, ◌≤◌, eqb, length, set, replicate, take}
 use Rattle.std.proofs.Math.Option.{Option, some, none}
-use Rattle.utf8.specs.Utf8.{if◌then◌else◌}
+use Rattle.std.specs.Prelude.{if◌then◌else◌}
 use Rattle.rules.specs.Outcome.{Outcome, ok, ◌>>=◌, Refusal}
 use Rattle.rules.specs.Sheet.{sheet_fault, arguments}
 use Rattle.rules.specs.Accept.{Letters}

@@ -1,5 +1,6 @@
 // From the arguments of a sheet to items and a state: the Rust's `construct`.
 #![tactic(auto)]
+
 ghost use Rattle.std.specs.Prelude.{◌≡◌, ◌≤◌, length};
 ghost use Rattle.rules.specs.Base.{all};
 ghost use Rattle.rules.specs.Sheet.{sheet_fault, arguments};

@@ -9,7 +9,7 @@ use lib.Dec.{eqb}
 use lib.ListN.{length, get_or, take, drop, length-drop, length-append, length-map}
 use lib.Seq.{length-take-le, take_all, drop-drop}
 use borrow.Author.Tests.{eq-eqb, ne_eqb}
-use Rattle.utf8.specs.Utf8.{if◌then◌else◌, decode, decode_at, well_formed}
+use Rattle.utf8.specs.Utf8.{decode, decode_at, well_formed}
 use Rattle.utf8.specs.Laws.{well_formed_bad}
 use Rattle.utf8.specs.declared.Decoded.{Decoded}
 use Rattle.utf8.specs.declared.Decoded.TheVariants.{Char, Bad}
@@ -128,7 +128,7 @@ module _ (os : List ℕ) (begin at : ℕ) (o p : List ℕ) (g : Group) (whole : 
       same os (dash ∷ dash ∷ []) ≡ true
       → Puts o at p g 1 0 (record_of (PosWord whole))
       → Makes os begin at o p (record { count = g.count; ambiguous = 0; marker = true }) (ok (word_group os))
-  unfolding word_group if◌then◌else◌ concat_map
+  unfolding word_group concat_map
   a_marker s z =
       rw (s, word_group)
       (record {
@@ -139,7 +139,7 @@ module _ (os : List ℕ) (begin at : ℕ) (o p : List ℕ) (g : Group) (whole : 
       })
 
   pub a_word : same os (dash ∷ dash ∷ []) ≡ false → Puts o at p g 1 0 (record_of (Word whole)) → Makes os begin at o p g (ok (word_group os))
-  unfolding word_group if◌then◌else◌
+  unfolding word_group
   a_word s z =
       makes_one os begin at o p g (ok (word_group os)) (rules.Word os) (Word whole) z (rw (s, word_group))
       (word_record begin (begin + length os) os whole text)
@@ -437,7 +437,7 @@ module _
             k + 1 ≡ length os
             → Puts o at p g (n + 1) 0 (flag_words whole (first_letters name n) ++ record_of (Short c false whole))
             → Out
-        unfolding argument_items if◌then◌else◌ concat_map
+        unfolding argument_items concat_map
         argument_alone s z =
             let none = null_true (drop k name) (omega (arith, length-drop k name, bytes)) in
             makes_argument (n + 1) (record_of (Short c false whole)) (rules.Short c false os ∷ []) (rw none) refl
@@ -449,7 +449,7 @@ module _
             → value ≡ part_of (begin + (k + 1)) (length os - (k + 1))
             → Puts o at p g (n + 2) 0 (flag_words whole (first_letters name n) ++ (record_of (Short c true whole) ++ record_of (Word value)))
             → Out
-        unfolding argument_items if◌then◌else◌ concat_map
+        unfolding argument_items concat_map
         argument_rest value s v z =
             let within = rest_within n c k f in
             let some = null_false (drop k name) (λ x. s (omega (arith, length-drop k name, bytes))) in

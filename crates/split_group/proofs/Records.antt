@@ -1,14 +1,14 @@
 -- The records of the definition's items, as the code's items have them.
-use mathlib.Core.Path.{◌≡◌, refl, sym, ◌∙◌, ap, ap₂}
+use mathlib.Core.Path.{◌≡◌, refl, ◌∙◌, ap, ap₂}
 use mathlib.Core.Bool.{Bool, true, false}
-use mathlib.Core.List.{List, [], ◌∷◌, ◌++◌, append_assoc}
+use mathlib.Core.List.{List, [], ◌∷◌, ◌++◌}
 use Prim.Native.Nat.{ℕ, suc, ◌+◌, ◌-◌, ◌*◌, ◌≤◌}
 use native.Mathlib.Omega.{arith}
 use lib.Dec.{eqb}
 use lib.ListN.{length, take, drop, length-drop, length-append, length-map}
 use lib.Seq.{length-take-le}
 use borrow.Author.Tests.{eqb-true}
-use Rattle.utf8.specs.Utf8.{if◌then◌else◌}
+use Rattle.std.specs.Prelude.{if◌then◌else◌}
 use Rattle.rules.specs.Base.{concat_map}
 use Rattle.rules.specs.Split.{record_words, bit, part_offset, record_with, item_record, item_words, flag_items}
 use Rattle.rules.specs.Split as rules
@@ -23,7 +23,7 @@ abbrev pub PartIs : ℕ → ℕ → Part → Type 0
 PartIs o n p = (part_offset o n ≡ p.offset) × (n ≡ p.length)
 
 part_is : (o n : ℕ) → PartIs o n (part_of o n)
-unfolding part_offset part_of if◌then◌else◌
+unfolding part_offset part_of
 part_is o n = go (eqb n 0) refl
   where
     two : Bool → Part
@@ -38,7 +38,7 @@ abbrev pub TextIs : ℕ → List ℕ → Part → Type 0
 TextIs end t p = PartIs (end - length t) (length t) p
 
 pub no_text : (end : ℕ) → TextIs end [] nothing
-unfolding part_offset if◌then◌else◌
+unfolding part_offset
 no_text end = (refl, refl)
 
 pub text_from :
@@ -62,7 +62,7 @@ module _ (begin end : ℕ) (t : List ℕ) (p : Part) (h : TextIs end t p) where
   -- an item with no name
   unnamed : (kind adjacent character : ℕ)
       → record_words (record_with begin end kind adjacent character [] t) ≡ kind ∷ adjacent ∷ character ∷ 0 ∷ 0 ∷ p.offset ∷ p.length ∷ []
-  unfolding record_words record_with part_offset if◌then◌else◌
+  unfolding record_words record_with part_offset
   unnamed kind adjacent character = ap₂ (λ (o n : ℕ). kind ∷ adjacent ∷ character ∷ 0 ∷ 0 ∷ o ∷ n ∷ []) h.0 h.1
 
   pub short_record : (c : ℕ) (a : Bool) → item_words begin end (rules.Short c a t) ≡ record_of (Short c a p)
@@ -77,15 +77,15 @@ module _ (begin end : ℕ) (t : List ℕ) (p : Part) (h : TextIs end t p) where
   long_record n q a e = rw (e.0, e.1, h.0, h.1)
 
   pub arg_word_record : item_words begin end (rules.ArgWord t) ≡ record_of (ArgWord p)
-  unfolding item_words item_record bit if◌then◌else◌
+  unfolding item_words item_record bit
   arg_word_record = unnamed 3 0 0
 
   pub word_record : item_words begin end (rules.Word t) ≡ record_of (Word p)
-  unfolding item_words item_record bit if◌then◌else◌
+  unfolding item_words item_record bit
   word_record = unnamed 4 0 0
 
   pub pos_word_record : item_words begin end (rules.PosWord t) ≡ record_of (PosWord p)
-  unfolding item_words item_record bit if◌then◌else◌
+  unfolding item_words item_record bit
   pos_word_record = unnamed 5 0 0
 
 pub flag_records :

@@ -8,7 +8,6 @@ use native.Mathlib.Omega.{arith}
 use lib.ListN.{length, set, length-append}
 use lib.Seq.{sets}
 use borrow.Author.Tests.{le-leb, lt-leb}
-use Rattle.utf8.specs.Utf8.{if◌then◌else◌}
 use Rattle.split_arg.specs.declared.Item.{Item}
 use Rattle.split_arg.specs.declared.Item.TheVariants.{Short, Long, ArgWord, Word, PosWord}
 use Rattle.split_arg.specs.Items.{record_of}
@@ -52,11 +51,11 @@ sets_two_behind o p q s v x y at k e h f g =
     ∙ ap (λ (w : List ℕ). sets o (7 * at) w) (append_assoc v (record_of x) (record_of y))
 
 pub no_room : (o : List ℕ) (at n : ℕ) (w : List ℕ) → 256 < at + n → o ≡ stored o at n w
-unfolding stored if◌then◌else◌
+unfolding stored
 no_room o at n w h = rw (lt-leb (at + n) 256 h)
 
 pub has_room : (o : List ℕ) (at n : ℕ) (w : List ℕ) → at + n ≤ 256 → sets o (7 * at) w ≡ stored o at n w
-unfolding stored if◌then◌else◌
+unfolding stored
 has_room o at n w h = rw (le-leb (at + n) 256 h)
 
 pub puts_nothing :

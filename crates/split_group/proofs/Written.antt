@@ -9,11 +9,11 @@ use native.Mathlib.Omega.{arith}
 use lib.Dec.{leb}
 use lib.ListN.{length, set, get_elem?}
 use lib.Seq.{sets, length-sets}
-use Rattle.utf8.specs.Utf8.{if◌then◌else◌}
+use Rattle.std.specs.Prelude.{if◌then◌else◌}
 use Rattle.rules.specs.Base.{concat_map}
 use Rattle.rules.specs.Outcome.{Outcome, ok, ◌>>=◌}
 use Rattle.rules.specs.Accept.{Letters}
-use Rattle.rules.specs.Split.{Cluster, cluster_group, cluster_items, short_group, item_words, Group as Meaning}
+use Rattle.rules.specs.Split.{Cluster, cluster_group, short_group, item_words, Group as Meaning}
 use Rattle.rules.specs.Clusters.{outcome_of, item_count}
 use Rattle.rules.proofs.SplitLaws.{group_length, ok_injective}
 use Rattle.rules.proofs.ClusterLaws.{clusters_known}
@@ -36,7 +36,7 @@ sets_outside (x ∷ w) l i k (inr h) =
     sets_outside w (set l i x) (suc i) k (inr (omega arith)) ∙ set_other l i k x (λ e. omega arith)
 
 stored_untouched : (o : List ℕ) (at n : ℕ) (w : List ℕ) → length w ≡ 7 * n → Untouched o (stored o at n w) at n
-unfolding stored if◌then◌else◌
+unfolding stored
 stored_untouched o at n w e = go (leb (at + n) 256)
   where
     go : (t : Bool) → Untouched o (if t then sets o (7 * at) w else o) at n

@@ -1,5 +1,6 @@
 // From an accepted form and a checked sheet to items: the letters that are looked up are the form's.
 #![tactic(auto)]
+
 ghost use Rattle.std.specs.Prelude.{◌≡◌, length, replicate};
 ghost use Rattle.rules.specs.Form.{read_form};
 ghost use Rattle.rules.specs.Accept.{letters_of};

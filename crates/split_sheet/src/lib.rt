@@ -1,5 +1,6 @@
 // The sheet: whether it is well made, and its arguments, each a part of the sheet.
 #![tactic(auto)]
+
 ghost use Rattle.std.specs.Prelude.{◌≡◌};
 ghost use Rattle.wire.specs.Wire.{offset, entry_of};
 ghost use Rattle.rules.specs.Sheet.{argument_count, sheet_fault};

@@ -6,15 +6,16 @@ use mathlib.Core.Option.{some, none}
 use Prim.Native.Nat.{ℕ, zero, suc, ◌+◌, ◌-◌, ◌≤◌, ◌<◌}
 use native.Mathlib.Nat.{not-suc-le-zero, le_of_suc-le-suc}
 use native.Mathlib.Omega.{arith}
-use lib.Dec.{leb, eqb}
+use lib.Dec.{eqb}
 use lib.ListN.{length, get_or, take, drop, set, get_elem?, replicate, length-append, length-take, length-drop, length-set, take-append-drop}
 use lib.Seq.{length-take-le, take-set-lt, drop-set-lt, take_at, drop_at}
-use borrow.Author.Tests.{eq-eqb, lt-ltb, le-ltb, le-leb, lt-leb, eqb-true, eqb-false, ltb-true, leb-true, not-true}
-use Rattle.utf8.specs.Utf8.{if◌then◌else◌}
+use borrow.Author.Tests.{eq-eqb, lt-ltb, le-ltb, le-leb, lt-leb, eqb-true, eqb-false, ltb-true, not-true}
+use Rattle.std.specs.Prelude.{if◌then◌else◌}
 use Rattle.rules.specs.Base.{all}
 use Rattle.rules.specs.Outcome.{ok, refused, refuse, ◌>>=◌, at}
 use Rattle.rules.specs.Tree.{zeros}
-use Rattle.rules.specs.State.{State, parsed, present_at, present_from, unused, in_scope, remove, with_current, conflicts, save_conflicts, count_present, used_below, mark_good, current_good, state_good}
+use Rattle.rules.specs.State.{State, parsed, present_at, present_from, unused, in_scope, remove, with_current, conflicts, save_conflicts, count_present, used_below, mark_good, current_good}
+use Rattle.rules.specs.State.{state_good}
 use Rattle.rules.specs.Calls.{from_raw, to_raw, state_in}
 use Rattle.rules.specs.Run.{padded}
 use Rattle.rules.specs.Codes.{place_of}
@@ -57,16 +58,16 @@ module _ (mark : ℕ) (m : List ℕ) (p : Numbers) (i : ℕ) (f : Fine m p) (tol
 
   -- a and b are the scope's ends, as the code holds them
   pub below_scope : (a : ℕ) → a ≡ p.start → i < a → Removed mark m p i m p
-  unfolding remove in_scope state_of from_raw if◌then◌else◌
+  unfolding remove in_scope state_of from_raw
   below_scope a start h = kept (rw (lt-leb p.start i (omega arith)))
 
   module _ (a b : ℕ) (start : a ≡ p.start) (end : b ≡ p.end) where
     pub above_scope : a ≤ i → b ≤ i → Removed mark m p i m p
-    unfolding remove in_scope state_of from_raw if◌then◌else◌
+    unfolding remove in_scope state_of from_raw
     above_scope h l = kept (rw (le-leb p.start i (omega arith), le-ltb i p.end (omega arith)))
 
     pub used_before_lem : a ≤ i → i < b → (x : Bool) → x ≡ parsed (get_or m i 0) → x ≡ true → Removed mark m p i m p
-    unfolding remove in_scope state_of from_raw if◌then◌else◌ ◌>>=◌ at
+    unfolding remove in_scope state_of from_raw ◌>>=◌ at
     used_before_lem h l x e g =
         let here = mark_at m p.count i (omega (arith, f.inside)) (fine_long m p f) in
         kept (rw (le-leb p.start i (omega arith), lt-ltb i p.end (omega arith), here, used_of (get_or m i 0) x e g))
@@ -201,11 +202,11 @@ module _ (fields n : ℕ) (x : Raw) where
   kept_test k = rw (eq-eqb _ _ k.count, k.rest, good_test fields n (from_raw x) k.good k.marks)
 
   pub accepted : StateKept fields n x → state_in fields n x ≡ ok (from_raw x)
-  unfolding state_in test if◌then◌else◌
+  unfolding state_in test
   accepted k = rw (kept_test k)
 
   not_in : test fields n x ≡ false → state_in fields n x ≡ refused (refuse 29 none)
-  unfolding state_in test if◌then◌else◌
+  unfolding state_in test
   not_in e = rw e
 
   pub not_kept : (StateKept fields n x → ⊥) → state_in fields n x ≡ refused (refuse 29 none)
@@ -224,7 +225,6 @@ module _ (fields n : ℕ) (x : Raw) where
           absurd (let o : ◌≡◌ {A = ℕ} 0 1 = cc in omega arith)
 
   pub refusing : (StateKept fields n x → ⊥) → state_in fields n x ≡ (if false then ok (from_raw x) else refused (refuse 29 none))
-  unfolding if◌then◌else◌
   refusing h = not_kept h
 
 -- the code's last test decides; a and b are the scope's ends, as the code holds them
@@ -239,7 +239,7 @@ module _ (fields n : ℕ) (x : Raw) (a b : ℕ) (start : a ≡ x.start) (end : b
   pub deciding : x.current ≤ n → all (mark_good (used_below fields) n) (take n x.marks) ≡ true → zeros (drop n x.marks) ≡ true
       → (c : ℕ) → c ≡ count_present (take (b - a) (drop a x.marks))
       → state_in fields n x ≡ (if eqb c x.remaining then ok (from_raw x) else refused (refuse 29 none))
-  unfolding if◌then◌else◌ from_raw
+  unfolding from_raw
   deciding current marks rest c e = go (eqb c x.remaining) refl
     where
       counted : c ≡ length (unused (from_raw x))

@@ -1,11 +1,10 @@
 -- One mark: outside the rules' own proofs, only here are `parsed`, `present`, `winner` and the marks that are written unfolded.
 use mathlib.Core.Path.{◌≡◌, refl, sym, ap, ◌∙◌}
-use mathlib.Core.Bool.{Bool, true, false, not, ◌&&◌}
+use mathlib.Core.Bool.{Bool, true, false, not}
 use Prim.Native.Nat.{ℕ, ◌+◌, ◌-◌, ◌≤◌, ◌<◌}
 use native.Mathlib.Omega.{arith}
-use lib.Dec.{leb, eqb, ltb}
+use lib.Dec.{leb, ltb}
 use borrow.Author.Tests.{eq-eqb, ne_eqb, lt-leb, le-leb, lt-ltb, le-ltb, ltb-true, ltb-false}
-use Rattle.utf8.specs.Utf8.{if◌then◌else◌}
 use Rattle.rules.specs.State.{marker_mark, command_mark, field_mark, parsed, present, winner, used_below, mark_good}
 use Rattle.rules.proofs.CodeLaws.{place_next}
 use Rattle.rules.specs.Base.{minus}
@@ -55,15 +54,15 @@ used_of m x e h = sym (present_is m x e) ∙ ap not h
 
 module _ (m : ℕ) (x : Bool) (e : x ≡ parsed m) where
   pub winner_parsed : x ≡ true → place_of 0 ≡ winner m
-  unfolding place_of winner if◌then◌else◌
+  unfolding place_of winner
   winner_parsed h = rw (← e, h)
 
   pub winner_none : x ≡ false → m < 2 → place_of 0 ≡ winner m
-  unfolding place_of winner minus if◌then◌else◌
+  unfolding place_of winner minus
   winner_none h l = rw (← e, h, lt-leb 2 m l)
 
   pub winner_some : x ≡ false → 2 ≤ m → place_of (m - 1) ≡ winner m
-  unfolding winner minus if◌then◌else◌
+  unfolding winner minus
   winner_some h l =
       let z : m - 1 ≡ m - 2 + 1 = omega arith in
       rw (← e, h, le-leb 2 m l, z, place_next (m - 2))
@@ -88,19 +87,19 @@ field_below fields m h = rw (le-leb 510 m (omega arith)) (go (ltb (m - 512) fiel
 
 module _ (used : ℕ → Bool) (n m : ℕ) where
   pub zero_good : m ≡ 0 → true ≡ mark_good used n m
-  unfolding mark_good if◌then◌else◌
+  unfolding mark_good
   zero_good e = rw (eq-eqb m 0 e)
 
   module _ (zero : m ≡ 0 → ⊥) (x : Bool) (e : x ≡ used m) where
     pub used_good : x ≡ true → true ≡ mark_good used n m
-    unfolding mark_good if◌then◌else◌
+    unfolding mark_good
     used_good h = rw (ne_eqb m 0 zero, ← e, h)
 
     module _ (h : x ≡ false) where
       pub low_bad : m < 2 → false ≡ mark_good used n m
-      unfolding mark_good if◌then◌else◌
+      unfolding mark_good
       low_bad l = rw (ne_eqb m 0 zero, ← e, h, lt-leb 2 m l)
 
       pub winner_good : 2 ≤ m → ltb (m - 2) n ≡ mark_good used n m
-      unfolding mark_good if◌then◌else◌
+      unfolding mark_good
       winner_good l = rw (ne_eqb m 0 zero, ← e, h, le-leb 2 m l)

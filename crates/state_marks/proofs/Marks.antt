@@ -11,10 +11,10 @@ use native.Mathlib.Omega.{arith}
 use lib.Dec.{ltb, eqb}
 use lib.ListN.{length, get_or, take, drop, set, drop_of_length-le, take-append-drop}
 use lib.Seq.{drop-cons, get_or-take, length-take-le, set_at, get_or_at}
-use borrow.Author.Tests.{eq-eqb, ne_eqb, eqb-true, ltb-true, ltb-false, le-leb, not-true, not-false}
-use Rattle.utf8.specs.Utf8.{if◌then◌else◌}
+use borrow.Author.Tests.{eqb-true, ltb-true, ltb-false, not-true, not-false}
+use Rattle.std.specs.Prelude.{if◌then◌else◌}
 use Rattle.rules.specs.Base.{all}
-use Rattle.rules.specs.State.{parsed, present, present_at, present_from, count_present, pick_from, conflicts, mark_good}
+use Rattle.rules.specs.State.{parsed, present, present_at, present_from, count_present, pick_from, conflicts}
 use Rattle.rules.specs.Codes.{place_of}
 use Rattle.rules.proofs.Places.{conflicts_length}
 use Rattle.rules.proofs.CodeLaws.{place_next}
@@ -38,13 +38,13 @@ searched_first m from end h = record { within = h; same = refl }
 
 module _ (m : List ℕ) (end i : ℕ) (h : i < end) (l : end ≤ length m) where
   pub from_used : present (get_or m i 0) ≡ false → present_from m (end - i) i ≡ present_from m (end - (i + 1)) (i + 1)
-  unfolding present_from if◌then◌else◌
+  unfolding present_from
   from_used e =
       let z : end - i ≡ suc (end - suc i) = omega arith in
       rw (z, add-one i, present_at_lem m i (omega arith), e)
 
   pub from_hit : present (get_or m i 0) ≡ true → present_from m (end - i) i ≡ i ∷ present_from m (end - (i + 1)) (i + 1)
-  unfolding present_from if◌then◌else◌
+  unfolding present_from
   from_hit e =
       let z : end - i ≡ suc (end - suc i) = omega arith in
       rw (z, add-one i, present_at_lem m i (omega arith), e)
@@ -75,7 +75,7 @@ pub record FirstAt (m : List ℕ) (k a r : ℕ) : Type 0 where
   pub rest : present_from m k a ≡ r ∷ present_from m (a + k - suc r) (suc r)
 
 hit_case : (m : List ℕ) (k a : ℕ) → (present_from m k a ≡ []) ⊎ ((r : ℕ) × FirstAt m k a r)
-unfolding present_from if◌then◌else◌
+unfolding present_from
 hit_case m zero a = inl refl
 hit_case m (suc k) a = go (present_at m a) refl (hit_case m k (suc a))
   where
@@ -144,11 +144,11 @@ module _ (m : List ℕ) (i to : ℕ) (h : i < to) (l : to ≤ length m) where
 
   pub count_present_lem : present (get_or m i 0) ≡ true
       → count_present (take (to - i) (drop i m)) ≡ suc (count_present (take (to - (i + 1)) (drop (i + 1) m)))
-  unfolding count_present if◌then◌else◌
+  unfolding count_present
   count_present_lem e = ap count_present count_part ∙ rw e
 
   pub count_used : present (get_or m i 0) ≡ false → count_present (take (to - i) (drop i m)) ≡ count_present (take (to - (i + 1)) (drop (i + 1) m))
-  unfolding count_present if◌then◌else◌
+  unfolding count_present
   count_used e = ap count_present count_part ∙ rw e
 
 module _ (m : List ℕ) (from to count i : ℕ) (s : Counting m from to count i) (l : to ≤ length m) where
@@ -209,16 +209,14 @@ module _ (a b : List ℕ) (count i : ℕ) (s : Picking a b count i) (la : count 
 
   pub picking_hit : i < count → (x y d : Bool) → x ≡ parsed (get_or a i 0) → y ≡ parsed (get_or b i 0) → d ≡ xor x y → d ≡ true
       → pick_of (record { first = x; place = i + 1 }) ≡ pick_from 0 (take count a) (take count b)
-  unfolding if◌then◌else◌
   picking_hit h x y d p q e t = pick_at x ∙ sym (pick_step h ∙ rw (← p, ← q, ← e, t))
 
   pub picking_next : i < count → (x y d : Bool) → x ≡ parsed (get_or a i 0) → y ≡ parsed (get_or b i 0) → d ≡ xor x y → d ≡ false
       → Picking a b count (i + 1)
-  unfolding if◌then◌else◌
   picking_next h x y d p q e t = record { within = omega arith; same = sym (pick_step h ∙ rw (← p, ← q, ← e, t)) }
 
   pub picking_last : count ≤ i → pick_of (record { first = true; place = 0 }) ≡ pick_from 0 (take count a) (take count b)
-  unfolding pick_from pick_of place_of if◌then◌else◌
+  unfolding pick_from pick_of place_of
   picking_last h = sym (sym s.same ∙ rw (part_none a count i h la))
 
 xor_same : (x : Bool) → xor x x ≡ false
@@ -236,7 +234,6 @@ blocked_first a b from = record { within = omega arith; alike = λ _ j l h. absu
 
 pub blocked_next : (a b : List ℕ) (from others k : ℕ) → Blocked a b from others k → k < 16
     → (r : ℕ) → r ≡ (if eqb (get_or a (from + k) 0) (get_or b (from + k) 0) then others else 1) → Blocked a b from r (k + 1)
-unfolding if◌then◌else◌
 blocked_next a b from others k s h r w = go (eqb (get_or a (from + k) 0) (get_or b (from + k) 0)) refl w
   where
     go : (c : Bool) → eqb (get_or a (from + k) 0) (get_or b (from + k) 0) ≡ c → r ≡ (if c then others else 1) → Blocked a b from r (k + 1)
@@ -296,7 +293,7 @@ not_both x = go (parsed x)
 
 -- where the marks are the same nothing is in conflict
 alike_kept : (w : ℕ) (m l : List ℕ) (i : ℕ) → i ≤ length m → i ≤ length l → Alike m l 0 i → conflicts w (take i m) (take i l) ≡ take i m
-unfolding conflicts if◌then◌else◌
+unfolding conflicts
 alike_kept w m l zero h k f = refl
 alike_kept w [] l (suc i) h k f = absurd (not-suc-le-zero h)
 alike_kept w (x ∷ m) [] (suc i) h k f = absurd (not-suc-le-zero k)
@@ -397,14 +394,14 @@ module _ (p : ℕ → Bool) (l : List ℕ) (n i : ℕ) (s : AllFrom p (take n l)
 
 module _ (w m l : ℕ) (x : Bool) (e : x ≡ parsed m) where
   pub conflict_used : x ≡ true → m ≡ conflict_mark w m l
-  unfolding conflict_mark if◌then◌else◌
+  unfolding conflict_mark
   conflict_used h = rw (used_of m x e h)
 
   module _ (h : x ≡ false) (y : Bool) (f : y ≡ parsed l) where
     pub conflict_new : y ≡ true → 2 + w ≡ conflict_mark w m l
-    unfolding conflict_mark if◌then◌else◌
+    unfolding conflict_mark
     conflict_new k = rw (present_of m x e h, ← f, k)
 
     pub conflict_none : y ≡ false → m ≡ conflict_mark w m l
-    unfolding conflict_mark if◌then◌else◌
+    unfolding conflict_mark
     conflict_none k = rw (present_of m x e h, ← f, k)

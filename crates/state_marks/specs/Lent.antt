@@ -1,6 +1,6 @@
 -- A state whose marks are lent and whose numbers go by value.
 use Rattle.std.specs.Prelude.{◌≡◌, true, ◌&&◌, List, [], ◌∷◌, ℕ, ◌+◌, ◌≤◌, ◌<◌, length, drop, get_or}
-use Rattle.utf8.specs.Utf8.{if◌then◌else◌}
+use Rattle.std.specs.Prelude.{if◌then◌else◌}
 use Rattle.rules.specs.Outcome.{ok}
 use Rattle.rules.specs.Tree.{zeros}
 use Rattle.rules.specs.State.{State, parsed, present, remove, Picked as Pick}

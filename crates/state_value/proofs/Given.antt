@@ -8,7 +8,6 @@ use native.Mathlib.Omega.{arith}
 use lib.ListN.{length, get_or, take, drop, get_elem?}
 use lib.Seq.{length-take-le, drop-nil}
 use borrow.Author.Tests.{eq-eqb, ne_eqb, lt-ltb, le-ltb, le-leb}
-use Rattle.utf8.specs.Utf8.{if◌then◌else◌}
 use Rattle.rules.specs.Base.{null, slice_from, ◌>>?◌}
 use Rattle.rules.specs.Outcome.{Outcome, ok, ◌>>=◌, at}
 use Rattle.rules.specs.Split.{Item}
@@ -62,7 +61,7 @@ nothing k m l e = rw e
 -- with no items no place is present
 adjacent_plain : (s t : State) → s.start ≤ length s.marks → s.start ≤ length t.marks
     → adjacent_scope s t ≡ ok (until_present s.start (drop s.start s.marks) (drop s.start t.marks) >>? proposed s)
-unfolding adjacent_scope slice_from ◌>>=◌ ◌>>?◌ at if◌then◌else◌
+unfolding adjacent_scope slice_from ◌>>=◌ ◌>>?◌ at
 adjacent_plain s t h l = go (null s.marks) refl
   where
     gone : s.marks ≡ [] → until_present s.start (drop s.start s.marks) (drop s.start t.marks) ≡ none
@@ -145,7 +144,7 @@ module _ (x : Raw) (fine : FineState x) where
           ∙ rw (u.place, e, f, z)
 
       pub scope_none : r ≡ n → adjacent_scope (from_raw x) (from_raw y) ≡ ok none
-      unfolding place_below ◌>>?◌ if◌then◌else◌
+      unfolding place_below ◌>>?◌
       scope_none h = until_is ∙ rw (le-ltb r n (omega arith))
 
       module _ (away : r ≡ n → ⊥) where
@@ -153,11 +152,11 @@ module _ (x : Raw) (fine : FineState x) where
         below_count = let w = u.within in omega arith
 
         pub scope_same : r ≡ x.end → adjacent_scope (from_raw x) (from_raw y) ≡ ok none
-        unfolding place_below proposed from_raw ◌>>?◌ if◌then◌else◌
+        unfolding place_below proposed from_raw ◌>>?◌
         scope_same h = until_is ∙ rw (lt-ltb r n below_count, eq-eqb r x.end h)
 
         pub scope_some : (r ≡ x.end → ⊥) → adjacent_scope (from_raw x) (from_raw y) ≡ ok (some (record { start = x.start; end = r }))
-        unfolding place_below proposed from_raw ◌>>?◌ if◌then◌else◌
+        unfolding place_below proposed from_raw ◌>>?◌
         scope_some h = until_is ∙ rw (lt-ltb r n below_count, ne_eqb r x.end h)
 
   -- ---- `set_scope`
@@ -255,9 +254,9 @@ module _ (x : Raw) (fine : FineState x) where
         item_here = let i = fine.inside in at_below items r (omega (arith, below))
 
         pub conflict_absent : k ≡ 0 → conflict items (from_raw x) ≡ ok none
-        unfolding conflict first find find_in conflict_at ◌>>=◌ at ◌>>?◌ if◌then◌else◌ from_raw place_of
+        unfolding conflict first find find_in conflict_at ◌>>=◌ at ◌>>?◌ from_raw place_of
         conflict_absent h = rw (found, item_here.1, mark_here, ← z, h)
 
         pub conflict_there : (k ≡ 0 → ⊥) → conflict items (from_raw x) ≡ ok (some (record { place = r; winner = k - 1 }))
-        unfolding conflict first find find_in conflict_at ◌>>=◌ at ◌>>?◌ if◌then◌else◌ from_raw
+        unfolding conflict first find find_in conflict_at ◌>>=◌ at ◌>>?◌ from_raw
         conflict_there h = rw (found, item_here.1, mark_here, ← z, place_some k h)

@@ -8,7 +8,7 @@ use native.Mathlib.Numerals.{add-one}
 use native.Mathlib.Omega.{arith}
 use lib.ListN.{length, get_or, take, drop}
 use borrow.Author.Tests.{lt-ltb, le-ltb}
-use Rattle.utf8.specs.Utf8.{if◌then◌else◌}
+use Rattle.std.specs.Prelude.{if◌then◌else◌}
 use Rattle.rules.specs.State.{parsed, present, until_present, span}
 use Rattle.state_marks.proofs.Mark.{present_of, used_of}
 use Rattle.state_marks.proofs.Marks.{part_cons, part_none}
@@ -34,23 +34,21 @@ module _ (a b : List ℕ) (from count i : ℕ) (s : Going a b from count i) (la 
 
   pub going_hit : i < count → (x : Bool) → x ≡ present (get_or a i 0) → x ≡ true
       → (y : Bool) → y ≡ present (get_or b i 0) → y ≡ true → Until a b from count i
-  unfolding place_below if◌then◌else◌
+  unfolding place_below
   going_hit h x e p y f q = record {
     within = omega arith;
     place = rw (lt-ltb i count h) (sym (until_step h ∙ rw (← e, p, ← f, q)));
   }
 
   pub going_ours : i < count → (x : Bool) → x ≡ present (get_or a i 0) → x ≡ false → Going a b from count (i + 1)
-  unfolding if◌then◌else◌
   going_ours h x e p = record { within = omega arith; same = sym (until_step h ∙ rw (← e, p)) }
 
   pub going_theirs : i < count → (x : Bool) → x ≡ present (get_or a i 0) → x ≡ true
       → (y : Bool) → y ≡ present (get_or b i 0) → y ≡ false → Going a b from count (i + 1)
-  unfolding if◌then◌else◌
   going_theirs h x e p y f q = record { within = omega arith; same = sym (until_step h ∙ rw (← e, p, ← f, q)) }
 
   pub going_last : count ≤ i → Until a b from count i
-  unfolding until_present place_below if◌then◌else◌
+  unfolding until_present place_below
   going_last h = record { within = s.within; place = rw (le-ltb i count h) (sym (sym s.same ∙ rw (part_none a count i h la))) }
 
 -- ---- the present places from one on
@@ -64,14 +62,14 @@ spanning_first m from count h = record { within = h; same = refl }
 
 module _ (m : List ℕ) (from count i : ℕ) (s : Spanning m from count i) (l : count ≤ length m) where
   pub spanning_next : i < count → (x : Bool) → x ≡ parsed (get_or m i 0) → x ≡ false → Spanning m from count (i + 1)
-  unfolding span if◌then◌else◌
+  unfolding span
   spanning_next h x e g =
       let z : span (drop i (take count m)) ≡ suc (span (drop (i + 1) (take count m))) =
       rw (part_cons m count i h l, present_of (get_or m i 0) x e g) in
       record { within = omega arith; same = omega (arith, s.same) }
 
   pub spanning_used : i < count → (x : Bool) → x ≡ parsed (get_or m i 0) → x ≡ true → SpanEnd m from count i
-  unfolding span if◌then◌else◌
+  unfolding span
   spanning_used h x e g =
       let z : span (drop i (take count m)) ≡ 0 = rw (part_cons m count i h l, used_of (get_or m i 0) x e g) in
       record { within = omega arith; place = omega (arith, s.same) }

@@ -1,7 +1,7 @@
 -- What the calls hand back: states, options and scopes of the rules.
 use Rattle.std.specs.Prelude.{◌≡◌, List, ℕ, ◌+◌, ◌≤◌, ltb, take, drop}
 use Rattle.std.proofs.Math.Option.{Option, some, none}
-use Rattle.utf8.specs.Utf8.{if◌then◌else◌}
+use Rattle.std.specs.Prelude.{if◌then◌else◌}
 use Rattle.rules.specs.Outcome.{Outcome, ok, ◌>>=◌}
 use Rattle.rules.specs.State.{State, Scope as Range, Conflict, until_present, span}
 use Rattle.rules.specs.Calls.{to_raw}

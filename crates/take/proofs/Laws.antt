@@ -6,17 +6,16 @@ use mathlib.Core.Option.{Option, some, none}
 use Prim.Native.Nat.{ℕ, suc, ◌+◌, ◌-◌, ◌*◌, ◌≤◌, ◌<◌}
 use native.Mathlib.Numerals.{add-one}
 use native.Mathlib.Omega.{arith}
-use lib.Dec.{ltb, eqb}
+use lib.Dec.{ltb}
 use lib.ListN.{length, get_or, get_elem?}
 use borrow.Author.Tests.{le-leb, lt-ltb, le-ltb, ltb-true, not-true, not-false}
 use types.Run.{OneOf}
 use denote.Enum.Declared.{tag_of}
-use Rattle.utf8.specs.Utf8.{if◌then◌else◌}
 use Rattle.rules.specs.Outcome.{Outcome, ok, refused, fault, at, ◌>>=◌}
 use Rattle.rules.specs.Tree.{Named}
 use Rattle.rules.specs.Sheet.{sheet_area, sheet_fault}
 use Rattle.rules.specs.Split as rules
-use Rattle.rules.specs.State.{present, parsed, present_at, present_from, unused, in_scope, get, find_in, find, first, remove, with_current, current_good}
+use Rattle.rules.specs.State.{present, present_at, present_from, unused, in_scope, get, find_in, find, first, remove, with_current, current_good}
 use Rattle.rules.specs.Take.{took, value_text, take_value, take_flag, take_arg, is_operand, operand, take_positional_word, is_command, take_command, take_cmd, matches_arg}
 use Rattle.rules.specs.Calls.{from_raw, item_from}
 use Rattle.rules.specs.Sound.{Good}
@@ -74,7 +73,7 @@ bind_ok o x k e = rw e
 -- the first of some places is found
 first_in : (is : List rules.Item) (i : ℕ) (l : List ℕ) (x : rules.Item) → get_elem? is i ≡ some x
     → find_in is (λ _. true) (i ∷ l) ≡ ok (some (record { place = i; item = x }))
-unfolding find_in at ◌>>=◌ if◌then◌else◌
+unfolding find_in at ◌>>=◌
 first_in is i l x e = rw e
 
 -- `current` set to a place
@@ -261,11 +260,11 @@ module _ (mark : ℕ) (area words m : List ℕ) (p : Numbers) (g : CanTake area 
 
   module _ (is : List rules.Item) (t : Table area words is) (l : length is ≡ p.count) (i : ℕ) (from : a ≤ i) where
     get_none : free_below m e i ≡ false → get is (state_of m p) i ≡ none
-    unfolding get if◌then◌else◌
+    unfolding get
     get_none f = rw (scope_free i from ∙ f)
 
     get_some : i < e → free_below m e i ≡ true → (x : rules.Item) × (get is (state_of m p) i ≡ some x) × (item_from area (record_at words i) ≡ some x)
-    unfolding get if◌then◌else◌
+    unfolding get
     get_some h f =
         let k = ready_inside is l in
         let x = lookup_some is i (omega arith) in
@@ -378,13 +377,13 @@ module _ (mark : ℕ) (area words m : List ℕ) (p : Numbers) (g : CanTake area 
         (x.0, found_by is (λ _. true) ∙ ap (find_in is (λ _. true)) (first_hit m a e r ready_order first_is h).rest ∙ first_in is r _ x.0 x.1, t.0.at r x.0 x.1)
 
     command_missing : (word : List ℕ) → e ≤ r → take_cmd mark is word (state_of m p) ≡ took false (with_current none (state_of m p))
-    unfolding take_cmd take_command is_command ◌>>=◌ if◌then◌else◌
+    unfolding take_cmd take_command is_command ◌>>=◌
     command_missing word h = rw (first_nothing h)
 
     module _ (word : List ℕ) (h : r < e) (c : Bool)
         (said : (x : rules.Item) → item_from area (record_at words r) ≡ some x → c ≡ is_command word (some (record { place = r; item = x }))) where
       command_other : c ≡ false → take_cmd mark is word (state_of m p) ≡ took false (with_current none (state_of m p))
-      unfolding take_cmd take_command ◌>>=◌ if◌then◌else◌
+      unfolding take_cmd take_command ◌>>=◌
       command_other z =
           let x = first_something h in
           let w : is_command word (some (record { place = r; item = x.0 })) ≡ false = sym (said x.0 x.2) ∙ z in
@@ -392,7 +391,7 @@ module _ (mark : ℕ) (area words m : List ℕ) (p : Numbers) (g : CanTake area 
 
       command_taken : c ≡ true → (m' : List ℕ) (q : Numbers) → Removed mark m p r m' q
           → take_cmd mark is word (state_of m p) ≡ took true (with_current (some r) (state_of m' q))
-      unfolding take_cmd take_command ◌>>=◌ if◌then◌else◌
+      unfolding take_cmd take_command ◌>>=◌
       command_taken z m' q d =
           let x = first_something h in
           let w : is_command word (some (record { place = r; item = x.0 })) ≡ true = sym (said x.0 x.2) ∙ z in

@@ -13,7 +13,7 @@ use lib.Seq.{get_or-take, get_or-drop}
 use borrow.Author.Tests.{eqb-true, not-true, not-false}
 use types.Run.{OneOf}
 use denote.Enum.Declared.{tag_of}
-use Rattle.utf8.specs.Utf8.{if◌then◌else◌}
+use Rattle.std.specs.Prelude.{if◌then◌else◌}
 use Rattle.rules.specs.Base.{same}
 use Rattle.rules.specs.Calls.{item_from}
 use Rattle.rules.specs.Sheet.{sheet_area}
@@ -53,12 +53,11 @@ pub record Agrees (area : List ℕ) (item : Item) (x : rules.Item) : Type 0 wher
   pub compared : command_text x ≡ (if compared_item item then some (part_bytes area (text_part item)) else none)
 
 long_compared : (a : Bool) (t : List ℕ) → ◌≡◌ {A = Option (List ℕ)} (if a then none else some t) (if not a then some t else none)
-unfolding if◌then◌else◌
 long_compared true t = refl
 long_compared false t = refl
 
 pub agrees : (area r : List ℕ) (x : rules.Item) → item_from area r ≡ some x → (item : Item) → item ≡ item_of r → Agrees area item x
-unfolding text_of is_pos_word command_text if◌then◌else◌
+unfolding text_of is_pos_word command_text
 agrees area r x e (Short c a t) q =
     let z = is_short_lem area r x e (Short c a t) q c a t refl in
     rw z.0 (record { inside = z.1; text = refl; strict = refl; compared = refl })
@@ -82,7 +81,6 @@ word_at_lem : (words : List ℕ) (i k : ℕ) → k < 7 → get_or (record_at wor
 word_at_lem words i k h = get_or-take 7 (drop (7 * i) words) k 0 h ∙ get_or-drop (7 * i) words k 0
 
 if_text : (b : Bool) (x y : Item) (t : Part) → text_part x ≡ t → text_part y ≡ t → text_part (if b then x else y) ≡ t
-unfolding if◌then◌else◌
 if_text true x y t e f = e
 if_text false x y t e f = f
 
@@ -100,7 +98,7 @@ text_read words i =
 -- of a Word and a PosWord, the kind says which it is
 pub strict_read : (words : List ℕ) (i : ℕ) → operand_kind (get_or words (7 * i) 0) ≡ true
     → eqb (get_or words (7 * i) 0) 5 ≡ strict_item (item_of (record_at words i))
-unfolding item_of operand_kind if◌then◌else◌
+unfolding item_of operand_kind
 strict_read words i h = go (eqb (get_or words (7 * i) 0) 4) refl h
   where
     kind : get_or (record_at words i) 0 0 ≡ get_or words (7 * i) 0
@@ -155,7 +153,7 @@ module _ (s words : List ℕ) (i : ℕ) (item : Item) (q : item ≡ item_of (rec
     Commands r = (x : rules.Item) → item_from (sheet_area s) (record_at words i) ≡ some x → r ≡ is_command word (some (record { place = i; item = x }))
 
     pub no_command : (f : Bool) → f ≡ compared_item item → not f ≡ true → Commands false
-    unfolding is_command if◌then◌else◌
+    unfolding is_command
     no_command f ef n x e =
         let a = agrees (sheet_area s) (record_at words i) x e item q in
         let w : compared_item item ≡ false = sym ef ∙ not-true f n in
@@ -164,7 +162,7 @@ module _ (s words : List ℕ) (i : ℕ) (item : Item) (q : item ≡ item_of (rec
 
     pub a_command : (f : Bool) → f ≡ compared_item item → not f ≡ false → (t : Part) → t ≡ text_part item
         → (y : List ℕ) → y ≡ part_bytes (sheet_area s) t → (r : Bool) → r ≡ same y word → Commands r
-    unfolding is_command if◌then◌else◌
+    unfolding is_command
     a_command f ef n t et y ey r er x e =
         let a = agrees (sheet_area s) (record_at words i) x e item q in
         let w : compared_item item ≡ true = sym ef ∙ not-false f n in

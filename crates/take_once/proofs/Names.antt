@@ -11,7 +11,7 @@ use lib.ListN.{length, take, get_elem?}
 use borrow.Author.Tests.{le-leb}
 use types.Run.{OneOf}
 use denote.Enum.Declared.{tag_of}
-use Rattle.utf8.specs.Utf8.{if◌then◌else◌}
+use Rattle.std.specs.Prelude.{if◌then◌else◌}
 use Rattle.rules.specs.Base.{same, minus, ◌>>?◌}
 use Rattle.rules.specs.Outcome.{at, ◌>>=◌}
 use Rattle.rules.specs.Split as rules
@@ -128,14 +128,13 @@ module _ (area words : List ℕ) (i j : ℕ) (z : Looking area words i j) where
         (ap (position (same_named x) (i - j)) (sym (ap (λ (k : ℕ). reverse (take k is)) b ∙ back_more is (j - 1) y.0 y.1)) ∙ z.same is t l x e)
 
     pub looking_next : r ≡ false → Looking area words i (j - 1)
-    unfolding if◌then◌else◌
     looking_next n = record {
       within = omega (arith, z.within);
       same = λ is t l x e. rw n at (step is t l x e);
     }
 
     pub looking_hit : r ≡ true → Earlier area words i j
-    unfolding if◌then◌else◌ before at minus place_of ◌>>=◌ ◌>>?◌
+    unfolding before at minus place_of ◌>>=◌ ◌>>?◌
     looking_hit n = record {
       within = z.within;
       same = λ is t l.
@@ -148,7 +147,7 @@ module _ (area words : List ℕ) (i j : ℕ) (z : Looking area words i j) where
     }
 
   pub looking_last : j ≤ 0 → Earlier area words i j
-  unfolding position before place_of if◌then◌else◌
+  unfolding position before place_of
   looking_last h = record {
     within = z.within;
     same = λ is t l.

@@ -13,7 +13,7 @@ use lib.Seq.{get_or-take, get_or-drop, drop-drop}
 use borrow.Author.Tests.{leb-true, not-true, not-false, eqb-true, ne_eqb}
 use types.Run.{OneOf}
 use denote.Enum.Declared.{tag_of}
-use Rattle.utf8.specs.Utf8.{if◌then◌else◌}
+use Rattle.std.specs.Prelude.{if◌then◌else◌}
 use Rattle.wire.specs.Wire.{area_start, area as wire_area}
 use Rattle.wire.specs.Laws.{good_table, start_most}
 use Rattle.rules.specs.Base.{contains, ◌>>?◌}
@@ -38,7 +38,6 @@ use Rattle.form_codes.proofs.NameCodes.{shorts_table}
 choose : (area : List ℕ) (x : rules.Item) (t : Bool) (o u : Option rules.Item) (y z : Item)
     → (o ≡ some x → in_area area y ≡ some x) → (u ≡ some x → in_area area z ≡ some x)
     → (if t then o else u) ≡ some x → in_area area (if t then y else z) ≡ some x
-unfolding if◌then◌else◌
 choose area x true o u y z f g e = f e
 choose area x false o u y z f g e = g e
 
@@ -195,7 +194,6 @@ operand_five k h = rw (ne_eqb k 4 h)
 kind_choose : (x : rules.Item) (k j : ℕ) (o u : Option rules.Item)
     → (k ≡ j → o ≡ some x → operand_kind k ≡ is_operand x) → (eqb k j ≡ false → u ≡ some x → operand_kind k ≡ is_operand x)
     → (if eqb k j then o else u) ≡ some x → operand_kind k ≡ is_operand x
-unfolding if◌then◌else◌
 kind_choose x k j o u f g e = go (eqb k j) refl e
   where
     go : (t : Bool) → eqb k j ≡ t → (if t then o else u) ≡ some x → operand_kind k ≡ is_operand x

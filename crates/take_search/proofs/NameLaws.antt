@@ -11,7 +11,6 @@ use lib.Dec.{eqb}
 use lib.ListN.{length, get_or, take, drop, get_elem?, drop_of_length-le}
 use lib.Seq.{drop-cons}
 use borrow.Author.Tests.{eq-eqb, ne_eqb}
-use Rattle.utf8.specs.Utf8.{if◌then◌else◌}
 use Rattle.rules.specs.Base.{contains, same, concat_map}
 use Rattle.rules.specs.Form.{Name, name_count, read_form, name_bytes}
 use Rattle.rules.specs.Tree.{long_of, named_by}
@@ -128,11 +127,11 @@ module _ (b : List ℕ) (k : ℕ) (x : declared.Name) (e : get_elem? (read_form 
   IsLong r = (y : Name) → get_elem? (read_form b).names k ≡ some y → r ≡ contains_name (long_of (read_form b).area y) name
 
   pub not_long_lem : (x.kind ≡ 1 → ⊥) → IsLong false
-  unfolding long_of contains_name if◌then◌else◌
+  unfolding long_of contains_name
   not_long_lem h y f = let w : name_of x ≡ y = cc in rw (← w, ne_eqb x.kind 1 h)
 
   pub long_same : x.kind ≡ 1 → (s : List ℕ) → name_bytes_at (read_form b) k ≡ some s → (r : Bool) → r ≡ same s name → IsLong r
-  unfolding long_of contains_name if◌then◌else◌ name_bytes_at
+  unfolding long_of contains_name name_bytes_at
   long_same h s t r q y f =
       let w : name_of x ≡ y = cc in
       let z : some (name_bytes (read_form b).area (name_of x)) ≡ some s = rw (e, name_bytes_at) at t in

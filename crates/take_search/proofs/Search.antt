@@ -8,7 +8,7 @@ use Prim.Native.Nat.{ℕ, zero, suc, ◌+◌, ◌-◌, ◌≤◌, ◌<◌}
 use native.Mathlib.Nat.{eq-or-lt_of_le}
 use native.Mathlib.Omega.{arith}
 use lib.ListN.{length, get_or, get_elem?}
-use Rattle.utf8.specs.Utf8.{if◌then◌else◌}
+use Rattle.std.specs.Prelude.{if◌then◌else◌}
 use Rattle.rules.specs.Outcome.{ok, at, ◌>>=◌}
 use Rattle.rules.specs.Split.{Item}
 use Rattle.rules.specs.State.{Found, present, present_at, present_from, find_in}
@@ -64,7 +64,7 @@ module _ (area words : List ℕ) (test : Item → Bool) (marks : List ℕ) (from
             (x.0, x.1, said x.0 (t.at i x.0 x.1))
 
         pub seeking_other : r ≡ false → Seeking area words test marks from end (i + 1)
-        unfolding find_in at ◌>>=◌ if◌then◌else◌
+        unfolding find_in at ◌>>=◌
         seeking_other n = record {
           within = omega arith;
           same = λ is t l.
@@ -74,7 +74,7 @@ module _ (area words : List ℕ) (test : Item → Bool) (marks : List ℕ) (from
         }
 
         pub seeking_hit : r ≡ true → Sought area words test marks from end i
-        unfolding find_in at ◌>>=◌ if◌then◌else◌
+        unfolding find_in at ◌>>=◌
         seeking_hit n is t l =
             let x = found is t l in
             let w : test x.0 ≡ true = sym x.2 ∙ n in
@@ -108,7 +108,7 @@ record HitsIn (is : List Item) (test : Item → Bool) (marks : List ℕ) (from e
 
 hits_in : (is : List Item) (test : Item → Bool) (marks : List ℕ) (from end : ℕ) → end ≤ length is → (l : List ℕ) → All (Free marks from end) l
     → (find_in is test l ≡ ok none) ⊎ HitsIn is test marks from end l
-unfolding find_in at ◌>>=◌ if◌then◌else◌
+unfolding find_in at ◌>>=◌
 hits_in is test marks from end h [] f = inl refl
 hits_in is test marks from end h (i ∷ l) f =
     let x = lookup_some is i (omega (arith, f.0.below)) in
@@ -164,7 +164,7 @@ module _ (is : List Item) (test : Item → Bool) (marks : List ℕ) where
   -- a place that is not present, or whose item fails, adds nothing
   find_past : (n a : ℕ) → a < length is → ((x : Item) → present_at marks a ≡ true → get_elem? is a ≡ some x → test x ≡ false)
       → find_in is test (present_from marks (suc n) a) ≡ find_in is test (present_from marks n (suc a))
-  unfolding present_from find_in at ◌>>=◌ if◌then◌else◌
+  unfolding present_from find_in at ◌>>=◌
   find_past n a h f = go (present_at marks a) refl
     where
       go : (b : Bool) → present_at marks a ≡ b
@@ -192,7 +192,7 @@ module _ (is : List Item) (test : Item → Bool) (marks : List ℕ) where
   -- before the place that is found none is
   pub found_first : (n a : ℕ) → a + n ≤ length is → (y : Found) → find_in is test (present_from marks n a) ≡ ok (some y)
       → NoneIn is test marks a y.place
-  unfolding present_from find_in at ◌>>=◌ if◌then◌else◌
+  unfolding present_from find_in at ◌>>=◌
   found_first zero a h y e k l b p x g = let z : ◌≡◌ {A = ℕ} 0 1 = cc in absurd (omega arith)
   found_first (suc n) a h y e k l b p x g =
       go (present_at marks a) refl e (λ e l. found_first n (suc a) (omega arith) y e k l b p x g)

@@ -7,7 +7,7 @@ use Prim.Native.Nat.{ℕ, zero, suc, ◌+◌, ◌*◌, ◌/◌, ◌≤◌}
 use native.Mathlib.Omega.{arith, div_fact}
 use lib.ListN.{length, take, drop, get_elem?}
 use lib.Seq.{drop-drop}
-use Rattle.utf8.specs.Utf8.{if◌then◌else◌}
+use Rattle.std.specs.Prelude.{if◌then◌else◌}
 use Rattle.rules.specs.Outcome.{Outcome, ok, refused, refuse}
 use Rattle.rules.specs.Split.{Item}
 use Rattle.rules.specs.Tree.{zeros}
@@ -47,7 +47,7 @@ front_cons r rs ts f = record { short = omega (arith, f.short); same = at }
     at (suc i) x e = f.same i x e
 
 trimmed_front : (rs : List (List ℕ)) → Front rs (trimmed rs)
-unfolding trimmed if◌then◌else◌
+unfolding trimmed
 trimmed_front [] = front_nil []
 trimmed_front (r ∷ rs) = go (trimmed rs) (trimmed_front rs)
   where
@@ -93,7 +93,7 @@ items_at area (r ∷ rs) is e i x h =
 
 -- the items that a slice is read as
 pub table_in_lem : (area words : List ℕ) (is : List Item) → items_in area words ≡ ok is → Table area words is
-unfolding items_in whole_records ◌>>?◌ if◌then◌else◌
+unfolding items_in whole_records ◌>>?◌
 table_in_lem area words is e = go (zeros (drop (7 * whole) words)) e
   where
     whole : ℕ

@@ -1,5 +1,6 @@
 // Which flags and arguments each item matches, worked out once: bit n of an item's word is set if node n matches the item.
 #![tactic(auto)]
+
 ghost use Rattle.std.specs.Prelude.{◌≡◌, Bool, true, not, ◌&&◌, ◌||◌, List, ℕ, ◌≤◌, ◌<◌, eqb, length, get_or, replicate};
 ghost use Rattle.rules.specs.Accept.{length_good};
 ghost use Rattle.rules.specs.Form.{name_count};

@@ -4,7 +4,7 @@ use mathlib.Core.Bool.{true, false}
 use mathlib.Core.List.{List, [], ◌∷◌}
 use Prim.Native.Nat.{ℕ}
 use Rattle.utf8.specs.declared.Decoded.TheVariants.{Char, Bad}
-use Rattle.utf8.specs.Utf8.{if◌then◌else◌, table, holds, fits, lead_bits, continued, scalar, decode_by, decode, decode_at, well_formed_after, well_formed}
+use Rattle.utf8.specs.Utf8.{table, holds, fits, lead_bits, continued, scalar, decode_by, decode, decode_at, well_formed_after, well_formed}
 
 -- <004D, 0430, 4E8C, 10302>
 sequence : List ℕ
@@ -17,7 +17,7 @@ characters :
     × (decode_at sequence 6 ≡ Char 0x10302 4)
     × (decode_at sequence 10 ≡ Bad)
     × (well_formed sequence ≡ true)
-unfolding sequence decode_at decode decode_by table fits holds scalar continued lead_bits well_formed well_formed_after if◌then◌else◌
+unfolding sequence decode_at decode decode_by table fits holds scalar continued lead_bits well_formed well_formed_after
 characters = (refl, refl, refl, refl, refl, refl)
 
 -- overlong forms, a surrogate, a value above 0x10FFFF, a sequence cut short
@@ -27,5 +27,5 @@ ill_formed :
     × (well_formed (0xED ∷ 0xA0 ∷ 0x80 ∷ []) ≡ false)
     × (well_formed (0xF4 ∷ 0x90 ∷ 0x80 ∷ 0x80 ∷ []) ≡ false)
     × (well_formed (0x41 ∷ 0xE4 ∷ 0xBA ∷ []) ≡ false)
-unfolding decode decode_by table fits holds scalar continued lead_bits well_formed well_formed_after if◌then◌else◌
+unfolding decode decode_by table fits holds scalar continued lead_bits well_formed well_formed_after
 ill_formed = (refl, refl, refl, refl, refl)

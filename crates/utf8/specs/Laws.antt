@@ -1,8 +1,9 @@
 -- Laws of the definition. First the form that the code follows, in which the first byte fixes the row; then what holds of every
 -- character, and of the bytes behind it.
-use Rattle.std.specs.Prelude.{◌≡◌, Bool, true, false, ◌&&◌, ◌||◌, ℕ, zero, suc, ◌+◌, ◌-◌, ◌*◌, ◌/◌, ◌%◌, ◌^◌, ◌≤◌, ◌<◌, leb, ltb, eqb, length, get_or, take}
+use Rattle.std.specs.Prelude.{◌≡◌, Bool, true, false, ◌&&◌, ◌||◌, ℕ, zero, suc, ◌+◌, ◌-◌, ◌*◌, ◌/◌, ◌%◌, ◌^◌, ◌≤◌, ◌<◌, leb, ltb, eqb, length, get_or, take, if◌then◌else◌}
 use Rattle.std.proofs.Math.Path.{refl, ap}
-use Rattle.std.proofs.Common.{sym, ◌∙◌, zero-le, suc-le-suc, add-zero, add_assoc, mod-eq_of_lt, div-mul-le_self, le-div_iff_mul-le, le_trans, arith, lit<, length-drop, drop_of_length-le, pow_pos, length-take-le, drop-drop, get_or-drop, ltb-true, leb-true, eqb-true, le-leb, le-ltb}
+use Rattle.std.proofs.Common.{sym, ◌∙◌, zero-le, suc-le-suc, add-zero, add_assoc, mod-eq_of_lt, div-mul-le_self, le-div_iff_mul-le, le_trans, arith, lit<, length-drop, drop_of_length-le}
+use Rattle.std.proofs.Common.{pow_pos, length-take-le, drop-drop, get_or-drop, ltb-true, leb-true, eqb-true, le-leb, le-ltb}
 use Rattle.std.proofs.Math.Bool.{and-false, and-eq-true_iff}
 use Rattle.std.proofs.lemmas.Bool.{false≢true}
 use mathlib.Core.List.{List, [], ◌∷◌, ◌++◌, map, append-nil}
@@ -13,7 +14,7 @@ use Rattle.std.proofs.lemmas.List.{length-map}
 use Rattle.std.proofs.Math.Seq.{drop-cons}
 use Rattle.utf8.specs.declared.Decoded.{Decoded}
 use Rattle.utf8.specs.declared.Decoded.TheVariants.{Char, Bad}
-use Rattle.utf8.specs.Utf8.{if◌then◌else◌, Range, ◌to◌, table, holds, fits, lead_bits, continued, scalar, decode_by, decode, decode_at, if_char, well_formed_after, well_formed}
+use Rattle.utf8.specs.Utf8.{Range, ◌to◌, table, holds, fits, lead_bits, continued, scalar, decode_by, decode, decode_at, if_char, well_formed_after, well_formed}
 
 -- ---- ranges
 
@@ -56,7 +57,7 @@ free r ((q ∷ rs) ∷ rows) = apart r q && free r rows
 
 module _ (r : Range) (b : ℕ) (s : List ℕ) (h : holds r b ≡ true) where
   passed : (before rows : List (List Range)) → free r before ≡ true → decode_by (before ++ rows) (b ∷ s) ≡ decode_by rows (b ∷ s)
-  unfolding free decode_by fits if◌then◌else◌
+  unfolding free decode_by fits
   passed [] rows e = refl
   passed ([] ∷ before) rows e = absurd (false≢true e)
   passed ((q ∷ rs) ∷ before) rows e =
@@ -82,14 +83,14 @@ module _ (r : Range) (b : ℕ) (s : List ℕ) (h : holds r b ≡ true) where
   by_none e = rw (← append-nil table) (passed table [] e)
 
 pub ascii : (b : ℕ) (s : List ℕ) → b < 0x80 → decode (b ∷ s) ≡ Char b 1
-unfolding table free apart after_lead fits scalar continued lead_bits if◌then◌else◌
+unfolding table free apart after_lead fits scalar continued lead_bits
 ascii b s h =
     by_row (0x00 to 0x7F) b s (inside 0x00 0x7F b (omega arith) (omega arith)) 0 [] refl refl refl
     ∙ ap (λ (v : ℕ). Char v 1) (mod-eq_of_lt h)
 
 -- bytes that are missing may be taken for 0, which stands only at the first place of a row
 padded : (b : ℕ) (s : List ℕ) → decode (b ∷ s) ≡ decode (b ∷ get_or s 0 0 ∷ get_or s 1 0 ∷ get_or s 2 0 ∷ [])
-unfolding decode decode_by table fits holds if◌then◌else◌
+unfolding decode decode_by table fits holds
 padded b [] = simp and-false
 padded b (x ∷ []) = simp and-false
 padded b (x ∷ y ∷ []) = simp and-false
@@ -97,7 +98,7 @@ padded b (x ∷ y ∷ z ∷ s) = refl
 
 module _ (s : List ℕ) (at : ℕ) where
   pub decode_end : length s ≤ at → decode_at s at ≡ Bad
-  unfolding decode_at decode decode_by table fits if◌then◌else◌
+  unfolding decode_at decode decode_by table fits
   decode_end h = rw (drop_of_length-le s h)
 
   pub decode_cons : at < length s → decode_at s at ≡ decode (get_or s at 0 ∷ drop (at + 1) s)
@@ -154,7 +155,7 @@ record Row (s : List ℕ) (value size : ℕ) : Type 0 where
   size≡ : size ≡ length row
 
 row_of : (rows : List (List Range)) (s : List ℕ) (v n : ℕ) → every row_good rows ≡ true → decode_by rows s ≡ Char v n → Row s v n
-unfolding every decode_by if◌then◌else◌
+unfolding every decode_by
 row_of [] s v n g e = absurd (let z : ◌≡◌ {A = ℕ} 0 1 = cc in omega arith)
 row_of (row ∷ rows) s v n g e =
     let p = (and-eq-true_iff (row_good row) (every row_good rows)).0 g in

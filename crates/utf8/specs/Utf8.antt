@@ -1,12 +1,8 @@
 -- UTF-8, from the Unicode Standard, section 3.9: well-formed byte sequences (Table 3-7) and the scalar value that each encodes (Table 3-6).
+use Rattle.std.specs.Prelude.{if◌then◌else◌}
 use Rattle.std.specs.Prelude.{Bool, true, false, ◌&&◌, List, [], ◌∷◌, ℕ, zero, suc, ◌+◌, ◌-◌, ◌*◌, ◌%◌, ◌^◌, leb, length, get_or, take, drop}
 use Rattle.utf8.specs.declared.Decoded.{Decoded}
 use Rattle.utf8.specs.declared.Decoded.TheVariants.{Char, Bad}
-
-infix 1 if◌then◌else◌
-unfoldable pub if◌then◌else◌ : {A : Type 0} → Bool → A → A → A
-if true then a else b = a
-if false then a else b = b
 
 infix 68 ◌to◌
 -- a range of bytes, both ends in it

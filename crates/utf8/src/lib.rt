@@ -1,5 +1,6 @@
 // UTF-8 (the Unicode Standard, Table 3-7): the character at a place of a slice, and whether a slice is well-formed.
 #![tactic(auto)]
+
 ghost use Rattle.std.specs.Prelude.{◌≡◌, [], ◌∷◌, ℕ, ◌≤◌, ◌<◌, length, get_or};
 ghost use Rattle.utf8.specs.Utf8.{◌to◌, holds, decode, decode_at, well_formed};
 ghost use Rattle.utf8.specs.Laws.{after_lead};

@@ -8,7 +8,6 @@ use native.Mathlib.Omega.{arith}
 use lib.Dec.{eqb, ltb}
 use lib.ListN.{length, get_or, get_elem?, replicate}
 use borrow.Author.Tests.{not-true, not-false, eqb-true, lt-ltb, ltb-true, ltb-false}
-use Rattle.utf8.specs.Utf8.{if◌then◌else◌}
 use Rattle.rules.specs.Outcome.{ok, ◌>>=◌}
 use Rattle.rules.specs.Sheet.{sheet_area, arguments}
 use Rattle.rules.specs.Form.{read_form}
@@ -100,7 +99,7 @@ module _ (b s : List ℕ) (i ni na nl : ℕ) (r : RunAnswer) (is os ls : List �
 
   pub answer_refused : (t : Bool) → t ≡ refused_before r.number → t ≡ true → (w : WhyAnswer) → w ≡ unexplained r.number r.place
       → why_answer (why b s i ni na nl) ≡ ended w
-  unfolding explain answer_for if◌then◌else◌
+  unfolding explain answer_for
   answer_refused t h e w d =
       let refused_here : refused_before report.number ≡ true = ap refused_before (sym x.number) ∙ sym h ∙ e in
       let same : unexplained report.number (place_code report.place) ≡ w = rw (← x.number, ← x.place) (sym d) in
@@ -133,7 +132,7 @@ module _ (b s : List ℕ) (i ni na nl : ℕ) (r : RunAnswer) (is os ls : List �
 
     module _ (u : Bool) (g : u ≡ left_in r.number r.state i) where
       pub answer_unleft : not u ≡ true → (w : WhyAnswer) → w ≡ unexplained 28 0 → why_answer (why b s i ni na nl) ≡ ended w
-      unfolding explain answer_for if◌then◌else◌
+      unfolding explain answer_for
       answer_unleft e w d =
           let not_left_lem : is_left ≡ false = sym left_same ∙ sym g ∙ not-true u e in
           ap why_answer (explained ∙ rw (not_before, not_left_lem)) ∙ slices 28 none none w (sym d)
@@ -192,7 +191,7 @@ module _ (b s : List ℕ) (i ni na nl : ℕ) (r : RunAnswer) (is os ls : List �
 
         pub answer_left : (q : Reason) → FindsReason b s is r.state.marks i q
             → why_answer (why b s i ni na nl) ≡ ended (record { number = 0; place = 0; reason = q.code; detail = q.detail })
-        unfolding explain left_place answer_for if◌then◌else◌ ◌>>=◌
+        unfolding explain left_place answer_for ◌>>=◌
         answer_left q h =
             let (p, given, tells) = h.same spot line marked in
             let spotted : left_place b s report i ≡ ok spot = rw (over ends).grouped in

@@ -1,5 +1,6 @@
 // Why a place was left over: the run, and where it ends in 27 the reason for a place that is present.
 #![tactic(auto)]
+
 ghost use Rattle.std.specs.Prelude.{◌≡◌, length};
 ghost use Rattle.std.proofs.Math.Option.{some};
 ghost use Rattle.rules.specs.Why.{refused_before, why as why_of};

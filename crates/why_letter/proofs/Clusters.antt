@@ -2,7 +2,7 @@
 use mathlib.Core.Bool.{Bool, true, false, not, false≢true}
 use mathlib.Core.List.{List, [], ◌∷◌, flatten}
 use mathlib.Core.Logic.{⊎_elim}
-use mathlib.Core.Option.{Option, some, none, some-injective}
+use mathlib.Core.Option.{Option, some, none}
 use mathlib.Core.Path.{◌≡◌, refl, sym, ap, ◌∙◌}
 use Prim.Native.Nat.{ℕ, ◌+◌, ◌-◌, ◌*◌, ◌≤◌}
 use native.Mathlib.Nat.{sub-zero}
@@ -11,7 +11,7 @@ use lib.ListN.{length, take, drop, get_elem?, replicate}
 use borrow.Author.Tests.{not-true, not-false}
 use types.Run.{OneOf}
 use denote.Enum.Declared.{tag_of}
-use Rattle.utf8.specs.Utf8.{if◌then◌else◌, well_formed}
+use Rattle.utf8.specs.Utf8.{well_formed}
 use Rattle.rules.specs.Base.{same, is_some, ◌>>?◌}
 use Rattle.rules.specs.Sheet.{sheet_area, arguments}
 use Rattle.rules.specs.Form.{read_form}
@@ -22,7 +22,7 @@ use Rattle.rules.specs.Calls.{item_from}
 use Rattle.rules.specs.Why.{LeftPlace, line_items, is_whole, argument_at, dashed_name, cluster_letters, first_unknown, unknown_in}
 use Rattle.rules.specs.WhyAnswered.{behind_adjacent, Withdrawn}
 use Rattle.rules.proofs.Acceptance.{lookup_some, is_some_lem}
-use Rattle.rules.proofs.SplitLaws.{ok_injective, same_self}
+use Rattle.rules.proofs.SplitLaws.{same_self}
 use Rattle.rules.proofs.LetterLaws.{SameLetters, argument_same}
 use Rattle.rules.proofs.ArgumentNames.{NameShape, name_shape, shape_parts}
 use Rattle.rules.proofs.WithdrawLaws.{word_withdrawn, stopped, shape_cluster}
@@ -141,7 +141,7 @@ explain_before b codes s words i g = omega (arith, g.line.table.room, g.line.bel
 
 -- no whole argument, no letter
 pub not_whole : (x : LeftPlace) (y : rules.Item) → ((os : List ℕ) → argument_at x.arguments x.groups x.place ≡ some os → is_whole y os ≡ false) → none ≡ unknown_in x y
-unfolding unknown_in ◌>>?◌ if◌then◌else◌
+unfolding unknown_in ◌>>?◌
 not_whole x y h = go (argument_at x.arguments x.groups x.place) refl
   where
     go : (o : Option (List ℕ)) → argument_at x.arguments x.groups x.place ≡ o → none ≡ unknown_in x y
@@ -219,7 +219,7 @@ module _ (b s words : List ℕ) (i : ℕ) where
               rw (word_here y f) (rest_not_whole (letters_of (read_form b)) (arguments s) p.given i text os p.splits p.clear text_there at (behind_is true h)))
 
           whole_told : RestTold words i false → (r : LetterOption) → ClusterTold (letters_of (read_form b)) text r → letter_of r ≡ unknown_in x y
-          unfolding unknown_in is_whole ◌>>?◌ if◌then◌else◌
+          unfolding unknown_in is_whole ◌>>?◌
           whole_told h r told =
               let below = rw same_items at p.below in
               let (os, a) = argument_there (letters_of (read_form b)) (arguments s) p.given i p.splits p.clear below in

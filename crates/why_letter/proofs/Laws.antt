@@ -10,7 +10,7 @@ use lib.ListN.{length, get_or, get_elem?, drop}
 use borrow.Author.Tests.{eq-eqb, ne_eqb, not-true, not-false}
 use types.Run.{OneOf}
 use denote.Enum.Declared.{tag_of}
-use Rattle.utf8.specs.Utf8.{if◌then◌else◌, decode_at, well_formed}
+use Rattle.utf8.specs.Utf8.{decode_at, well_formed}
 use Rattle.utf8.specs.Laws.{character}
 use Rattle.utf8.specs.declared.Decoded.{Decoded}
 use Rattle.utf8.specs.declared.Decoded.TheVariants.{Char, Bad}
@@ -127,7 +127,7 @@ module _ (fl ar name : List ℕ) (at : ℕ) (z : Seeking (letters fl ar) name at
     here = next name z.left at z.further z.good c n (sym d ∙ b)
 
     pub seeking_hit : not r ≡ true → LetterTold (letters fl ar) name (Some c)
-    unfolding first_unknown if◌then◌else◌
+    unfolding first_unknown
     seeking_hit e =
         let unknown : (contains fl c || contains ar c) ≡ false = sym k ∙ not-true r e in
         record {
@@ -136,7 +136,7 @@ module _ (fl ar name : List ℕ) (at : ℕ) (z : Seeking (letters fl ar) name at
         }
 
     pub seeking_next : not r ≡ false → Seeking (letters fl ar) name (at + n)
-    unfolding first_unknown if◌then◌else◌
+    unfolding first_unknown
     seeking_next e =
         let known : (contains fl c || contains ar c) ≡ true = sym k ∙ not-false r e in
         record {

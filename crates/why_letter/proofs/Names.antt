@@ -1,4 +1,5 @@
 -- The name behind one dash, test by test.
+use Rattle.std.specs.Prelude.{if◌then◌else◌}
 use mathlib.Core.Bool.{Bool, true, false, not, ◌&&◌}
 use mathlib.Core.List.{List, [], ◌∷◌}
 use mathlib.Core.Option.{some, none}
@@ -8,7 +9,7 @@ use native.Mathlib.Omega.{arith}
 use lib.Dec.{eqb}
 use lib.ListN.{length, get_or, take, drop}
 use borrow.Author.Tests.{eq-eqb, ne_eqb}
-use Rattle.utf8.specs.Utf8.{if◌then◌else◌, well_formed}
+use Rattle.utf8.specs.Utf8.{well_formed}
 use Rattle.rules.specs.Base.{is_some}
 use Rattle.rules.specs.Split.{dash, equals, behind_equals}
 use Rattle.rules.specs.Why.{dashed_name}
@@ -55,11 +56,11 @@ behind (d ∷ b ∷ s) h = let z : length (d ∷ b ∷ s) - 1 ≡ length (b ∷ 
 module _ (os : List ℕ) (from i : ℕ) (g : NoEquals os from i) where
   module _ (h : i < length os) where
     pub equals_next : (get_or os i 0 ≡ 61 → ⊥) → NoEquals os from (i + 1)
-    unfolding behind_equals equals if◌then◌else◌
+    unfolding behind_equals equals
     equals_next n = record { same = sym (ap behind_equals (one_by os i h) ∙ rw (ne_eqb (get_or os i 0) 61 n)) ∙ g.same }
 
     pub equals_hit : get_or os i 0 ≡ 61 → true ≡ is_some (behind_equals (drop from os))
-    unfolding behind_equals equals is_some if◌then◌else◌
+    unfolding behind_equals equals is_some
     equals_hit e =
         let found : behind_equals (get_or os i 0 ∷ drop (i + 1) os) ≡ some (drop (i + 1) os) = rw (eq-eqb (get_or os i 0) 61 e) in
         sym (ap is_some (sym g.same ∙ ap behind_equals (one_by os i h) ∙ found))
@@ -85,7 +86,7 @@ module _ (os : List ℕ) where
 
     -- the name is there just if all tests pass
     by_tests : is_some (dashed_name os) ≡ tests (drop 2 os)
-    unfolding dashed_name is_some if◌then◌else◌
+    unfolding dashed_name is_some
     by_tests = go os two
       where
         passed : (t : Bool) (n : List ℕ) → is_some (if t then some n else none) ≡ t

@@ -1,5 +1,6 @@
 // The letter for which a cluster was withdrawn: the first that no flag and no argument of the form has.
 #![tactic(auto)]
+
 ghost use Rattle.std.specs.Prelude.{◌≡◌, true, ◌||◌, ◌*◌, ◌≤◌, length, drop, replicate};
 ghost use Rattle.utf8.specs.Utf8.{well_formed};
 ghost use Rattle.rules.specs.Base.{contains, is_some};

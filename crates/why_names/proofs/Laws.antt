@@ -12,7 +12,7 @@ use borrow.Author.Tests.{eq-eqb, ne_eqb, eqb-true, eqb-false}
 use Rattle.rules.specs.Base.{all, contains, ◌>>?◌}
 use Rattle.rules.specs.Form.{Node, Name, node_count, name_count, read_form}
 use Rattle.rules.specs.Tree.{Tree, names_of, named_of}
-use Rattle.rules.specs.Accept.{accepted, length_good}
+use Rattle.rules.specs.Accept.{length_good}
 use Rattle.rules.specs.Split.{Item}
 use Rattle.rules.specs.Take.{matches_arg}
 use Rattle.rules.specs.Calls.{item_from}

@@ -1,5 +1,6 @@
 // What a form has for an item: a flag or an argument of its name; and whether it has a positional.
 #![tactic(auto)]
+
 ghost use Rattle.std.specs.Prelude.{◌≡◌, true, not, ◌<◌};
 ghost use Rattle.rules.specs.Form.{node_count, read_form};
 ghost use Rattle.rules.specs.Accept.{length_good};

@@ -1,5 +1,5 @@
 -- What each part of the search tells, from what its steps give.
-use mathlib.Core.Bool.{Bool, true, false, not, ◌||◌, false≢true}
+use mathlib.Core.Bool.{Bool, true, false, not, false≢true}
 use mathlib.Core.List.{List, [], ◌∷◌}
 use mathlib.Core.Logic.{◌⊎◌, ⊎_elim}
 use mathlib.Core.Option.{Option, some, none}
@@ -9,9 +9,8 @@ use native.Mathlib.Omega.{arith}
 use lib.ListN.{length, get_or, get_elem?}
 use types.Run.{OneOf}
 use denote.Enum.Declared.{tag_of}
-use lib.Dec.{leb}
-use borrow.Author.Tests.{not-true, not-false, eq-eqb, ne_eqb, le-leb, le-ltb, lt-ltb}
-use Rattle.utf8.specs.Utf8.{if◌then◌else◌}
+use borrow.Author.Tests.{not-true, not-false}
+use Rattle.std.specs.Prelude.{if◌then◌else◌}
 use Rattle.rules.specs.Base.{all, ◌>>?◌}
 use Rattle.rules.specs.Outcome.{ok, ◌>>=◌}
 use Rattle.rules.specs.Sheet.{sheet_area}
@@ -20,11 +19,10 @@ use Rattle.rules.specs.Accept.{length_good}
 use Rattle.rules.specs.Split as rules
 use Rattle.rules.specs.Codes.{place_of}
 use Rattle.rules.specs.Calls.{item_from}
-use Rattle.rules.specs.State.{parsed, present, winner, only_once}
-use Rattle.rules.specs.declared.State.{State as Raw}
+use Rattle.rules.specs.State.{parsed, winner, only_once}
 use Rattle.rules.specs.Take.{is_operand}
 use Rattle.rules.specs.Why.{LeftPlace, line_items, lost_choice, given_earlier, reason_code, reason_detail}
-use Rattle.rules.specs.Why.{winner_of, is_name, is_arg_word, used_before, names_item, is_unnamed, no_positionals, is_whole, unknown_in, first_reason, reason_at, refused_before}
+use Rattle.rules.specs.Why.{winner_of, is_name, is_arg_word, used_before, names_item, is_unnamed, no_positionals, is_whole, unknown_in, first_reason, reason_at}
 use Rattle.rules.proofs.Acceptance.{lookup_some, accepted_length}
 use Rattle.rules.proofs.CodeLaws.{place_some}
 use Rattle.rules.proofs.WhyLaws.{earlier_ok}
@@ -86,7 +84,7 @@ module _ (b s words : List ℕ) (i : ℕ) (r : Bool) (h : FormNames b (sheet_are
   nobody y = all (λ (n : Node). not (names_item (read_form b) y n)) (read_form b).nodes
 
   pub name_known : r ≡ true → (q : Reason) → q ≡ told 7 0 → NameTold b s words i q
-  unfolding by_name is_unnamed reason_code reason_detail if◌then◌else◌
+  unfolding by_name is_unnamed reason_code reason_detail
   name_known t q d = record {
     same = λ x y p e n.
         let none_left : nobody y ≡ false = not-true (nobody y) (sym (h.same y (p.table.at i y e)) ∙ t) in
@@ -94,7 +92,7 @@ module _ (b s words : List ℕ) (i : ℕ) (r : Bool) (h : FormNames b (sheet_are
   }
 
   pub name_unknown : r ≡ false → (q : Reason) → q ≡ told 4 0 → NameTold b s words i q
-  unfolding by_name is_unnamed reason_code reason_detail if◌then◌else◌
+  unfolding by_name is_unnamed reason_code reason_detail
   name_unknown f q d = record {
     same = λ x y p e n.
         let all_left : nobody y ≡ true = not-false (nobody y) (sym (h.same y (p.table.at i y e)) ∙ f) in
@@ -112,12 +110,11 @@ before_is marks k m e = rw (e, used_before)
 
 module _ (m : List ℕ) (i : ℕ) (q : Reason) where
   value_is : (u : Bool) → ((x : LeftPlace) → MarkedUp x m i → used_before x.marks x.place ≡ u) → q ≡ told (if u then 3 else 7) 0 → ValueTold m i q
-  unfolding by_value reason_code reason_detail if◌then◌else◌
+  unfolding by_value reason_code reason_detail
   value_is true h d = record { same = λ x p. rw d (rw (h x p) (record { code = refl; detail = refl })) }
   value_is false h d = record { same = λ x p. rw d (rw (h x p) (record { code = refl; detail = refl })) }
 
   pub value_first : i ≡ 0 → q ≡ told 7 0 → ValueTold m i q
-  unfolding if◌then◌else◌
   value_first e d = value_is false (λ x p. ap (used_before x.marks) (p.place ∙ e) ∙ before_first x.marks) d
 
   module _ (behind : i ≡ 0 → ⊥) (u : Bool) (h : u ≡ parsed (get_or m (i - 1) 0)) where
@@ -127,17 +124,15 @@ module _ (m : List ℕ) (i : ℕ) (q : Reason) where
         ap (used_before x.marks) (p.place ∙ n) ∙ before_is x.marks (i - 1) _ (p.same (i - 1) (omega arith)) ∙ sym h
 
     pub value_used : u ≡ true → q ≡ told 3 0 → ValueTold m i q
-    unfolding if◌then◌else◌
     value_used t d = value_is true (λ x p. key_is x p ∙ t) d
 
     pub value_free : u ≡ false → q ≡ told 7 0 → ValueTold m i q
-    unfolding if◌then◌else◌
     value_free f d = value_is false (λ x p. key_is x p ∙ f) d
 
 -- ---- 5 and 6
 module _ (b s words : List ℕ) (i : ℕ) (r : Bool) (h : r ≡ not (no_positionals (read_form b))) where
   pub operand_nobody : not r ≡ true → (q : Reason) → q ≡ told 5 0 → OperandTold b s words i q
-  unfolding by_operand reason_code reason_detail if◌then◌else◌
+  unfolding by_operand reason_code reason_detail
   operand_nobody t q d = record {
     same = λ x y p e.
         let untaken : no_positionals (read_form b) ≡ true = not-false (no_positionals (read_form b)) (sym h ∙ not-true r t) in
@@ -149,7 +144,7 @@ module _ (b s words : List ℕ) (i : ℕ) (r : Bool) (h : r ≡ not (no_position
     taker = not-true (no_positionals (read_form b)) (sym h ∙ not-false r f)
 
     pub operand_letter : (c : ℕ) → u ≡ letter.Some c → (q : Reason) → q ≡ told 6 c → OperandTold b s words i q
-    unfolding by_operand reason_code reason_detail if◌then◌else◌
+    unfolding by_operand reason_code reason_detail
     operand_letter c e q d = record {
       same = λ x y p g.
           let known = sym (k.same x y p g) ∙ ap letter_of e in
@@ -157,7 +152,7 @@ module _ (b s words : List ℕ) (i : ℕ) (r : Bool) (h : r ≡ not (no_position
     }
 
     pub operand_none : u ≡ letter.None → (q : Reason) → q ≡ told 7 0 → OperandTold b s words i q
-    unfolding by_operand reason_code reason_detail if◌then◌else◌
+    unfolding by_operand reason_code reason_detail
     operand_none e q d = record {
       same = λ x y p g.
           let known = sym (k.same x y p g) ∙ ap letter_of e in
@@ -169,7 +164,7 @@ no_letter : (x : LeftPlace) (y : rules.Item) → ((os : List ℕ) → is_whole y
 no_letter x y h = sym (not_whole x y (λ os a. h os))
 
 for_name : (x : LeftPlace) (y : rules.Item) → is_name y ≡ true → by_item x y ≡ by_name x y
-unfolding by_item by_name is_name is_arg_word is_operand is_whole if◌then◌else◌
+unfolding by_item by_name is_name is_arg_word is_operand is_whole
 for_name x (rules.Short c a t) n = rw (no_letter x (rules.Short c a t) (λ os. refl)) refl
 for_name x (rules.Long c a t) n = rw (no_letter x (rules.Long c a t) (λ os. refl)) refl
 for_name x (rules.ArgWord t) n = absurd (false≢true n)
@@ -177,11 +172,11 @@ for_name x (rules.Word t) n = absurd (false≢true n)
 for_name x (rules.PosWord t) n = absurd (false≢true n)
 
 for_value : (x : LeftPlace) (t : List ℕ) → by_item x (rules.ArgWord t) ≡ by_value x
-unfolding by_item by_value is_name is_unnamed is_arg_word is_operand is_whole if◌then◌else◌
+unfolding by_item by_value is_name is_unnamed is_arg_word is_operand is_whole
 for_value x t = rw (no_letter x (rules.ArgWord t) (λ os. refl)) refl
 
 for_operand : (x : LeftPlace) (y : rules.Item) → is_operand y ≡ true → by_item x y ≡ by_operand x y
-unfolding by_item by_operand is_name is_unnamed is_arg_word is_operand if◌then◌else◌
+unfolding by_item by_operand is_name is_unnamed is_arg_word is_operand
 for_operand x (rules.Short c a t) n = absurd (false≢true n)
 for_operand x (rules.Long c a t) n = absurd (false≢true n)
 for_operand x (rules.ArgWord t) n = absurd (false≢true n)

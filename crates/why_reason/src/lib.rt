@@ -1,5 +1,6 @@
 // The first of seven reasons whose fact holds of a place that was left over.
 #![tactic(auto)]
+
 ghost use Rattle.std.specs.Prelude.{◌≡◌, ◌<◌, length};
 ghost use Rattle.why_letter.specs.Withdrawn.{CanExplain};
 ghost use Rattle.why_reason.specs.Reasons.{CanReason, LeftAt, NameTold, ValueTold, OperandTold, ItemTold, FindsReason};

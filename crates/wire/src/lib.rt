@@ -1,5 +1,6 @@
 // Little-endian numbers, counted offset tables, and words written to a slice.
 #![tactic(auto)]
+
 ghost use Rattle.std.specs.Prelude.{◌≡◌, ◌+◌, ◌-◌, ◌^◌, ◌≤◌, ◌<◌, min, length, replicate};
 ghost use Rattle.std.proofs.lemmas.List.Edits.{sets};
 ghost use Rattle.wire.specs.Wire.{number_at, Width, offset, area_start, table_good, entry_of, HasEntry};

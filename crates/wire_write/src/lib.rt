@@ -1,5 +1,6 @@
 // Bytes written to a slice: numbers, other bytes, zeros to the end, and a sheet, argument by argument.
 #![tactic(auto)]
+
 ghost use Rattle.std.specs.Prelude.{◌≡◌, ◌+◌, ◌-◌, ◌%◌, ◌≤◌, min, [], ◌++◌, length, take, replicate};
 ghost use Rattle.std.proofs.lemmas.List.Edits.{sets};
 ghost use Rattle.rules.specs.Run.{padded};

@@ -1,5 +1,4 @@
 -- Each way out is a law of the definition (Ends). Assumes nothing.
-use borrow.Author.Rules.{rules}
 use mathlib.Core.Path.{sym}
 use lib.Seq.{length-take-le}
 use Rattle.bench_input.proofs.Ends.{all_short, all_cut, ends_there, all_bad}

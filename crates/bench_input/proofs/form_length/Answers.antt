@@ -1,5 +1,4 @@
 -- The sum of the parts that the header counts. Assumes nothing.
-use borrow.Author.Rules.{rules}
 use Rattle.bench_input.proofs.Ends.{length_sum}
 use Rattle.bench_input.proofs.form_length.Goals as goal
 

@@ -1,5 +1,4 @@
 -- The bytes before the end. Assumes nothing.
-use borrow.Author.Rules.{rules}
 use Rattle.bench_input.proofs.Ends.{front_length, front}
 use Rattle.bench_input.proofs.form_part.Goals as goal
 

@@ -1,5 +1,4 @@
 -- The bytes from the end on. Assumes nothing.
-use borrow.Author.Rules.{rules}
 use Rattle.bench_input.proofs.Ends.{inside, rest}
 use Rattle.bench_input.proofs.sheet_part.Goals as goal
 

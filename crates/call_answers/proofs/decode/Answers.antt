@@ -1,7 +1,6 @@
 -- The record is that of the enum's case; a size is at most 4, so it fits 32 bits. Assumes nothing.
 use mathlib.Core.Path.{sym, ◌∙◌, ap}
 use native.Mathlib.Omega.{arith}
-use borrow.Author.Rules.{rules}
 use Rattle.utf8.specs.Laws.{character}
 use Rattle.call_answers.specs.Answers.{decoding}
 use Rattle.call_answers.proofs.decode.Goals as goal

@@ -1,4 +1,3 @@
-use borrow.Author.Rules.{rules}
 use Rattle.rules.proofs.GivenLaws.{check_eight, check_length}
 use Rattle.form_layout.proofs.Sizes.{node_below}
 use Rattle.call_check.proofs.Checks.{kind_refused, kind_past, kind_there}

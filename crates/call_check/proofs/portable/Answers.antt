@@ -1,4 +1,3 @@
-use borrow.Author.Rules.{rules}
 use Rattle.form_layout.proofs.Sizes.{check_names}
 use Rattle.call_check.proofs.Checks.{portable_refused, portable_yes, portable_no}
 use Rattle.call_check.proofs.portable.Goals as goal

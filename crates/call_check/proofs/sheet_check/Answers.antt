@@ -1,5 +1,4 @@
 use mathlib.Core.Path.{ap}
-use borrow.Author.Rules.{rules}
 use Rattle.call_check.specs.Reader.{sheet_code}
 use Rattle.call_check.proofs.sheet_check.Goals as goal
 

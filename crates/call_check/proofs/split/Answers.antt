@@ -1,4 +1,3 @@
-use borrow.Author.Rules.{rules}
 use Rattle.call_check.proofs.Splits.{split_state}
 use Rattle.call_check.proofs.split.Goals as goal
 

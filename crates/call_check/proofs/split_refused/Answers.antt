@@ -1,4 +1,3 @@
-use borrow.Author.Rules.{rules}
 use Rattle.call_check.proofs.Splits.{refused_splitting}
 use Rattle.call_check.proofs.split_refused.Goals as goal
 

@@ -16,8 +16,8 @@ loop-i-preserved c =
       most = omega (arith, c.loop-i-test.true);
       small = subst (λ (d : Seen). d.found ≤ d.count + 1) (sym e) (turned_most a.form.now a.sheet.now a.s g _ c.loop-i.i c.loop-i.seen u.small);
       same =
-        u.same ∙ scan_step a.form.now a.sheet.now a.s g a.items.now c.loop-i.i c.loop-i.seen _ c.loop-i-test.true
-        ∙ ap (scan a.form.now a.sheet.now a.s g (drop (c.loop-i.i + 1) a.items.now) (c.loop-i.i + 1)) (sym e);
+          u.same ∙ scan_step a.form.now a.sheet.now a.s g a.items.now c.loop-i.i c.loop-i.seen _ c.loop-i-test.true
+          ∙ ap (scan a.form.now a.sheet.now a.s g (drop (c.loop-i.i + 1) a.items.now) (c.loop-i.i + 1)) (sym e);
     }
 
 pub returns : goal.returns

@@ -1,5 +1,4 @@
 -- 30, 29 and 28, in this order. Assumes nothing.
-use borrow.Author.Rules.{rules}
 use Rattle.call_find.proofs.Ends.{finish_stopped, finish_bad, finish_state, finish_node, finish_none, finish_narrow, finish_some}
 use Rattle.call_find.proofs.finish.Goals as goal
 

@@ -1,6 +1,5 @@
 -- Whether the record is an item, then the place, then the names. Assumes nothing.
 use native.Mathlib.Omega.{arith}
-use borrow.Author.Rules.{rules}
 use Rattle.call_find.proofs.Ends.{judge_stopped, judge_bad, judge_kept, judge_unreached, judge_near, judge_names, judge_item, judge_found, judge_other}
 use Rattle.std.proofs.Math.Path.{ap}
 use mathlib.Core.Bool.{not}

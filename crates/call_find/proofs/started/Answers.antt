@@ -1,5 +1,4 @@
 -- The form, the sheet, then the names of the node. Assumes nothing.
-use borrow.Author.Rules.{rules}
 use mathlib.Core.Logic.{inl}
 use mathlib.Core.Path.{refl}
 use Rattle.rules.proofs.GivenLaws.{check_accepted}

@@ -1,5 +1,4 @@
 -- By the laws of `no_key` and `no_codes`. Assumes nothing.
-use borrow.Author.Rules.{rules}
 use Rattle.call_find.proofs.Ends.{stopped_with}
 use Rattle.call_find.proofs.stopped.Goals as goal
 

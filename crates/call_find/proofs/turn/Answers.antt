@@ -1,5 +1,4 @@
 -- A record that is all 0, a hole, then the record itself. Assumes nothing.
-use borrow.Author.Rules.{rules}
 use Rattle.call_find.proofs.Ends.{turn_zero, turn_hole, turn_next}
 use Rattle.call_find.proofs.turn.Goals as goal
 

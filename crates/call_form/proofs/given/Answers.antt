@@ -1,6 +1,5 @@
 -- Number 0 is a passed test. Assumes nothing.
 use native.Mathlib.Omega.{arith}
-use borrow.Author.Rules.{rules}
 use Rattle.call_form.proofs.Tests.{form_tests, checked_eight, state_tests}
 use Rattle.call_form.proofs.given.Goals as goal
 

@@ -1,5 +1,4 @@
 -- By the kind of the node. Assumes nothing.
-use borrow.Author.Rules.{rules}
 use Rattle.form_layout.proofs.Sizes.{node_below}
 use Rattle.call_form.proofs.Keys.{form_eight, form_long, key_past, key_flag, key_argument, key_other}
 use Rattle.call_form.proofs.key_at.Goals as goal

@@ -1,5 +1,4 @@
 -- By the law of `matches`. Assumes nothing.
-use borrow.Author.Rules.{rules}
 use Rattle.call_form.proofs.Takes.{matched_says}
 use Rattle.call_form.proofs.matched.Goals as goal
 

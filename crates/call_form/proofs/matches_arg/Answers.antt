@@ -1,5 +1,4 @@
 -- By the tests, then by the node and the place. Assumes nothing.
-use borrow.Author.Rules.{rules}
 use Rattle.call_form.proofs.Entries.{tests_names, tests_accepted, key_inside, has_item, matches_refused, matches_none, matches_past, matches_some}
 use Rattle.call_form.proofs.matches_arg.Goals as goal
 

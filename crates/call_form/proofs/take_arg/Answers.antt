@@ -1,5 +1,4 @@
 -- By the tests, then by the node. Assumes nothing.
-use borrow.Author.Rules.{rules}
 use Rattle.call_form.proofs.Entries.{tests_given, tests_accepted, key_inside, arg_refused, arg_none, arg_beyond, arg_some, tests_eight, mark_small}
 use Rattle.rules.proofs.Fields.{mark_parsed}
 use Rattle.call_form.proofs.take_arg.Goals as goal

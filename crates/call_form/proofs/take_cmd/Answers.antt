@@ -1,5 +1,4 @@
 -- By the tests, then by the name record. Assumes nothing.
-use borrow.Author.Rules.{rules}
 use Rattle.call_form.proofs.Entries.{tests_state, tests_accepted, cmd_refused, cmd_none, cmd_name, cmd_some}
 use Rattle.call_form.proofs.take_cmd.Goals as goal
 

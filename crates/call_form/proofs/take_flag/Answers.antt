@@ -1,5 +1,4 @@
 -- By the tests, then by the node. Assumes nothing.
-use borrow.Author.Rules.{rules}
 use Rattle.call_form.proofs.Entries.{tests_given, tests_accepted, key_inside, flag_refused, flag_none, flag_beyond, flag_some, tests_eight, mark_small}
 use Rattle.rules.proofs.Fields.{mark_parsed}
 use Rattle.call_form.proofs.take_flag.Goals as goal

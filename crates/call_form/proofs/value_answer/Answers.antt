@@ -1,5 +1,4 @@
 -- By the kind of the value. Assumes nothing.
-use borrow.Author.Rules.{rules}
 use Rattle.call_form.proofs.Takes.{small_taken, small_refused, answer_missing, answer_taken, answer_refused}
 use Rattle.call_form.proofs.value_answer.Goals as goal
 

@@ -1,5 +1,4 @@
 -- Refused, or what `calls` finds. Assumes nothing.
-use borrow.Author.Rules.{rules}
 use mathlib.Core.Path.{◌∙◌, ap, sym}
 use mathlib.Core.Option.{some}
 use Rattle.state_value.specs.Options.{conflict_of}

@@ -1,5 +1,4 @@
 -- Each way out is one test. Assumes nothing.
-use borrow.Author.Rules.{rules}
 use Rattle.call_item.proofs.Laws.{free_before, free_behind, free_here}
 use Rattle.call_item.proofs.is_free.Goals as goal
 

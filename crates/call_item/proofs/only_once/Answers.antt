@@ -1,5 +1,4 @@
 -- Each refusal in its turn, then the search. Assumes nothing.
-use borrow.Author.Rules.{rules}
 use mathlib.Core.Path.{◌∙◌, ap, sym}
 use mathlib.Core.Option.{some}
 use native.Mathlib.Omega.{arith}

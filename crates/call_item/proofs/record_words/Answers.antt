@@ -1,5 +1,4 @@
 -- Seven words, one after the other. Assumes nothing.
-use borrow.Author.Rules.{rules}
 use Rattle.call_item.proofs.Laws.{record_list}
 use Rattle.call_item.proofs.record_words.Goals as goal
 

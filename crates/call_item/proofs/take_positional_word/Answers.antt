@@ -11,7 +11,9 @@ pub returns-then-number-ne0 : goal.returns-then-number-ne0
 returns-then-number-ne0 c = positional_refused _ _ _ _ _ c.given_state-number.ensures c.if-number-ne0.true ∙ ap some (sym c.unchanged.ensures)
 
 pub returns-then-field-ge-MOST_FIELDS : goal.returns-then-field-ge-MOST_FIELDS
-returns-then-field-ge-MOST_FIELDS c = positional_beyond _ _ _ _ _ c.given_state-number.ensures c.if-number-ne0.false (omega (arith, c.if-field-ge-MOST_FIELDS.true)) ∙ ap some (sym c.unchanged-then-field-ge-MOST_FIELDS.ensures)
+returns-then-field-ge-MOST_FIELDS c =
+    positional_beyond _ _ _ _ _ c.given_state-number.ensures c.if-number-ne0.false (omega (arith, c.if-field-ge-MOST_FIELDS.true))
+    ∙ ap some (sym c.unchanged-then-field-ge-MOST_FIELDS.ensures)
 
 pub field_mark-requires : goal.field_mark-requires
 field_mark-requires c = omega (arith, c.if-field-ge-MOST_FIELDS.false)

@@ -1,5 +1,4 @@
 -- By the mark before, and then by the mark after. Assumes nothing.
-use borrow.Author.Rules.{rules}
 use Rattle.call_preview.proofs.Laws.{not_present, then_parsed}
 use Rattle.call_preview.proofs.is_used.Goals as goal
 

@@ -1,6 +1,6 @@
 use borrow.Author.Rules.{rules}
 use Prim.Native.Nat.{◌-◌}
-use Rattle.call_preview.proofs.Laws.{Looking, looking_first, looking_next, found_here, found_none}
+use Rattle.call_preview.proofs.Laws.{looking_first, looking_next, found_here, found_none}
 use Rattle.call_preview.proofs.next_used.Goals as goal
 
 pub loop-i-init : goal.loop-i-init

@@ -1,5 +1,4 @@
 -- The take's own contract, and the theorem that its places are few. Assumes nothing.
-use borrow.Author.Rules.{rules}
 use Rattle.call_preview.proofs.Laws.{arg_few, arg_told}
 use Rattle.call_preview.proofs.preview_arg.Goals as goal
 

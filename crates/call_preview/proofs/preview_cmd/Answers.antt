@@ -1,5 +1,4 @@
 -- The take's own contract, and the theorem that its places are few. Assumes nothing.
-use borrow.Author.Rules.{rules}
 use Rattle.call_preview.proofs.Laws.{cmd_few, cmd_told}
 use Rattle.call_preview.proofs.preview_cmd.Goals as goal
 

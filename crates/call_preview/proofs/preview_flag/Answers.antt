@@ -1,5 +1,4 @@
 -- The take's own contract, and the theorem that its places are few. Assumes nothing.
-use borrow.Author.Rules.{rules}
 use Rattle.call_preview.proofs.Laws.{flag_few, flag_told}
 use Rattle.call_preview.proofs.preview_flag.Goals as goal
 

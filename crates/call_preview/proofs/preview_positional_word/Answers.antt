@@ -1,5 +1,4 @@
 -- The take's own contract, and the theorem that its places are few. Assumes nothing.
-use borrow.Author.Rules.{rules}
 use Rattle.call_preview.proofs.Laws.{positional_few, positional_told}
 use Rattle.call_preview.proofs.preview_positional_word.Goals as goal
 

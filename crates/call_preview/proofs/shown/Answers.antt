@@ -1,5 +1,4 @@
 -- The places, and the rest as the take told it. Assumes nothing.
-use borrow.Author.Rules.{rules}
 use Rattle.call_preview.proofs.Laws.{made}
 use Rattle.call_preview.proofs.shown.Goals as goal
 

@@ -1,5 +1,4 @@
 -- By the laws of the calls on two states. Assumes nothing.
-use borrow.Author.Rules.{rules}
 use Rattle.call_state.proofs.Entries.{both_fine, adjacent_bad, adjacent_some, adjacent_none}
 use Rattle.std.proofs.Math.Path.{ap}
 use mathlib.Core.Bool.{not}

@@ -1,5 +1,4 @@
 -- The first state decides, then the second. Assumes nothing.
-use borrow.Author.Rules.{rules}
 use Rattle.call_state.proofs.Entries.{first_bad, second_decides}
 use Rattle.call_state.proofs.both_good.Goals as goal
 

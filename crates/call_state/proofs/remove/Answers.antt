@@ -1,6 +1,5 @@
 -- By the laws of the calls on one state. Assumes nothing.
 use native.Mathlib.Omega.{arith}
-use borrow.Author.Rules.{rules}
 use Rattle.call_state.proofs.Entries.{in_fine, remove_bad, remove_past, remove_beyond, remove_done}
 use Rattle.rules.proofs.Fields.{mark_parsed}
 use Rattle.std.proofs.Math.Path.{ap}

@@ -1,6 +1,5 @@
 -- By the laws of the calls on one state. Assumes nothing.
 -- c4 is the place 4 before c.
-use mathlib.Core.Logic.{⊎_elim}
 use native.Mathlib.Omega.{arith}
 use borrow.Author.Rules.{rules}
 use borrow.Author.Tests.{lt-ltb, le-ltb}
@@ -14,9 +13,9 @@ returns-then-not-good c = search scope_bad
 pub returns-then-to-from : goal.returns-then-to-from
 returns-then-to-from c =
     elim c.then-to-from.branch [
-      then-to-from-via-then-to-from w ↦ let h = w.if-to-from.true in search falling
-    | then-to-from-via-else-to-from+then-count-to w ↦
-        let h = lt-ltb c.wide-count.result c.args.to w.if-count-to.true in search leaving
+      | then-to-from-via-then-to-from w ↦ let h = w.if-to-from.true in search falling
+      | then-to-from-via-else-to-from+then-count-to w ↦
+          let h = lt-ltb c.wide-count.result c.args.to w.if-count-to.true in search leaving
     ]
 
 pub set_scope-requires : goal.set_scope-requires

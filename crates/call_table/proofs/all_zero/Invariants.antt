@@ -1,13 +1,9 @@
 -- Invariant: the words up to k are 0. Assumes nothing.
 -- cN is the place N before c.
-use mathlib.Core.Path.{refl, sym}
 use Prim.Native.Nat.{◌-◌}
 use lib.Dec.{eqb}
 use lib.ListN.{length}
-use borrow.Author.Rules.{rules}
-use borrow.Author.Tests.{eq-eqb, ne_eqb}
-use Rattle.rules.specs.Tree.{zeros}
-use Rattle.state_marks.proofs.Marks.{AllFrom, passing_next, passing_fails, passing_last}
+use Rattle.state_marks.proofs.Marks.{AllFrom}
 use Rattle.call_table.proofs.all_zero.Given as goal
 
 abbrev pub invariant-loop-k : goal.invariant-loop-k

@@ -1,5 +1,4 @@
 -- The number of records, the words behind them, then a test of each. Assumes nothing.
-use borrow.Author.Rules.{rules}
 use mathlib.Core.Logic.{inl}
 use mathlib.Core.Path.{refl}
 use Rattle.call_table.proofs.Laws.{start_small, start_within, area_length_lem, checks, checks_tail}

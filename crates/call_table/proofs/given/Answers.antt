@@ -1,8 +1,6 @@
 -- Each test in its turn. Assumes nothing.
 use mathlib.Core.Path.{sym, ◌∙◌}
 use Rattle.call_table.proofs.Laws.{gives_fault, gives_short, gives_bad, gives_good}
-use Rattle.std.proofs.Math.Path.{ap}
-use mathlib.Core.Bool.{not}
 use Rattle.call_table.proofs.given.Goals as goal
 
 pub check-fault-requires : goal.check-fault-requires

@@ -1,5 +1,4 @@
 -- Each way out is one test of the record. Assumes nothing.
-use borrow.Author.Rules.{rules}
 use Rattle.call_table.proofs.Records.{long_above, long_used, long_within}
 use Rattle.call_table.proofs.long_good.Goals as goal
 

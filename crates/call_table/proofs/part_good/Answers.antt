@@ -1,5 +1,4 @@
 -- The sum of two words of 32 bits fits 64. Assumes nothing.
-use borrow.Author.Rules.{rules}
 use Rattle.call_table.proofs.part_good.Goals as goal
 
 pub returns : goal.returns

@@ -1,5 +1,4 @@
 -- The text, then the words of the kind. Assumes nothing.
-use borrow.Author.Rules.{rules}
 use mathlib.Core.Path.{◌∙◌, ap}
 use native.Mathlib.Omega.{arith}
 use Rattle.rules.specs.Tree.{zeros}

@@ -5,8 +5,7 @@ use lib.ListN.{length}
 use Rattle.rules.specs.Base.{is_some}
 use Rattle.rules.specs.Calls.{item_from}
 use native.Mathlib.Omega.{arith}
-use borrow.Author.Rules.{rules}
-use Rattle.call_table.proofs.Records.{record_long, Itemizing, itemizing_first, itemizing_next, itemizing_bad, itemizing_last}
+use Rattle.call_table.proofs.Records.{record_long, itemizing_first, itemizing_next, itemizing_bad, itemizing_last}
 use mathlib.Core.Bool.{not}
 use Rattle.call_table.proofs.records_good.Goals as goal
 

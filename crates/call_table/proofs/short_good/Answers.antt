@@ -1,5 +1,4 @@
 -- Words 3 and 4 are the name. Assumes nothing.
-use borrow.Author.Rules.{rules}
 use mathlib.Core.Path.{◌∙◌, ap}
 use Rattle.rules.specs.Tree.{zeros}
 use Rattle.call_table.proofs.Records.{above, within, words_name}

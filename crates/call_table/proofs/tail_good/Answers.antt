@@ -1,5 +1,4 @@
 -- What is behind the last whole record. Assumes nothing.
-use borrow.Author.Rules.{rules}
 use mathlib.Core.Path.{◌∙◌, ap}
 use Rattle.rules.specs.Tree.{zeros}
 use Rattle.call_table.proofs.Records.{tail_part}

@@ -1,9 +1,8 @@
 use mathlib.Core.Path.{◌∙◌, ap, refl}
 use lib.ListN.{length}
 use native.Mathlib.Omega.{arith, div_fact}
-use borrow.Author.Rules.{rules}
 use Rattle.rules.specs.Tree.{zeros}
-use Rattle.call_table.proofs.Records.{Trimming, trimming_next, trimming_last, trimming_none}
+use Rattle.call_table.proofs.Records.{trimming_next, trimming_last, trimming_none}
 use mathlib.Core.Bool.{not}
 use Rattle.call_table.proofs.trimmed_count.Goals as goal
 

@@ -1,5 +1,4 @@
 -- A record is seven words. Assumes nothing.
-use borrow.Author.Rules.{rules}
 use Rattle.call_table.proofs.Records.{record_part_lem}
 use Rattle.call_table.proofs.words_at.Goals as goal
 

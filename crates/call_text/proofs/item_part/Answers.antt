@@ -2,7 +2,6 @@
 use mathlib.Core.Logic.{inl}
 use mathlib.Core.Path.{refl}
 use native.Mathlib.Omega.{arith}
-use borrow.Author.Rules.{rules}
 use Rattle.call_table.proofs.Laws.{start_small}
 use Rattle.call_text.proofs.Items.{item_small, item_finds}
 use Rattle.call_text.proofs.item_part.Goals as goal

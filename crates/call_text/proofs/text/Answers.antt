@@ -1,5 +1,4 @@
 -- The part that `text_part` names. Assumes nothing.
-use borrow.Author.Rules.{rules}
 use Rattle.call_text.proofs.Words.{sheet_fits, sheet_text, form_fits, form_text}
 use Rattle.call_text.proofs.text.Goals as goal
 

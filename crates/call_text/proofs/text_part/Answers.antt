@@ -1,5 +1,4 @@
 -- Each test in its turn (`Words`). Assumes nothing.
-use borrow.Author.Rules.{rules}
 use Rattle.rules.proofs.GivenLaws.{check_eight}
 use Rattle.call_text.proofs.Words.{form_refused, table_refuses, no_item, has_item, item_part_lem, no_record, has_record, record_part_lem}
 use Rattle.call_text.proofs.text_part.Goals as goal

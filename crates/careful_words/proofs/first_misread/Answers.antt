@@ -2,7 +2,7 @@ use borrow.Author.Rules.{rules}
 use Prim.Native.Nat.{◌-◌}
 use mathlib.Core.Logic.{inl}
 use mathlib.Core.Path.{refl}
-use Rattle.careful_words.proofs.Laws.{line_made, line_start, start_is, ends_fit, CleanTo, clean_from, is_record, clean_on, found_at, found_end}
+use Rattle.careful_words.proofs.Laws.{line_made, line_start, start_is, ends_fit, clean_from, is_record, clean_on, found_at, found_end}
 use Rattle.careful_words.proofs.first_misread.Goals as goal
 
 pub count-requires : goal.count-requires

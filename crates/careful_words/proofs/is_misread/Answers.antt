@@ -1,6 +1,5 @@
 -- By the item and the one before it. Assumes nothing.
 use Rattle.careful_words.proofs.Laws.{looks_plain, looks_word_lem}
-use borrow.Author.Rules.{rules}
 use Rattle.careful_words.proofs.is_misread.Goals as goal
 
 pub returns-then-not-looks_like_options : goal.returns-then-not-looks_like_options

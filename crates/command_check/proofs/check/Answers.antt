@@ -1,4 +1,3 @@
-use borrow.Author.Rules.{rules}
 use Rattle.command_check.proofs.Steps.{table_bad, has_commands}
 use Rattle.command_check.proofs.check.Goals as goal
 

@@ -1,9 +1,8 @@
 use mathlib.Core.Path.{refl}
-use Prim.Native.Nat.{◌-◌, ◌≤◌}
-use native.Mathlib.Omega.{arith}
+use Prim.Native.Nat.{◌-◌}
 use borrow.Author.Rules.{rules}
 use borrow.Author.Count.{below_none}
-use Rattle.command_check.proofs.Steps.{Accepts, few_entries, forms_pass, form_passes, form_fails}
+use Rattle.command_check.proofs.Steps.{few_entries, forms_pass, form_passes, form_fails}
 use Rattle.command_check.proofs.check_forms.Goals as goal
 
 pub entry_count-n-requires : goal.entry_count-n-requires

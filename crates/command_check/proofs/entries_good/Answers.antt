@@ -1,9 +1,8 @@
-use Prim.Native.Nat.{ℕ, ◌<◌, ◌-◌}
+use Prim.Native.Nat.{◌-◌}
 use native.Mathlib.Omega.{arith}
 use borrow.Author.Count.{below_none}
-use Rattle.rules.specs.Commands.{table_entries, entry_good}
 use Rattle.command_layout.proofs.Entries.{good_offsets}
-use Rattle.command_check.proofs.Steps.{PassesAt, has_entry, entry_fails, entry_passes, entries_pass}
+use Rattle.command_check.proofs.Steps.{has_entry, entry_fails, entry_passes, entries_pass}
 use Rattle.command_check.proofs.entries_good.Goals as goal
 
 pub entry_count-n-requires : goal.entry_count-n-requires

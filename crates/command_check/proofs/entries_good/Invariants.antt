@@ -1,10 +1,7 @@
 -- Invariant: the entries below k are good.
 use Prim.Native.Nat.{ℕ, ◌<◌, ◌-◌}
-use native.Mathlib.Omega.{arith}
-use borrow.Author.Count.{below_none}
 use Rattle.rules.specs.Commands.{table_entries, entry_good}
-use Rattle.command_layout.proofs.Entries.{good_offsets}
-use Rattle.command_check.proofs.Steps.{PassesAt, has_entry, entry_fails, entry_passes, entries_pass}
+use Rattle.command_check.proofs.Steps.{PassesAt}
 use Rattle.command_check.proofs.entries_good.Given as goal
 
 abbrev pub invariant-loop-k : goal.invariant-loop-k

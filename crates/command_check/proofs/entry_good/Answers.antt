@@ -1,4 +1,3 @@
-use borrow.Author.Rules.{rules}
 use Rattle.command_check.proofs.Steps.{entry_unfit, entry_fits, entry_misnamed, entry_named}
 use Rattle.command_check.proofs.entry_good.Goals as goal
 

@@ -1,5 +1,4 @@
 use mathlib.Core.Path.{◌∙◌, ap}
-use borrow.Author.Rules.{rules}
 use Rattle.rules.specs.Commands.{entry_good}
 use Rattle.command_check.proofs.entry_good_at.Goals as goal
 

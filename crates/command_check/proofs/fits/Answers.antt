@@ -1,4 +1,3 @@
-use borrow.Author.Rules.{rules}
 use Rattle.command_check.proofs.Steps.{entry_short, many_names, long_area, entry_room}
 use Rattle.command_check.proofs.fits.Goals as goal
 

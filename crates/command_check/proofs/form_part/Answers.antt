@@ -4,7 +4,6 @@ use mathlib.Core.Logic.{inr}
 use native.Mathlib.Omega.{arith}
 use Rattle.command_layout.proofs.Entries.{good_offsets}
 use Rattle.command_check.proofs.Steps.{part_bad, part_offsets, part_none, part_entry, part_fits, part_inside, part_there}
-use borrow.Author.Rules.{rules}
 use Rattle.std.proofs.Math.Path.{ap}
 use mathlib.Core.Bool.{not}
 use Rattle.command_check.proofs.form_part.Goals as goal

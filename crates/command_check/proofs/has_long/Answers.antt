@@ -1,9 +1,6 @@
-use Prim.Native.Nat.{ℕ, ◌<◌, ◌-◌}
-use native.Mathlib.Omega.{arith}
-use borrow.Author.Rules.{rules}
+use Prim.Native.Nat.{◌-◌}
 use borrow.Author.Count.{below_none}
-use Rattle.rules.specs.Commands.{read_command}
-use Rattle.command_check.proofs.Steps.{PassesAt, not_long, long_here, long_later, long_nowhere}
+use Rattle.command_check.proofs.Steps.{long_here, long_later, long_nowhere}
 use Rattle.command_check.proofs.has_long.Goals as goal
 
 pub loop-k-init : goal.loop-k-init

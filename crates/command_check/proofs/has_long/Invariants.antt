@@ -1,10 +1,7 @@
 -- Invariant: none of the names below k is long.
 use Prim.Native.Nat.{ℕ, ◌<◌, ◌-◌}
-use native.Mathlib.Omega.{arith}
-use borrow.Author.Rules.{rules}
-use borrow.Author.Count.{below_none}
 use Rattle.rules.specs.Commands.{read_command}
-use Rattle.command_check.proofs.Steps.{PassesAt, not_long, long_here, long_later, long_nowhere}
+use Rattle.command_check.proofs.Steps.{PassesAt, not_long}
 use Rattle.command_check.proofs.has_long.Given as goal
 
 abbrev pub invariant-loop-k : goal.invariant-loop-k

@@ -1,4 +1,3 @@
-use borrow.Author.Rules.{rules}
 use native.Mathlib.Omega.{arith}
 use Rattle.command_check.proofs.Steps.{other_type, good_type}
 use Rattle.command_check.proofs.name_good.Goals as goal

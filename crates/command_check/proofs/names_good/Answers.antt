@@ -1,9 +1,6 @@
-use Prim.Native.Nat.{ℕ, ◌<◌, ◌-◌}
-use native.Mathlib.Omega.{arith}
-use borrow.Author.Rules.{rules}
+use Prim.Native.Nat.{◌-◌}
 use borrow.Author.Count.{below_none}
-use Rattle.rules.specs.Commands.{read_command, command_name_good}
-use Rattle.command_check.proofs.Steps.{PassesAt, name_fails, name_passes, names_pass}
+use Rattle.command_check.proofs.Steps.{name_fails, name_passes, names_pass}
 use Rattle.command_check.proofs.names_good.Goals as goal
 
 pub loop-k-init : goal.loop-k-init

@@ -1,10 +1,7 @@
 -- Invariant: the names below k are good.
 use Prim.Native.Nat.{ℕ, ◌<◌, ◌-◌}
-use native.Mathlib.Omega.{arith}
-use borrow.Author.Rules.{rules}
-use borrow.Author.Count.{below_none}
 use Rattle.rules.specs.Commands.{read_command, command_name_good}
-use Rattle.command_check.proofs.Steps.{PassesAt, name_fails, name_passes, names_pass}
+use Rattle.command_check.proofs.Steps.{PassesAt}
 use Rattle.command_check.proofs.names_good.Given as goal
 
 abbrev pub invariant-loop-k : goal.invariant-loop-k

@@ -1,6 +1,5 @@
 use mathlib.Core.Logic.{inr}
 use mathlib.Core.Path.{refl}
-use borrow.Author.Rules.{rules}
 use native.Mathlib.Omega.{arith}
 use Rattle.command_check.proofs.Steps.{table_short, no_entries, many_entries, some_entries}
 use Rattle.command_check.proofs.offsets_good.Goals as goal

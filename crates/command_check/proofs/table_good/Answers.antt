@@ -1,4 +1,3 @@
-use borrow.Author.Rules.{rules}
 use Rattle.command_check.proofs.Steps.{offsets_bad, offsets_true, offsets_right}
 use Rattle.command_check.proofs.table_good.Goals as goal
 

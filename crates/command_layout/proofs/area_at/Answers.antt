@@ -1,5 +1,4 @@
 use Rattle.rules.specs.Commands.{entry_area_at}
-use borrow.Author.Rules.{rules}
 use native.Mathlib.Omega.{arith}
 use Rattle.command_layout.proofs.area_at.Goals as goal
 

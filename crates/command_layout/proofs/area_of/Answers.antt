@@ -1,5 +1,4 @@
 use Rattle.rules.specs.Commands.{entry_form_at}
-use borrow.Author.Rules.{rules}
 use native.Mathlib.Omega.{arith}
 use Rattle.command_layout.proofs.Entries.{area_part}
 use Rattle.command_layout.proofs.area_of.Goals as goal

@@ -1,5 +1,4 @@
 use Rattle.rules.specs.Commands.{entry_area_at, entry_form_at}
-use borrow.Author.Rules.{rules}
 use native.Mathlib.Omega.{arith}
 use Rattle.command_layout.proofs.form_at.Goals as goal
 

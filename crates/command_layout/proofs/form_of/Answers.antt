@@ -1,4 +1,3 @@
-use borrow.Author.Rules.{rules}
 use Rattle.command_layout.proofs.Entries.{form_part_lem}
 use Rattle.command_layout.proofs.form_of.Goals as goal
 

@@ -1,6 +1,5 @@
 use lib.ListN.{length-drop}
 use Rattle.rules.specs.Commands.{entry_area_at, entry_form_at}
-use borrow.Author.Rules.{rules}
 use native.Mathlib.Omega.{arith}
 use Rattle.command_layout.proofs.Entries.{record_there}
 use Rattle.command_layout.proofs.name_at.Goals as goal

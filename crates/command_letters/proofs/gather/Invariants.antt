@@ -1,8 +1,6 @@
 -- Invariant: the letters of the forms before k are in. Assumes nothing.
 use Prim.Native.Nat.{◌-◌}
-use native.Mathlib.Omega.{arith}
-use borrow.Author.Rules.{rules}
-use Rattle.command_letters.proofs.Tables.{table_head, table_read, form_names, Gathering, gathering_first, gathering_room, gathering_next, gathering_last}
+use Rattle.command_letters.proofs.Tables.{Gathering}
 use Rattle.command_letters.proofs.gather.Given as goal
 
 abbrev pub invariant-loop-k : goal.invariant-loop-k

@@ -1,5 +1,4 @@
 -- By whether the letter stands at its place. Assumes nothing.
-use mathlib.Core.Logic.{⊎_elim}
 use mathlib.Core.Path.{◌≡◌, sym}
 use Prim.Native.Nat.{ℕ, ◌<◌}
 use lib.ListN.{get_or}
@@ -22,8 +21,8 @@ pub returns : goal.returns
 returns c =
     let at : ℕ = c.place-at.result in
     let apart : at < c.args.n → get_or c.args.out.now at 0 ≡ c.args.letter → ⊥ =
-        elim c.if-at-n.branch [
-          then-at-n+else-out-at w ↦ λ h e. w.if-out-at.false e
-        | else-at-n w ↦ λ h e. omega (arith, w.if-at-n.false)
-        ] in
+    elim c.if-at-n.branch [
+      | then-at-n+else-out-at w ↦ λ h e. w.if-out-at.false e
+      | else-at-n w ↦ λ h e. omega (arith, w.if-at-n.false)
+    ] in
     placed _ _ _ _ c.requires c.place-at.ensures apart _ c.store.ensures

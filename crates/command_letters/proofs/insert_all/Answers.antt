@@ -1,7 +1,6 @@
 use Prim.Native.Nat.{◌-◌}
-use lib.ListN.{length}
 use borrow.Author.Rules.{rules}
-use Rattle.command_letters.proofs.Gathers.{Inserting, inserting_first, inserting_room, inserting_next, inserting_last}
+use Rattle.command_letters.proofs.Gathers.{inserting_first, inserting_room, inserting_next, inserting_last}
 use Rattle.command_letters.proofs.insert_all.Goals as goal
 
 pub loop-k-init : goal.loop-k-init

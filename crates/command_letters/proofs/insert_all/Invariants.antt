@@ -1,8 +1,7 @@
 -- Invariant: the letters below k are in. Assumes nothing.
 use Prim.Native.Nat.{◌-◌}
 use lib.ListN.{length}
-use borrow.Author.Rules.{rules}
-use Rattle.command_letters.proofs.Gathers.{Inserting, inserting_first, inserting_room, inserting_next, inserting_last}
+use Rattle.command_letters.proofs.Gathers.{Inserting}
 use Rattle.command_letters.proofs.insert_all.Given as goal
 
 abbrev pub invariant-loop-k : goal.invariant-loop-k

@@ -1,6 +1,6 @@
 use Prim.Native.Nat.{◌-◌}
 use borrow.Author.Rules.{rules}
-use Rattle.command_letters.proofs.Inserts.{Shifting, shifting_first, shifting_next, shifting_last}
+use Rattle.command_letters.proofs.Inserts.{shifting_first, shifting_next, shifting_last}
 use Rattle.command_letters.proofs.store.Goals as goal
 
 pub loop-k-init : goal.loop-k-init

@@ -1,7 +1,6 @@
 -- Invariant: the words below n and from k on have gone up. Assumes nothing.
 use Prim.Native.Nat.{◌-◌}
-use borrow.Author.Rules.{rules}
-use Rattle.command_letters.proofs.Inserts.{Shifting, shifting_first, shifting_next, shifting_last}
+use Rattle.command_letters.proofs.Inserts.{Shifting}
 use Rattle.command_letters.proofs.store.Given as goal
 
 abbrev pub invariant-loop-k : goal.invariant-loop-k

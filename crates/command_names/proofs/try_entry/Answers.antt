@@ -1,5 +1,4 @@
 -- The long names are tried, and where none is taken the short ones behind them. Assumes nothing.
-use borrow.Author.Rules.{rules}
 use Rattle.command_names.proofs.Laws.{entry_long, entry_can, entry_sum, entry_short}
 use Rattle.command_names.proofs.try_entry.Goals as goal
 

@@ -1,6 +1,5 @@
 use Prim.Native.Nat.{◌-◌}
-use borrow.Author.Rules.{rules}
-use Rattle.command_names.proofs.Laws.{can_head, KindLoop, kind_first, kind_can, kind_below, kind_step, kind_end, kind_sum, kind_taken, kind_next}
+use Rattle.command_names.proofs.Laws.{can_head, kind_first, kind_can, kind_below, kind_step, kind_end, kind_sum, kind_taken, kind_next}
 use Rattle.command_names.proofs.try_kind.Goals as goal
 
 pub name_count-n-requires : goal.name_count-n-requires

@@ -1,7 +1,6 @@
 -- Invariant: the names so far are passed, so that trying those that are left equals the whole. Assumes nothing.
 use Prim.Native.Nat.{◌-◌}
-use borrow.Author.Rules.{rules}
-use Rattle.command_names.proofs.Laws.{can_head, KindLoop, kind_first, kind_can, kind_below, kind_step, kind_end, kind_sum, kind_taken, kind_next}
+use Rattle.command_names.proofs.Laws.{KindLoop}
 use Rattle.command_names.proofs.try_kind.Given as goal
 
 abbrev pub invariant-loop-k : goal.invariant-loop-k

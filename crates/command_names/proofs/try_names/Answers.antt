@@ -1,6 +1,5 @@
 use Prim.Native.Nat.{◌-◌}
-use borrow.Author.Rules.{rules}
-use Rattle.command_names.proofs.Laws.{TableLoop, table_head, table_first, table_step, table_end, table_entry, table_can, table_sum, table_taken, table_next}
+use Rattle.command_names.proofs.Laws.{table_head, table_first, table_step, table_end, table_entry, table_can, table_sum, table_taken, table_next}
 use Rattle.command_names.proofs.try_names.Goals as goal
 
 pub entry_count-n-requires : goal.entry_count-n-requires

@@ -1,7 +1,6 @@
 -- Invariant: the entries so far are passed, so that trying those that are left equals the whole. Assumes nothing.
 use Prim.Native.Nat.{◌-◌}
-use borrow.Author.Rules.{rules}
-use Rattle.command_names.proofs.Laws.{TableLoop, table_head, table_first, table_step, table_end, table_entry, table_can, table_sum, table_taken, table_next}
+use Rattle.command_names.proofs.Laws.{TableLoop}
 use Rattle.command_names.proofs.try_names.Given as goal
 
 abbrev pub invariant-loop-k : goal.invariant-loop-k

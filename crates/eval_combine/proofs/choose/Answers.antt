@@ -1,5 +1,4 @@
 -- By what was picked. Assumes nothing.
-use borrow.Author.Rules.{rules}
 use Rattle.eval_combine.proofs.Choices.{sides_marked, choice_first, choice_second, choice_winner, choice_neither}
 use Rattle.eval_combine.proofs.choose.Goals as goal
 

@@ -1,5 +1,4 @@
 -- By what `parse_fallback` decides. Assumes nothing.
-use borrow.Author.Rules.{rules}
 use Rattle.eval_combine.proofs.Fallbacks.{fallback_child, fallback_own, fallback_passed}
 use Rattle.eval_combine.proofs.fallback.Goals as goal
 

@@ -1,5 +1,4 @@
 -- By what `parse_fallback` decides. Assumes nothing.
-use borrow.Author.Rules.{rules}
 use Rattle.eval_combine.proofs.Fallbacks.{unchanged_child, unchanged_own, unchanged_passed}
 use Rattle.eval_combine.proofs.Unchanged.{made_child, made_own, made_refusal}
 use Rattle.eval_combine.proofs.fallback_unchanged.Goals as goal

@@ -1,5 +1,4 @@
 -- By whether the side has a value. Assumes nothing.
-use borrow.Author.Rules.{rules}
 use Rattle.eval_combine.proofs.Alone.{first_alone_won, first_alone_refused}
 use Rattle.eval_combine.proofs.Unchanged.{made_first, made_first_refused}
 use Rattle.eval_combine.proofs.first_alone.Goals as goal

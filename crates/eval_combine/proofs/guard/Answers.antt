@@ -1,5 +1,4 @@
 -- By what `parse_guard` decides. Assumes nothing.
-use borrow.Author.Rules.{rules}
 use Rattle.eval_combine.proofs.Guards.{guard_refused, guard_within, guard_failed}
 use Rattle.eval_combine.proofs.guard.Goals as goal
 

@@ -1,5 +1,4 @@
 -- By whether a place decided. Assumes nothing.
-use borrow.Author.Rules.{rules}
 use Rattle.eval_combine.proofs.Choices.{marks_kept, marks_saved}
 use Rattle.eval_combine.proofs.mark_conflicts.Goals as goal
 

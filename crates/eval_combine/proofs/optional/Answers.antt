@@ -1,5 +1,4 @@
 -- By what `parse_option` decides. Assumes nothing.
-use borrow.Author.Rules.{rules}
 use Rattle.eval_combine.proofs.Optionals.{optional_present, optional_absent, optional_passed}
 use Rattle.eval_combine.proofs.optional.Goals as goal
 

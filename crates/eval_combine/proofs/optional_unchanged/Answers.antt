@@ -1,5 +1,4 @@
 -- By what `parse_option` decides. Assumes nothing.
-use borrow.Author.Rules.{rules}
 use Rattle.eval_combine.proofs.Optionals.{unchanged_present, unchanged_absent, unchanged_passed}
 use Rattle.eval_combine.proofs.Unchanged.{made_absent, made_passed, made_present}
 use Rattle.eval_combine.proofs.optional_unchanged.Goals as goal

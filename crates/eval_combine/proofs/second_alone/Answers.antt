@@ -1,5 +1,4 @@
 -- By whether the side has a value. Assumes nothing.
-use borrow.Author.Rules.{rules}
 use Rattle.eval_combine.proofs.Alone.{second_alone_won, second_alone_refused}
 use Rattle.eval_combine.proofs.Unchanged.{made_second, made_second_refused}
 use Rattle.eval_combine.proofs.second_alone.Goals as goal

@@ -1,5 +1,4 @@
 -- By the side that was picked. Assumes nothing.
-use borrow.Author.Rules.{rules}
 use Rattle.eval_combine.proofs.Choices.{decided_first, decided_second, winner_first, winner_second}
 use Rattle.eval_combine.proofs.winner.Goals as goal
 

@@ -1,7 +1,7 @@
 -- The three that follow each other are tested as a range. Assumes nothing.
 use mathlib.Core.Option.{none}
 use mathlib.Core.Path.{sym, ap}
-use mathlib.Core.Logic.{⊎_elim, inl, inr}
+use mathlib.Core.Logic.{⊎_elim}
 use Prim.Native.Nat.{ℕ}
 use native.Mathlib.Omega.{arith}
 use Rattle.rules.specs.Base.{contains}

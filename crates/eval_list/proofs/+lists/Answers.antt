@@ -1,12 +1,9 @@
 use borrow.Author.Rules.{rules}
 use native.Mathlib.Omega.{arith}
-use Prim.Native.Nat.{ℕ}
 use mathlib.Core.Path.{◌≡◌, sym}
 use lib.ListN.{length}
-use Rattle.eval_list.proofs.Runs.{writes_long}
 use Rattle.eval_list.proofs.Sides.{aside_ready, second_ready, sides_ready, choice_ends}
 use Rattle.eval_list.proofs.Nodes.{there, done, optional_is, optional_less, optional_ready, many_is, many_ready, some_is, some_ready, choice_less, choice_ready, choice_done}
-use mathlib.Core.Logic.{⊎_elim}
 use mathlib.Core.Path.{◌∙◌}
 use Rattle.eval_list.proofs.Options.{given, shift_ready, present_ends, absent_ends}
 use Rattle.eval_list.proofs.+lists.Goals as goal
@@ -56,11 +53,10 @@ pub run_list-run_some-requires : goal.run_list-run_some-requires
 run_list-run_some-requires t c = some_ready c.requires c.node_at-x.ensures c.in-6.is
 
 pub run_list-run_either-requires : goal.run_list-run_either-requires
-run_list-run_either-requires t c =
-    (
-      choice_less c.requires c.node_at-x.ensures (λ e. omega arith) (λ e. omega arith) (λ e. omega arith) c.decreases,
-      choice_ready c.requires c.node_at-x.ensures (λ e. omega arith) (λ e. omega arith) (λ e. omega arith),
-    )
+run_list-run_either-requires t c = (
+  choice_less c.requires c.node_at-x.ensures (λ e. omega arith) (λ e. omega arith) (λ e. omega arith) c.decreases,
+  choice_ready c.requires c.node_at-x.ensures (λ e. omega arith) (λ e. omega arith) (λ e. omega arith),
+)
 
 pub run_list-returns-in-4 : goal.run_list-returns-in-4
 run_list-returns-in-4 t c = done c.requires (optional_is c.requires c.node_at-x.ensures c.in-4.is) c.run_optional_list.ensures
@@ -88,9 +84,9 @@ run_optional_list-shift-requires t c = shift_ready c.requires c.run_list-ran.ens
 pub run_optional_list-returns : goal.run_optional_list-returns
 run_optional_list-returns t c =
     elim c.if-made.branch [
-      run_optional_list-then-made w ↦
-        λ u g. present_ends c.requires c.run_list-ran.ensures c.optional-made.ensures u g w.if-made.true _ w.wide.ensures
-        _ (w.out-is ∙ w.shift.ensures)
-    | run_optional_list-else-made w ↦
-        λ u g. absent_ends c.requires c.run_list-ran.ensures c.optional-made.ensures u g w.if-made.false _ w.out-is
+      | run_optional_list-then-made w ↦
+          λ u g. present_ends c.requires c.run_list-ran.ensures c.optional-made.ensures u g w.if-made.true _ w.wide.ensures
+          _ (w.out-is ∙ w.shift.ensures)
+      | run_optional_list-else-made w ↦
+          λ u g. absent_ends c.requires c.run_list-ran.ensures c.optional-made.ensures u g w.if-made.false _ w.out-is
     ]

@@ -1,5 +1,4 @@
 -- By whether the repeat was refused. Assumes nothing.
-use borrow.Author.Rules.{rules}
 use Rattle.rules.proofs.EvalSound.{sound_many}
 use Rattle.eval_list.proofs.Rows.{asks, counts, many_refuses, many_ends}
 use Rattle.eval_list.proofs.run_many.Goals as goal

@@ -1,5 +1,4 @@
 -- By whether the repeat was refused, and whether anything was counted. Assumes nothing.
-use borrow.Author.Rules.{rules}
 use Rattle.rules.proofs.EvalSound.{sound_some}
 use Rattle.eval_list.proofs.Rows.{asks, counts, some_refuses, some_nothing, some_ends}
 use Rattle.eval_list.proofs.run_some.Goals as goal

@@ -1,11 +1,7 @@
-use borrow.Author.Rules.{rules}
-use borrow.Fn.Kinds.{In}
-use borrow.Fn.PlainCycle.{Measures, is, falls, and}
-use mathlib.Core.Logic.{⊎_elim}
+use borrow.Fn.PlainCycle.{is}
 use native.Mathlib.Omega.{arith}
-use Prim.Native.Nat.{ℕ, ◌<◌}
 use Rattle.eval_missing.proofs.Nodes.{BegunNode, there, leaf_room, leaf_lists, other_lists, under_less, under_ready, under_lists}
-use Rattle.eval_missing.proofs.Nodes.{sides_ready, first_kept, first_none, second_ready, choice_lists, lists_long}
+use Rattle.eval_missing.proofs.Nodes.{sides_ready, first_kept, first_none, second_ready, choice_lists}
 use Rattle.eval_missing.proofs.+list_node.Goals as goal
 use Rattle.eval_missing.proofs.+list_node.Goals.{then-ends_missing, else-ends_missing}
 
@@ -32,16 +28,15 @@ list_node-at-requires t c =
 pub list_node-requires-in-9 : goal.list_node-requires-in-9
 list_node-requires-in-9 t c =
     let begun : BegunNode c.args.form.now c.args.sheet.now c.args.items.now
-            (record { node = c.node_at-x.result.p; at = c.args.field.at; mark = c.args.mark })
-            c.args.marks.now c.args.p c.args.list.now c.if-ends_missing.list c.if-ends_missing.at =
-        elim c.if-ends_missing.branch [
-          then-ends_missing w ↦
-            first_kept c.requires c.node_at-x.ensures c.in-9.is c.ends_missing.ensures w.if-ends_missing.true
-            (λ u g. w.list_node-at.ensures u g) w.list-is w.at-is
-        | else-ends_missing w ↦
-            first_none c.requires c.node_at-x.ensures c.in-9.is c.ends_missing.ensures w.if-ends_missing.false w.list-is w.at-is
-        ] in
-    (
+    (record { node = c.node_at-x.result.p; at = c.args.field.at; mark = c.args.mark })
+    c.args.marks.now c.args.p c.args.list.now c.if-ends_missing.list c.if-ends_missing.at =
+    elim c.if-ends_missing.branch [
+      | then-ends_missing w ↦
+          first_kept c.requires c.node_at-x.ensures c.in-9.is c.ends_missing.ensures w.if-ends_missing.true
+          (λ u g. w.list_node-at.ensures u g) w.list-is w.at-is
+      | else-ends_missing w ↦
+          first_none c.requires c.node_at-x.ensures c.in-9.is c.ends_missing.ensures w.if-ends_missing.false w.list-is w.at-is
+    ] in (
       omega (arith, (sides_ready c.requires c.node_at-x.ensures c.in-9.is).less₂),
       second_ready c.requires c.node_at-x.ensures c.in-9.is begun,
     )
@@ -52,15 +47,15 @@ returns-in-8 t c = under_lists c.requires c.node_at-x.ensures c.in-8.is c.list_n
 pub returns-after-ends_missing : goal.returns-after-ends_missing
 returns-after-ends_missing t c =
     let begun : BegunNode c.args.form.now c.args.sheet.now c.args.items.now
-            (record { node = c.node_at-x.result.p; at = c.args.field.at; mark = c.args.mark })
-            c.args.marks.now c.args.p c.args.list.now c.if-ends_missing.list c.if-ends_missing.at =
-        elim c.if-ends_missing.branch [
-          then-ends_missing w ↦
-            first_kept c.requires c.node_at-x.ensures c.in-9.is c.ends_missing.ensures w.if-ends_missing.true
-            (λ u g. w.list_node-at.ensures u g) w.list-is w.at-is
-        | else-ends_missing w ↦
-            first_none c.requires c.node_at-x.ensures c.in-9.is c.ends_missing.ensures w.if-ends_missing.false w.list-is w.at-is
-        ] in
+    (record { node = c.node_at-x.result.p; at = c.args.field.at; mark = c.args.mark })
+    c.args.marks.now c.args.p c.args.list.now c.if-ends_missing.list c.if-ends_missing.at =
+    elim c.if-ends_missing.branch [
+      | then-ends_missing w ↦
+          first_kept c.requires c.node_at-x.ensures c.in-9.is c.ends_missing.ensures w.if-ends_missing.true
+          (λ u g. w.list_node-at.ensures u g) w.list-is w.at-is
+      | else-ends_missing w ↦
+          first_none c.requires c.node_at-x.ensures c.in-9.is c.ends_missing.ensures w.if-ends_missing.false w.list-is w.at-is
+    ] in
     choice_lists c.requires c.node_at-x.ensures c.in-9.is begun c.list_node-in-9.ensures
 
 pub returns-in_default : goal.returns-in_default

@@ -1,5 +1,4 @@
 -- The number that the run told. Assumes nothing.
-use borrow.Author.Rules.{rules}
 use Rattle.eval_missing.proofs.Entries.{node_missing}
 use Rattle.eval_missing.proofs.ends_missing.Goals as goal
 

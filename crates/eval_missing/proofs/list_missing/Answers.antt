@@ -1,5 +1,4 @@
 -- By whether the value is a list. Assumes nothing.
-use borrow.Author.Rules.{rules}
 use Rattle.eval_missing.proofs.Nodes.{list_lists, node_ready}
 use Rattle.eval_missing.proofs.list_missing.Goals as goal
 

@@ -1,8 +1,6 @@
 use native.Mathlib.Omega.{arith}
 use Rattle.eval_shortcut.proofs.OneSide.{searchable, first_few, first_ends, second_few, second_ends}
-use Prim.Native.Nat.{ℕ}
 use Rattle.eval_shortcut.proofs.Steps.{choice_sides, choice_ends}
-use borrow.Author.Rules.{rules}
 use Rattle.eval_node.proofs.Lasts.{count_asks, count_refuses, count_ends}
 use Rattle.eval_shortcut.proofs.Steps.{fallback_there, fallback_value_lem}
 use Rattle.eval_shortcut.proofs.OneSide.{searchable, fallback_stays}
@@ -16,11 +14,11 @@ use Rattle.eval_shortcut.proofs.Given.{form_long, node_below, flag_ready, argume
 use Rattle.eval_shortcut.proofs.Given.{optional_says, count_less, count_ready, count_says, last_less, last_ready, last_says, guard_less, guard_ready, guard_says, fallback_less}
 use Rattle.eval_shortcut.proofs.Given.{fallback_ready, choice_less, choice_less₂, choice_ready, choice_says}
 use mathlib.Core.Bool.{true}
-use mathlib.Core.Path.{◌≡◌, refl, sym, ◌∙◌}
+use mathlib.Core.Path.{refl, sym, ◌∙◌}
 use Rattle.eval_shortcut.proofs.Absent.{has_tree}
 use Rattle.eval_shortcut.proofs.Given.{form_long, node_below}
 use Rattle.eval_shortcut.proofs.Wraps.{leaf_within}
-use Rattle.eval_node.proofs.Turns.{if_taken, Turning, turn_first, turn_asks, long_kept, long_wrote, long_wiped, space_kept, turn_fits, turn_ends, turn_stops, turn_refused, turn_less}
+use Rattle.eval_node.proofs.Turns.{if_taken, turn_first, turn_asks, space_kept, turn_fits, turn_ends, turn_stops, turn_refused, turn_less}
 use Rattle.eval_node.proofs.Turns.{turn_space, turn_adds, turn_idles, turn_next}
 use Rattle.eval_shortcut.proofs.Wraps.{leaf_turns, leaf_within, leaf_ran}
 use Rattle.eval_node.proofs.+nodes.Goals as goal

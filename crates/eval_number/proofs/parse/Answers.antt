@@ -1,6 +1,5 @@
 -- The part behind the first byte is the rest of the list. Assumes nothing.
 use mathlib.Core.Path.{◌∙◌}
-use borrow.Author.Rules.{rules}
 use Rattle.eval_number.specs.Number.{number_empty, number_plus, number_plain}
 use Rattle.eval_number.proofs.parse.Goals as goal
 

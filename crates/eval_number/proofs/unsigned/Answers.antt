@@ -1,10 +1,7 @@
 use mathlib.Core.Path.{◌≡◌, sym, ◌∙◌}
-use mathlib.Core.Logic.{⊎_elim}
-use Prim.Native.Nat.{◌+◌, ◌-◌, ◌*◌, ◌≤◌}
+use Prim.Native.Nat.{◌+◌, ◌-◌, ◌*◌}
 use native.Mathlib.Omega.{arith}
-use lib.ListN.{length, drop}
-use borrow.Author.Rules.{rules}
-use borrow.Author.Tests.{ltb-false}
+use lib.ListN.{drop}
 use Rattle.eval_number.specs.Number.{read_on, too_large_lem, digit_next, digit_low, digit_high, digits_end, unsigned_empty, unsigned_some, unsigned_bad}
 use Rattle.eval_number.proofs.unsigned.Goals as goal
 use Rattle.eval_number.proofs.unsigned.Goals.{then-b-lt48-via-then-b-lt48, then-b-lt48-via-else-b-lt48+then-b-gt57}
@@ -14,11 +11,11 @@ use mathlib.Core.Option.{none}
 pub returns-then-b-lt48 : goal.returns-then-b-lt48
 returns-then-b-lt48 c =
     let bad : read_on c.loop-i.n (drop c.loop-i.i c.args.digits.now) ≡ none =
-        elim c.then-b-lt48.branch [
-          then-b-lt48-via-then-b-lt48 w ↦ digit_low _ _ _ _ c.loop-i-test.true c.wide-b.ensures w.if-b-lt48.true
-        | then-b-lt48-via-else-b-lt48+then-b-gt57 w ↦
-            digit_high _ _ _ _ c.loop-i-test.true c.wide-b.ensures w.if-b-lt48.false (lt-ltb _ _ w.if-b-gt57.true)
-        ] in
+    elim c.then-b-lt48.branch [
+      | then-b-lt48-via-then-b-lt48 w ↦ digit_low _ _ _ _ c.loop-i-test.true c.wide-b.ensures w.if-b-lt48.true
+      | then-b-lt48-via-else-b-lt48+then-b-gt57 w ↦
+          digit_high _ _ _ _ c.loop-i-test.true c.wide-b.ensures w.if-b-lt48.false (lt-ltb _ _ w.if-b-gt57.true)
+    ] in
     unsigned_bad _ _ _ c.loop-i-test.true c.loop-i.invariant.1.1 bad
 
 pub returns-then-n-gt4294967295 : goal.returns-then-n-gt4294967295

@@ -1,13 +1,9 @@
 -- Invariant: the value of the digits passed is no larger than the largest number, and the rest is read on from it. Measure: what is
 -- left. Assumes nothing.
-use mathlib.Core.Path.{◌≡◌, sym, ◌∙◌}
-use mathlib.Core.Logic.{⊎_elim}
-use Prim.Native.Nat.{◌+◌, ◌-◌, ◌*◌, ◌≤◌}
-use native.Mathlib.Omega.{arith}
+use mathlib.Core.Path.{◌≡◌}
+use Prim.Native.Nat.{◌-◌, ◌≤◌}
 use lib.ListN.{length, drop}
-use borrow.Author.Rules.{rules}
-use borrow.Author.Tests.{ltb-false}
-use Rattle.eval_number.specs.Number.{read_on, too_large_lem, digit_next, digit_low, digit_high, digits_end, unsigned_empty, unsigned_some, unsigned_bad}
+use Rattle.eval_number.specs.Number.{read_on}
 use Rattle.eval_number.proofs.unsigned.Given as goal
 
 abbrev pub invariant-loop-i : goal.invariant-loop-i

@@ -1,6 +1,5 @@
 -- By what was taken. Assumes nothing.
 use native.Mathlib.Omega.{arith}
-use borrow.Author.Rules.{rules}
 use Rattle.eval_params.proofs.Places.{value_place_lem, key_place}
 use Rattle.eval_params.proofs.Laws.{argument_missing, argument_taken, argument_refused}
 use Rattle.eval_params.proofs.eval_argument_from.Goals as goal

@@ -1,6 +1,5 @@
 -- From the start of the scope. Assumes nothing.
 use native.Mathlib.Omega.{arith}
-use borrow.Author.Rules.{rules}
 use Rattle.take.proofs.Laws.{skip_none}
 use Rattle.eval_params.proofs.eval_flag.Goals as goal
 

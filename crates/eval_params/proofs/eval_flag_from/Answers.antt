@@ -1,5 +1,4 @@
 -- By what was taken. Assumes nothing.
-use borrow.Author.Rules.{rules}
 use Rattle.eval_params.proofs.Laws.{flag_yes, flag_no, flag_refused}
 use Rattle.eval_params.proofs.eval_flag_from.Goals as goal
 

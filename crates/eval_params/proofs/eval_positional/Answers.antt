@@ -1,5 +1,4 @@
 -- From the start of the scope. Assumes nothing.
-use borrow.Author.Rules.{rules}
 use Rattle.take.proofs.Laws.{skip_none}
 use Rattle.eval_params.proofs.eval_positional.Goals as goal
 

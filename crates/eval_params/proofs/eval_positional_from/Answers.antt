@@ -1,5 +1,4 @@
 -- By what was taken. Assumes nothing.
-use borrow.Author.Rules.{rules}
 use Rattle.eval_params.proofs.Places.{operand_place_lem}
 use Rattle.eval_params.proofs.Laws.{positional_missing, positional_taken}
 use Rattle.eval_params.proofs.eval_positional_from.Goals as goal

@@ -1,5 +1,4 @@
 -- By word 256 of the table. Assumes nothing.
-use borrow.Author.Rules.{rules}
 use Rattle.eval_params.proofs.is_missing.Goals as goal
 
 pub returns : goal.returns

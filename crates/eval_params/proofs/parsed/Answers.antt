@@ -1,6 +1,5 @@
 -- By what is asked for, and by what the text is read as. Assumes nothing.
 use mathlib.Core.Path.{ap, ◌∙◌}
-use borrow.Author.Rules.{rules}
 use Rattle.rules.specs.Eval.{number_of}
 use Rattle.eval_params.proofs.Laws.{text_tells, number_tells, bad_tells}
 use mathlib.Core.Bool.{not}

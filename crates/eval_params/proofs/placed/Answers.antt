@@ -1,5 +1,4 @@
 -- By the position. Assumes nothing.
-use borrow.Author.Rules.{rules}
 use Rattle.eval_params.proofs.Laws.{wrong_tells, right_tells}
 use Rattle.eval_params.proofs.placed.Goals as goal
 

@@ -2,7 +2,6 @@
 use mathlib.Core.Logic.{inl}
 use mathlib.Core.Path.{refl}
 use native.Mathlib.Omega.{arith}
-use borrow.Author.Rules.{rules}
 use Rattle.eval_params.proofs.Texts.{start_small, start_few, text_order, text_end, text_bytes_are}
 use Rattle.eval_params.proofs.text_bytes.Goals as goal
 

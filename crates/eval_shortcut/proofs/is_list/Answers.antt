@@ -2,7 +2,7 @@ use mathlib.Core.Logic.{inl, inr}
 use mathlib.Core.Path.{refl, sym, ◌∙◌}
 use native.Mathlib.Omega.{arith}
 use Rattle.eval_shortcut.proofs.Trees.{form_good_lem, node_inside}
-use Rattle.eval_shortcut.proofs.Shapes.{list_here, single_here, Walked, walked_first, walked_less, walked_next}
+use Rattle.eval_shortcut.proofs.Shapes.{list_here, single_here, walked_first, walked_less, walked_next}
 use Rattle.eval_shortcut.proofs.is_list.Goals as goal
 
 pub loop-n-init : goal.loop-n-init

@@ -1,5 +1,4 @@
 -- By the kind of the child. Assumes nothing.
-use borrow.Author.Tests.{not-true, not-false}
 use mathlib.Core.Logic.{inl, inr}
 use mathlib.Core.Path.{refl, sym, ◌∙◌}
 use Rattle.eval_shortcut.proofs.Trees.{form_good_lem, node_inside}

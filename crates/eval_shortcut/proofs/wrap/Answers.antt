@@ -1,5 +1,4 @@
 -- By the kind of the child. Assumes nothing.
-use borrow.Author.Rules.{rules}
 use Rattle.eval_shortcut.proofs.Trees.{form_good_lem, node_inside}
 use Rattle.eval_shortcut.proofs.Wraps.{child_itself, guard_hands, optional_hands}
 use Rattle.eval_shortcut.proofs.wrap.Goals as goal

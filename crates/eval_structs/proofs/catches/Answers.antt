@@ -1,5 +1,4 @@
 -- By the test. Assumes nothing.
-use borrow.Author.Rules.{rules}
 use Rattle.eval_structs.proofs.catches.Goals as goal
 
 pub returns-then-catch : goal.returns-then-catch

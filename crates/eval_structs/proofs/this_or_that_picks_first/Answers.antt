@@ -1,5 +1,4 @@
 -- By how the two sides ended. Assumes nothing.
-use borrow.Author.Rules.{rules}
 use Rattle.eval_structs.specs.Laws.{picks_two, picks_first_lem, picks_second, picks_neither}
 use Rattle.eval_structs.proofs.this_or_that_picks_first.Goals as goal
 

@@ -1,5 +1,4 @@
 -- The copy of a part. Assumes nothing.
-use borrow.Author.Rules.{rules}
 use Rattle.eval_words.proofs.Words.{lifted}
 use Rattle.eval_words.proofs.lift.Goals as goal
 

@@ -1,5 +1,4 @@
 -- By the number of words. Assumes nothing.
-use borrow.Author.Rules.{rules}
 use native.Mathlib.Omega.{arith}
 use lib.ListN.{length-set}
 use Rattle.eval_words.proofs.Words.{put_none, put_one, put_two}

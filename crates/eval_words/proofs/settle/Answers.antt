@@ -1,5 +1,4 @@
 -- By whether the choice was refused, and by the side that won. Assumes nothing.
-use borrow.Author.Rules.{rules}
 use mathlib.Core.Path.{◌∙◌, sym}
 use lib.Seq.{length-take-le}
 use Rattle.eval_words.proofs.Words.{settled_refused, settled_first, settled_second}

@@ -1,5 +1,4 @@
 -- By whether values were written. Assumes nothing.
-use borrow.Author.Rules.{rules}
 use native.Mathlib.Omega.{arith}
 use Rattle.eval_words.proofs.Words.{zeroed, untouched}
 use Rattle.eval_words.proofs.unwrite.Goals as goal

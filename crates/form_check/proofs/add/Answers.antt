@@ -1,5 +1,4 @@
 -- At most 2 is counted. Assumes nothing.
-use borrow.Author.Rules.{rules}
 use Rattle.form_check.proofs.Counting.{added_more, added_full}
 use Rattle.form_check.proofs.add.Goals as goal
 

@@ -1,5 +1,4 @@
 -- Each way out is one of the four refusals, in their order, or acceptance. Assumes nothing.
-use borrow.Author.Rules.{rules}
 use mathlib.Core.Bool.{not}
 use native.Mathlib.Omega.{arith}
 use mathlib.Core.Path.{sym, ◌∙◌, ap}

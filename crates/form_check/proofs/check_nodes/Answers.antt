@@ -1,6 +1,5 @@
 -- The lowest code that is 32 is that of the lowest node with no tree; most forms have none. Assumes nothing.
 use native.Mathlib.Omega.{arith}
-use borrow.Author.Rules.{rules}
 use mathlib.Core.Path.{sym, ◌∙◌, ap}
 use lib.ListN.{length}
 use Rattle.form_layout.proofs.Sizes.{sized, nodes_length}

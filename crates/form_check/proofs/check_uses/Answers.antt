@@ -1,5 +1,4 @@
 -- Fields, then children, then the lowest node not used once. Assumes nothing.
-use borrow.Author.Rules.{rules}
 use mathlib.Core.Bool.{not}
 use mathlib.Core.Path.{ap}
 use native.Mathlib.Omega.{arith}

@@ -1,9 +1,8 @@
 use native.Mathlib.Omega.{arith}
-use mathlib.Core.Path.{◌≡◌}
 use mathlib.Core.Bool.{true}
-use Prim.Native.Nat.{ℕ, ◌<◌, ◌-◌}
+use Prim.Native.Nat.{◌-◌}
 use borrow.Author.Count.{below_none}
-use Rattle.form_check.proofs.Climbing.{good_in, codes_here, codes_next, codes_nowhere}
+use Rattle.form_check.proofs.Climbing.{codes_here, codes_next, codes_nowhere}
 use Rattle.form_check.proofs.codes_fault.Goals as goal
 
 pub loop-k-init : goal.loop-k-init

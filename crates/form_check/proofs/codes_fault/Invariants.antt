@@ -1,10 +1,8 @@
 -- Invariant: the nodes below k are not at fault. Assumes nothing.
-use native.Mathlib.Omega.{arith}
 use mathlib.Core.Path.{◌≡◌}
 use mathlib.Core.Bool.{true}
 use Prim.Native.Nat.{ℕ, ◌<◌, ◌-◌}
-use borrow.Author.Count.{below_none}
-use Rattle.form_check.proofs.Climbing.{good_in, codes_here, codes_next, codes_nowhere}
+use Rattle.form_check.proofs.Climbing.{good_in}
 use Rattle.form_check.proofs.codes_fault.Given as goal
 
 abbrev pub invariant-loop-k : goal.invariant-loop-k

@@ -1,12 +1,7 @@
 use native.Mathlib.Omega.{arith}
-use borrow.Author.Rules.{rules}
-use mathlib.Core.Path.{◌≡◌, refl}
+use mathlib.Core.Path.{refl}
 use Prim.Native.Nat.{◌-◌}
-use lib.ListN.{drop}
 use Rattle.rules.specs.Form.{read_form}
-use Rattle.rules.specs.Base.{concat_map}
-use Rattle.rules.specs.Accept.{children_of}
-use Rattle.form_check.specs.Uses.{tally}
 use Rattle.form_check.proofs.Counting.{children_next, children_last}
 use Rattle.form_layout.proofs.Sizes.{sized, nodes_length}
 use Rattle.form_check.proofs.count_children.Goals as goal

@@ -1,9 +1,7 @@
 use native.Mathlib.Omega.{arith}
-use borrow.Author.Rules.{rules}
 use mathlib.Core.Path.{refl}
 use Prim.Native.Nat.{◌-◌}
-use Rattle.rules.specs.Form.{read_form}
-use Rattle.form_check.proofs.Counting.{FieldsFrom, fields_next, fields_bad, fields_last}
+use Rattle.form_check.proofs.Counting.{fields_next, fields_bad, fields_last}
 use Rattle.form_layout.proofs.Sizes.{sized, fields_length}
 use Rattle.form_check.proofs.count_fields.Goals as goal
 

@@ -1,9 +1,7 @@
 use native.Mathlib.Omega.{arith}
 use mathlib.Core.Path.{refl, sym, ◌∙◌}
-use Prim.Native.Nat.{◌≤◌}
-use Rattle.rules.specs.Form.{node_count, read_form}
 use Rattle.form_layout.proofs.Sizes.{sized, nodes_length}
-use Rattle.form_check.proofs.Climbing.{Filled, filled_first, filled_known, filled_asked, filled_last}
+use Rattle.form_check.proofs.Climbing.{filled_first, filled_known, filled_asked, filled_last}
 use Rattle.form_check.proofs.fill_all.Goals as goal
 
 pub node_count-k-requires : goal.node_count-k-requires

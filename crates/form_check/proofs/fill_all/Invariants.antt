@@ -1,10 +1,7 @@
 -- Invariant: the table has the codes of the nodes from k on. Assumes nothing.
-use native.Mathlib.Omega.{arith}
-use mathlib.Core.Path.{refl, sym, ◌∙◌}
 use Prim.Native.Nat.{◌≤◌}
 use Rattle.rules.specs.Form.{node_count, read_form}
-use Rattle.form_layout.proofs.Sizes.{sized, nodes_length}
-use Rattle.form_check.proofs.Climbing.{Filled, filled_first, filled_known, filled_asked, filled_last}
+use Rattle.form_check.proofs.Climbing.{Filled}
 use Rattle.form_check.proofs.fill_all.Given as goal
 
 abbrev pub invariant-loop-k : goal.invariant-loop-k

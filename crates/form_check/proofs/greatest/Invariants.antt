@@ -1,12 +1,8 @@
 -- Invariant: the greatest is that of `most` and of what is left. Assumes nothing.
-use mathlib.Core.Logic.{⊎_elim}
 use mathlib.Core.Path.{◌≡◌}
-use native.Mathlib.Omega.{arith}
-use borrow.Author.Rules.{rules}
-use Prim.Native.Nat.{ℕ, ◌-◌, ◌≤◌, max}
-use lib.ListN.{length, drop}
+use Prim.Native.Nat.{◌-◌, max}
+use lib.ListN.{drop}
 use Rattle.form_check.specs.Uses.{greatest}
-use Rattle.form_check.proofs.Climbing.{greatest_step, greatest_end}
 use Rattle.form_check.proofs.greatest.Given as goal
 
 abbrev pub invariant-loop-k : goal.invariant-loop-k

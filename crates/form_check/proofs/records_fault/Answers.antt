@@ -1,5 +1,4 @@
 -- The two slices are the records and the area of the form. Assumes nothing.
-use borrow.Author.Rules.{rules}
 use native.Mathlib.Omega.{arith}
 use lib.ListN.{length-drop}
 use Rattle.form_check.proofs.Verdict.{records_found}

@@ -1,9 +1,8 @@
 use native.Mathlib.Omega.{arith}
-use mathlib.Core.Path.{◌≡◌}
 use mathlib.Core.Bool.{true}
-use Prim.Native.Nat.{ℕ, ◌<◌, ◌-◌}
+use Prim.Native.Nat.{◌-◌}
 use borrow.Author.Count.{below_none}
-use Rattle.form_check.proofs.Counting.{once_in, uses_here, uses_next, uses_nowhere}
+use Rattle.form_check.proofs.Counting.{uses_here, uses_next, uses_nowhere}
 use Rattle.form_check.proofs.uses_fault.Goals as goal
 
 pub loop-k-init : goal.loop-k-init

@@ -1,10 +1,8 @@
 -- Invariant: the nodes below k are used once. Assumes nothing.
-use native.Mathlib.Omega.{arith}
 use mathlib.Core.Path.{◌≡◌}
 use mathlib.Core.Bool.{true}
 use Prim.Native.Nat.{ℕ, ◌<◌, ◌-◌}
-use borrow.Author.Count.{below_none}
-use Rattle.form_check.proofs.Counting.{once_in, uses_here, uses_next, uses_nowhere}
+use Rattle.form_check.proofs.Counting.{once_in}
 use Rattle.form_check.proofs.uses_fault.Given as goal
 
 abbrev pub invariant-loop-k : goal.invariant-loop-k

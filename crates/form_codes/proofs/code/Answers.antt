@@ -1,5 +1,4 @@
 -- By the type of the record. Assumes nothing.
-use borrow.Author.Rules.{rules}
 use Rattle.form_codes.proofs.NameCodes.{code_other, code_short}
 use Rattle.form_codes.proofs.code.Goals as goal
 

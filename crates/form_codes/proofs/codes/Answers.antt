@@ -1,7 +1,6 @@
 use Prim.Native.Nat.{◌-◌}
-use borrow.Author.Rules.{rules}
 use Rattle.form_layout.proofs.Sizes.{names_long}
-use Rattle.form_codes.proofs.NameCodes.{StoringCodes, filling_first, filling_next, filling_last}
+use Rattle.form_codes.proofs.NameCodes.{filling_first, filling_next, filling_last}
 use Rattle.form_codes.proofs.codes.Goals as goal
 
 pub name_count-count-requires : goal.name_count-count-requires

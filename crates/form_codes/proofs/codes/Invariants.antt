@@ -1,8 +1,6 @@
 -- Invariant: the first k codes are stored. Assumes nothing.
 use Prim.Native.Nat.{◌-◌}
-use borrow.Author.Rules.{rules}
-use Rattle.form_layout.proofs.Sizes.{names_long}
-use Rattle.form_codes.proofs.NameCodes.{StoringCodes, filling_first, filling_next, filling_last}
+use Rattle.form_codes.proofs.NameCodes.{StoringCodes}
 use Rattle.form_codes.proofs.codes.Given as goal
 
 abbrev pub invariant-loop-k : goal.invariant-loop-k

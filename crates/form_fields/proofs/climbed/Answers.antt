@@ -1,5 +1,4 @@
 -- By the answer of `is_child`. Assumes nothing.
-use borrow.Author.Rules.{rules}
 use Rattle.form_fields.proofs.Owners.{climbs_up, climbs_not}
 use Rattle.form_fields.proofs.climbed.Goals as goal
 

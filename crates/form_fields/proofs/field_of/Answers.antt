@@ -1,7 +1,7 @@
 use Prim.Native.Nat.{◌-◌}
 use borrow.Author.Rules.{rules}
 use Rattle.form_layout.proofs.Sizes.{sized}
-use Rattle.form_fields.proofs.Owners.{FieldFrom, field_first, field_found, field_next, field_last}
+use Rattle.form_fields.proofs.Owners.{field_first, field_found, field_next, field_last}
 use Rattle.form_fields.proofs.field_of.Goals as goal
 
 pub field_count-count-requires : goal.field_count-count-requires

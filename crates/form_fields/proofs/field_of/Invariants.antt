@@ -1,8 +1,6 @@
 -- Invariant: no field before k is the one. Measure: the fields that are left. Assumes nothing.
 use Prim.Native.Nat.{◌-◌}
-use borrow.Author.Rules.{rules}
-use Rattle.form_layout.proofs.Sizes.{sized}
-use Rattle.form_fields.proofs.Owners.{FieldFrom, field_first, field_found, field_next, field_last}
+use Rattle.form_fields.proofs.Owners.{FieldFrom}
 use Rattle.form_fields.proofs.field_of.Given as goal
 
 abbrev pub invariant-loop-k : goal.invariant-loop-k

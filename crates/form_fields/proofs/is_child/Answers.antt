@@ -1,5 +1,4 @@
 -- A law for each way out. Assumes nothing.
-use borrow.Author.Rules.{rules}
 use Rattle.form_fields.proofs.Owners.{no_child, first_child, only_child, second_child, neither_child}
 use Rattle.form_fields.proofs.is_child.Goals as goal
 

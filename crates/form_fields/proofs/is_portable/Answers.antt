@@ -1,6 +1,6 @@
 use native.Mathlib.Omega.{arith}
 use Prim.Native.Nat.{◌-◌}
-use Rattle.form_fields.proofs.Given.{PortableFrom, passing_first, passing_bad, passing_next, passing_last}
+use Rattle.form_fields.proofs.Given.{passing_first, passing_bad, passing_next, passing_last}
 use Rattle.form_layout.proofs.Sizes.{sized, has_name}
 use Rattle.std.proofs.Math.Path.{ap}
 use mathlib.Core.Bool.{not}

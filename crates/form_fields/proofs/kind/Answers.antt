@@ -1,5 +1,4 @@
 -- The code of a node is its tree's. Assumes nothing.
-use borrow.Author.Rules.{rules}
 use native.Mathlib.Omega.{arith}
 use mathlib.Core.Path.{refl}
 use Rattle.form_fields.proofs.Given.{kind_there}

@@ -1,8 +1,6 @@
 use Prim.Native.Nat.{◌-◌}
-use native.Mathlib.Omega.{arith}
-use borrow.Author.Rules.{rules}
 use Rattle.form_layout.proofs.Sizes.{sized}
-use Rattle.form_fields.proofs.Owners.{TopFrom, top_first, top_next, top_last}
+use Rattle.form_fields.proofs.Owners.{top_first, top_next, top_last}
 use Rattle.form_fields.proofs.top_of.Goals as goal
 
 pub node_count-count-requires : goal.node_count-count-requires

@@ -1,9 +1,6 @@
 -- Invariant: from node m on it goes up from `at` as from n. Measure: the nodes that are left. Assumes nothing.
 use Prim.Native.Nat.{◌-◌}
-use native.Mathlib.Omega.{arith}
-use borrow.Author.Rules.{rules}
-use Rattle.form_layout.proofs.Sizes.{sized}
-use Rattle.form_fields.proofs.Owners.{TopFrom, top_first, top_next, top_last}
+use Rattle.form_fields.proofs.Owners.{TopFrom}
 use Rattle.form_fields.proofs.top_of.Given as goal
 
 abbrev pub invariant-loop-m : goal.invariant-loop-m

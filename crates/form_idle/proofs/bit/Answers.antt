@@ -1,5 +1,4 @@
 use Rattle.form_idle.proofs.Nodes.{bit_set_lem, bit_unset}
-use borrow.Author.Rules.{rules}
 use Rattle.form_idle.proofs.bit.Goals as goal
 
 pub returns-then-yes : goal.returns-then-yes

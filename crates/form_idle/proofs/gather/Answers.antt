@@ -1,8 +1,7 @@
 use mathlib.Core.Path.{refl}
 use Prim.Native.Nat.{◌-◌}
-use borrow.Author.Rules.{rules}
 use Rattle.form_layout.proofs.Sizes.{sized}
-use Rattle.form_idle.proofs.Gathering.{Gathered, gathered_first, gathered_next, gathered_last, sum_fits}
+use Rattle.form_idle.proofs.Gathering.{gathered_first, gathered_next, gathered_last, sum_fits}
 use Rattle.form_idle.proofs.gather.Goals as goal
 
 pub node_count-count-requires : goal.node_count-count-requires

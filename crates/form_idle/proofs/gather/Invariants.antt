@@ -1,9 +1,6 @@
 -- Invariant: the table says of the first k nodes what they may, and the sum has the bits of those found. Measure: the nodes left.
-use mathlib.Core.Path.{refl}
 use Prim.Native.Nat.{◌-◌}
-use borrow.Author.Rules.{rules}
-use Rattle.form_layout.proofs.Sizes.{sized}
-use Rattle.form_idle.proofs.Gathering.{Gathered, gathered_first, gathered_next, gathered_last, sum_fits}
+use Rattle.form_idle.proofs.Gathering.{Gathered}
 use Rattle.form_idle.proofs.gather.Given as goal
 
 abbrev pub invariant-loop-k : goal.invariant-loop-k

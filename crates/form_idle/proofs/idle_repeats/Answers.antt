@@ -1,4 +1,3 @@
-use borrow.Author.Rules.{rules}
 use Rattle.rules.proofs.GivenLaws.{check_length}
 use Rattle.form_idle.proofs.Answers.{idle_refused, idle_told}
 use Rattle.form_idle.proofs.idle_repeats.Goals as goal

@@ -1,5 +1,4 @@
 use Rattle.form_idle.proofs.Nodes.{idle-ends, choice_second}
-use borrow.Author.Rules.{rules}
 use Rattle.form_idle.proofs.may_idle.Goals as goal
 
 pub returns-then-x-ne1 : goal.returns-then-x-ne1

@@ -1,7 +1,6 @@
 use mathlib.Core.Path.{refl}
 use Rattle.form_idle.specs.Idles.{said_in}
 use Rattle.form_idle.proofs.Nodes.{unsaid}
-use borrow.Author.Rules.{rules}
 use Rattle.form_idle.proofs.said.Goals as goal
 
 pub returns-then-n-ge-MOST_NODES : goal.returns-then-n-ge-MOST_NODES

@@ -1,6 +1,5 @@
 -- The kind of the value is asked for fallbacks alone. Assumes nothing.
 use Rattle.form_join.proofs.MovedLaws.{other_kind, fallback_kind}
-use borrow.Author.Rules.{rules}
 use Rattle.form_join.proofs.has_text.Goals as goal
 
 pub returns-then-x-ne10 : goal.returns-then-x-ne10

@@ -1,6 +1,5 @@
 -- The check of the first, that of the second, then the join. Assumes nothing.
 use Rattle.form_join.proofs.Answering.{first_reported, second_reported, both_pass}
-use borrow.Author.Rules.{rules}
 use Rattle.form_join.proofs.join.Goals as goal
 
 pub returns-then-x-ne0 : goal.returns-then-x-ne0

@@ -1,6 +1,5 @@
 -- The limits, then the form. Assumes nothing.
 use Rattle.form_join.proofs.Answering.{both_good, can_join, large_reported, joined_reported}
-use borrow.Author.Rules.{rules}
 use Rattle.form_join.proofs.join_accepted.Goals as goal
 
 pub counts_both-c-requires : goal.counts_both-c-requires

@@ -1,6 +1,5 @@
 -- The first's stay, the second's move behind them. Assumes nothing.
 use Rattle.form_join.proofs.JoinedLaws.{fields_first_fit, fields_second_fit, both_fields}
-use borrow.Author.Rules.{rules}
 use Rattle.form_join.proofs.join_fields.Goals as goal
 
 pub write_fields-middle-requires : goal.write_fields-middle-requires

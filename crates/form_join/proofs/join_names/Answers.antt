@@ -1,6 +1,5 @@
 -- The first's stay, the second's move behind them. Assumes nothing.
 use Rattle.form_join.proofs.JoinedLaws.{names_first_fit, names_second_fit, both_names}
-use borrow.Author.Rules.{rules}
 use Rattle.form_join.proofs.join_names.Goals as goal
 
 pub write_names-middle-requires : goal.write_names-middle-requires

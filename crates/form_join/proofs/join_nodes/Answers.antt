@@ -1,6 +1,5 @@
 -- The first's stay, the second's move behind them. Assumes nothing.
 use Rattle.form_join.proofs.JoinedLaws.{nodes_first_fit, nodes_second_fit, both_nodes}
-use borrow.Author.Rules.{rules}
 use Rattle.form_join.proofs.join_nodes.Goals as goal
 
 pub write_nodes-middle-requires : goal.write_nodes-middle-requires

@@ -1,6 +1,5 @@
 -- A field is a node, so the sum is small. Assumes nothing.
 use Rattle.form_join.proofs.MovedLaws.{field_fits, field_narrow, field_there}
-use borrow.Author.Rules.{rules}
 use Rattle.form_join.proofs.moved_field.Goals as goal
 
 pub overflow_add-n : goal.overflow_add-n

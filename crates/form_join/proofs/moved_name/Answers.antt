@@ -1,6 +1,5 @@
 -- The offset lies in the area, so there is room to move it. Assumes nothing.
 use Rattle.form_join.proofs.MovedLaws.{offset_within, name_there}
-use borrow.Author.Rules.{rules}
 use Rattle.form_join.proofs.moved_name.Goals as goal
 
 pub moved_offset-offset-requires : goal.moved_offset-offset-requires

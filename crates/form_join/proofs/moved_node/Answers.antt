@@ -1,6 +1,5 @@
 -- The tree's kind says whether r is a name. Assumes nothing.
 use Rattle.form_join.proofs.MovedLaws.{node_within, r_fits, text_there, other_there}
-use borrow.Author.Rules.{rules}
 use Rattle.form_join.proofs.moved_node.Goals as goal
 
 pub moved_p-p-requires : goal.moved_p-p-requires

@@ -1,6 +1,5 @@
 -- By the kind: a name, words or a child. Assumes nothing.
 use Rattle.form_join.proofs.MovedLaws.{p_name, p_words, p_child}
-use borrow.Author.Rules.{rules}
 use Rattle.form_join.proofs.moved_p.Goals as goal
 
 pub returns-then-x-le2 : goal.returns-then-x-le2

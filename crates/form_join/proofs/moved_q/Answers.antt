@@ -1,6 +1,5 @@
 -- A child of a choice alone. Assumes nothing.
 use Rattle.form_join.proofs.MovedLaws.{q_child, q_other}
-use borrow.Author.Rules.{rules}
 use Rattle.form_join.proofs.moved_q.Goals as goal
 
 pub returns-then-x-eq9 : goal.returns-then-x-eq9

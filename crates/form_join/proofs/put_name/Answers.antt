@@ -1,6 +1,5 @@
 -- Three numbers, one behind the other. Assumes nothing.
 use Rattle.form_join.proofs.WrittenLaws.{name_put}
-use borrow.Author.Rules.{rules}
 use Rattle.form_join.proofs.put_name.Goals as goal
 
 pub returns : goal.returns

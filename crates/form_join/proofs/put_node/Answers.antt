@@ -1,6 +1,5 @@
 -- Four numbers of two bytes, then two of four. Assumes nothing.
 use Rattle.form_join.proofs.WrittenLaws.{node_put}
-use borrow.Author.Rules.{rules}
 use Rattle.form_join.proofs.put_node.Goals as goal
 
 pub returns : goal.returns

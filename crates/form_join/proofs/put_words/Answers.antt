@@ -1,6 +1,5 @@
 -- Four numbers, one behind the other. Assumes nothing.
 use Rattle.form_join.proofs.WrittenLaws.{words_put}
-use borrow.Author.Rules.{rules}
 use Rattle.form_join.proofs.put_words.Goals as goal
 
 pub returns : goal.returns

@@ -1,6 +1,5 @@
 -- Assumes nothing.
 use Rattle.form_join.proofs.Answering.{refused_cleared}
-use borrow.Author.Rules.{rules}
 use Rattle.form_join.proofs.refuse.Goals as goal
 
 pub returns : goal.returns

@@ -1,6 +1,5 @@
 -- Assumes nothing.
 use Rattle.form_join.proofs.WrittenLaws.{counts_put}
-use borrow.Author.Rules.{rules}
 use Rattle.form_join.proofs.write_counts.Goals as goal
 
 pub returns : goal.returns

@@ -1,4 +1,4 @@
-use Rattle.form_join.proofs.WrittenLaws.{can_eight, FieldsDone, fields_first, has_field, field_fits, fields_next, fields_last}
+use Rattle.form_join.proofs.WrittenLaws.{can_eight, fields_first, has_field, field_fits, fields_next, fields_last}
 use Prim.Native.Nat.{◌-◌}
 use borrow.Author.Rules.{rules}
 use Rattle.form_join.proofs.write_fields.Goals as goal

@@ -1,7 +1,6 @@
 -- Invariant: the first k fields are written. Assumes nothing.
-use Rattle.form_join.proofs.WrittenLaws.{can_eight, FieldsDone, fields_first, has_field, field_fits, fields_next, fields_last}
+use Rattle.form_join.proofs.WrittenLaws.{FieldsDone}
 use Prim.Native.Nat.{◌-◌}
-use borrow.Author.Rules.{rules}
 use Rattle.form_join.proofs.write_fields.Given as goal
 
 abbrev pub invariant-loop-k : goal.invariant-loop-k

@@ -1,6 +1,5 @@
 -- Each part begins where the one before it ends. Assumes nothing.
 use Rattle.form_join.proofs.JoinedLaws.{joins_on, form_written}
-use borrow.Author.Rules.{rules}
 use Rattle.form_join.proofs.write_form.Goals as goal
 
 pub join_nodes-names-requires : goal.join_nodes-names-requires

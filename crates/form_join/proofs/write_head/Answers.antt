@@ -1,6 +1,5 @@
 -- The counts are eight bytes. Assumes nothing.
 use Rattle.form_join.proofs.JoinedLaws.{counts_fit, fields_fit, head_written}
-use borrow.Author.Rules.{rules}
 use Rattle.form_join.proofs.write_head.Goals as goal
 
 pub write_counts-requires : goal.write_counts-requires

@@ -1,4 +1,4 @@
-use Rattle.form_join.proofs.WrittenLaws.{can_eight, NamesDone, names_first, has_name, name_fits, names_next, names_last}
+use Rattle.form_join.proofs.WrittenLaws.{can_eight, names_first, has_name, name_fits, names_next, names_last}
 use Prim.Native.Nat.{◌-◌}
 use borrow.Author.Rules.{rules}
 use Rattle.form_join.proofs.write_names.Goals as goal

@@ -1,7 +1,6 @@
 -- Invariant: the first k names are written. Assumes nothing.
-use Rattle.form_join.proofs.WrittenLaws.{can_eight, NamesDone, names_first, has_name, name_fits, names_next, names_last}
+use Rattle.form_join.proofs.WrittenLaws.{NamesDone}
 use Prim.Native.Nat.{◌-◌}
-use borrow.Author.Rules.{rules}
 use Rattle.form_join.proofs.write_names.Given as goal
 
 abbrev pub invariant-loop-k : goal.invariant-loop-k

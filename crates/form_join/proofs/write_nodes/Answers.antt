@@ -1,4 +1,4 @@
-use Rattle.form_join.proofs.WrittenLaws.{can_eight, NodesDone, nodes_first, has_node, node_fits, nodes_next, nodes_last}
+use Rattle.form_join.proofs.WrittenLaws.{can_eight, nodes_first, has_node, node_fits, nodes_next, nodes_last}
 use Prim.Native.Nat.{◌-◌}
 use borrow.Author.Rules.{rules}
 use Rattle.form_join.proofs.write_nodes.Goals as goal

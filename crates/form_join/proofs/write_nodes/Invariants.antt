@@ -1,7 +1,6 @@
 -- Invariant: the first k nodes are written. Assumes nothing.
-use Rattle.form_join.proofs.WrittenLaws.{can_eight, NodesDone, nodes_first, has_node, node_fits, nodes_next, nodes_last}
+use Rattle.form_join.proofs.WrittenLaws.{NodesDone}
 use Prim.Native.Nat.{◌-◌}
-use borrow.Author.Rules.{rules}
 use Rattle.form_join.proofs.write_nodes.Given as goal
 
 abbrev pub invariant-loop-k : goal.invariant-loop-k

@@ -1,6 +1,5 @@
 -- The areas begin where the names end. Assumes nothing.
 use Rattle.form_join.proofs.JoinedLaws.{joins_on, tail_written}
-use borrow.Author.Rules.{rules}
 use Rattle.form_join.proofs.write_tail.Goals as goal
 
 pub join_areas-requires : goal.join_areas-requires

@@ -1,7 +1,6 @@
 -- Each child was worked out, was known or is none; the table stays right. Assumes nothing.
 use mathlib.Core.Path.{refl, ◌∙◌}
 use native.Mathlib.Omega.{arith}
-use borrow.Author.Rules.{rules}
 use Rattle.rules.specs.Form.{read_form}
 use Rattle.form_layout.specs.Layout.{node_of}
 use Rattle.form_layout.proofs.Sizes.{sized}
@@ -36,24 +35,24 @@ bounds-codes-k-2 t c = omega (arith, sized _ c.requires.good)
 pub returns : goal.returns
 returns t c =
     let first : ChildKnown (read_form c.args.b.now) c.args.k c.node_at-x.result.p c.args.codes.now c.if-p-k.codes c.if-p-k.c =
-        elim c.if-p-k.branch [
-          then-p-k w ↦ child _ _ _ _ _ _ _ w.codes-is w.if-p-k.true
-              (elim w.if-codes-p-eq0.branch [
-                then-codes-p-eq0 v ↦ worked _ _ _ _ _ v.codes-is v.fill.ensures
-              | else-codes-p-eq0 v ↦ found _ _ _ _ v.codes-is c.requires.sound v.if-codes-p-eq0.false
-              ]) w.c-is
-        | else-p-k w ↦ no_child _ _ _ _ _ _ w.codes-is w.if-p-k.false c.requires.sound w.c-is
-        ] in
+    elim c.if-p-k.branch [
+      | then-p-k w ↦ child _ _ _ _ _ _ _ w.codes-is w.if-p-k.true
+          (elim w.if-codes-p-eq0.branch [
+            | then-codes-p-eq0 v ↦ worked _ _ _ _ _ v.codes-is v.fill.ensures
+            | else-codes-p-eq0 v ↦ found _ _ _ _ v.codes-is c.requires.sound v.if-codes-p-eq0.false
+          ]) w.c-is
+      | else-p-k w ↦ no_child _ _ _ _ _ _ w.codes-is w.if-p-k.false c.requires.sound w.c-is
+    ] in
     let second : ChildKnown (read_form c.args.b.now) c.args.k (child_q (node_of c.node_at-x.result)) c.if-p-k.codes c.if-x-eq9.codes c.if-x-eq9.d =
-        elim c.if-x-eq9.branch [
-          then-x-eq9+then-q-k w ↦ second_child _ _ _ _ _ _ w.if-x-eq9.true
-              (child _ _ _ _ _ _ _ w.codes-is w.if-q-k.true
-              (elim w.if-codes-q-eq0.branch [
-                then-codes-q-eq0 v ↦ worked _ _ _ _ _ v.codes-is v.fill-then-codes-q-eq0.ensures
-              | else-codes-q-eq0 v ↦ found _ _ _ _ v.codes-is first.sound v.if-codes-q-eq0.false
-              ]) w.d-is)
-        | then-x-eq9+else-q-k w ↦ second_child _ _ _ _ _ _ w.if-x-eq9.true (no_child _ _ _ _ _ _ w.codes-is w.if-q-k.false first.sound w.d-is)
-        | else-x-eq9 w ↦ no_second _ _ _ _ _ _ w.if-x-eq9.false (omega (arith, sized _ c.requires.good)) w.codes-is first.sound w.d-is
-        ] in
+    elim c.if-x-eq9.branch [
+      | then-x-eq9+then-q-k w ↦ second_child _ _ _ _ _ _ w.if-x-eq9.true
+          (child _ _ _ _ _ _ _ w.codes-is w.if-q-k.true
+          (elim w.if-codes-q-eq0.branch [
+            | then-codes-q-eq0 v ↦ worked _ _ _ _ _ v.codes-is v.fill-then-codes-q-eq0.ensures
+            | else-codes-q-eq0 v ↦ found _ _ _ _ v.codes-is first.sound v.if-codes-q-eq0.false
+          ]) w.d-is)
+      | then-x-eq9+else-q-k w ↦ second_child _ _ _ _ _ _ w.if-x-eq9.true (no_child _ _ _ _ _ _ w.codes-is w.if-q-k.false first.sound w.d-is)
+      | else-x-eq9 w ↦ no_second _ _ _ _ _ _ w.if-x-eq9.false (omega (arith, sized _ c.requires.good)) w.codes-is first.sound w.d-is
+    ] in
     stored _ _ _ _ _ (omega (arith, sized _ c.requires.good)) c.requires.sound (kept_twice _ _ _ first.kept second.kept) second.sound
     (c.inner_code.ensures ∙ inner_is _ _ _ c.node_at-x.ensures _ _ _ c.if-x-le3.false refl first.code second.code)

@@ -1,5 +1,4 @@
 -- Each test of the code is one of the definition. Assumes nothing.
-use borrow.Author.Rules.{rules}
 use borrow.Author.Tests.{le-leb, lt-leb}
 use Rattle.form_kinds.specs.Kinds.{named_good}
 use Rattle.form_kinds.proofs.Steps.{of_lo_hi}

@@ -2,7 +2,7 @@ use Prim.Native.Nat.{◌-◌}
 use mathlib.Core.Path.{refl}
 use native.Mathlib.Omega.{arith}
 use Rattle.form_layout.proofs.Sizes.{sized, names_length}
-use Rattle.form_kinds.proofs.Steps.{Typed, names_none, names_outside, typed_first, typed_next, typed_bad, typed_last}
+use Rattle.form_kinds.proofs.Steps.{names_none, names_outside, typed_first, typed_next, typed_bad, typed_last}
 use Rattle.form_kinds.proofs.names_good.Goals as goal
 
 pub name_count-count-requires : goal.name_count-count-requires

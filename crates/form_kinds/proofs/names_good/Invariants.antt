@@ -1,9 +1,6 @@
 -- Invariant: the names from i on are as good as all. Assumes nothing.
 use Prim.Native.Nat.{◌-◌}
-use mathlib.Core.Path.{refl}
-use native.Mathlib.Omega.{arith}
-use Rattle.form_layout.proofs.Sizes.{sized, names_length}
-use Rattle.form_kinds.proofs.Steps.{Typed, names_none, names_outside, typed_first, typed_next, typed_bad, typed_last}
+use Rattle.form_kinds.proofs.Steps.{Typed}
 use Rattle.form_kinds.proofs.names_good.Given as goal
 
 abbrev pub invariant-loop-i : goal.invariant-loop-i

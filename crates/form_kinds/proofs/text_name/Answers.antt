@@ -1,5 +1,4 @@
 -- Each test of the code is one of the definition. Assumes nothing.
-use borrow.Author.Rules.{rules}
 use Rattle.form_layout.proofs.Sizes.{sized}
 use Rattle.form_kinds.proofs.Steps.{text_outside, text_there}
 use Rattle.form_kinds.proofs.text_name.Goals as goal

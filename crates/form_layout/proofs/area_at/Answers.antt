@@ -1,5 +1,4 @@
 -- The counts are small, so the sum fits. Assumes nothing.
-use borrow.Author.Rules.{rules}
 use native.Mathlib.Omega.{arith}
 use Rattle.form_layout.proofs.Sizes.{counted}
 use Rattle.form_layout.proofs.area_at.Goals as goal

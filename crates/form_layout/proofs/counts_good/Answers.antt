@@ -1,5 +1,4 @@
 -- The tests in the order of the definition. Assumes nothing.
-use borrow.Author.Rules.{rules}
 use Rattle.form_layout.proofs.Sizes.{too_short, nodes_bad, fields_bad, names_bad, area_test}
 use Rattle.form_layout.proofs.counts_good.Goals as goal
 

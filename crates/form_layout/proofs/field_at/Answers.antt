@@ -1,5 +1,4 @@
 -- A field lies within the form. Assumes nothing.
-use borrow.Author.Rules.{rules}
 use native.Mathlib.Omega.{arith}
 use Rattle.form_layout.proofs.Sizes.{sized, field_there}
 use Rattle.form_layout.proofs.field_at.Goals as goal

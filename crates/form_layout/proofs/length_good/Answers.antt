@@ -1,8 +1,6 @@
 -- The counts, and then the sum of the parts. Assumes nothing.
-use borrow.Author.Rules.{rules}
 use native.Mathlib.Omega.{arith}
 use mathlib.Core.Path.{sym, ◌∙◌}
-use borrow.Author.Tests.{not-false}
 use Rattle.form_layout.proofs.Sizes.{counted, counts_bad, length_test}
 use Rattle.form_layout.proofs.length_good.Goals as goal
 

@@ -1,5 +1,4 @@
 -- A name record lies within the form. Assumes nothing.
-use borrow.Author.Rules.{rules}
 use native.Mathlib.Omega.{arith}
 use lib.ListN.{length-drop}
 use Rattle.form_layout.proofs.Sizes.{sized, length_counts, name_there}

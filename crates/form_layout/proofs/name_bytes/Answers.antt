@@ -1,5 +1,4 @@
 -- A good name lies in the area. Assumes nothing.
-use borrow.Author.Rules.{rules}
 use native.Mathlib.Omega.{arith}
 use Rattle.form_layout.proofs.Sizes.{sized, length_counts, name_fits, bytes_there}
 use Rattle.form_layout.proofs.name_bytes.Goals as goal

@@ -1,5 +1,4 @@
 -- A node lies within the form. Assumes nothing.
-use borrow.Author.Rules.{rules}
 use native.Mathlib.Omega.{arith}
 use Rattle.form_layout.proofs.Sizes.{sized, length_counts, node_there}
 use Rattle.form_layout.proofs.node_at.Goals as goal

@@ -1,5 +1,4 @@
 -- By whether the letter is wanted and there. Assumes nothing.
-use borrow.Author.Rules.{rules}
 use Rattle.form_letters.proofs.Words.{unwanted, letterless, one_letter}
 use Rattle.form_letters.proofs.append.Goals as goal
 

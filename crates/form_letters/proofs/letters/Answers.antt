@@ -1,7 +1,7 @@
 use Prim.Native.Nat.{◌-◌}
 use borrow.Author.Rules.{rules}
 use Rattle.form_layout.proofs.Sizes.{names_long}
-use Rattle.form_letters.proofs.Words.{Written, written_first, written_next, written_last, flag_wanted, argument_wanted}
+use Rattle.form_letters.proofs.Words.{written_first, written_next, written_last, flag_wanted, argument_wanted}
 use Rattle.form_letters.proofs.letters.Goals as goal
 
 pub name_count-count-requires : goal.name_count-count-requires

@@ -1,8 +1,6 @@
 -- Invariant: the letters of the records below k are written. Assumes nothing.
 use Prim.Native.Nat.{◌-◌}
-use borrow.Author.Rules.{rules}
-use Rattle.form_layout.proofs.Sizes.{names_long}
-use Rattle.form_letters.proofs.Words.{Written, written_first, written_next, written_last, flag_wanted, argument_wanted}
+use Rattle.form_letters.proofs.Words.{Written}
 use Rattle.form_letters.proofs.letters.Given as goal
 
 abbrev pub invariant-loop-k : goal.invariant-loop-k

@@ -1,8 +1,6 @@
 -- Invariant: the bit is set from the first record up to k. Assumes nothing.
 use Prim.Native.Nat.{◌-◌}
-use native.Mathlib.Omega.{arith}
-use borrow.Author.Rules.{rules}
-use Rattle.form_letters.proofs.Tables.{Marking, marking_first, marking_next, marking_last}
+use Rattle.form_letters.proofs.Tables.{Marking}
 use Rattle.form_letters.proofs.mark.Given as goal
 
 abbrev pub invariant-loop-k : goal.invariant-loop-k

@@ -1,5 +1,4 @@
 -- A node of another kind names nothing; a flag or an argument marks its names. Assumes nothing.
-use borrow.Author.Rules.{rules}
 use Rattle.form_letters.proofs.Tables.{no_kind, no_names_lem, noted}
 use Rattle.form_letters.proofs.mark_node.Goals as goal
 

@@ -1,7 +1,6 @@
 use Prim.Native.Nat.{◌-◌}
-use borrow.Author.Rules.{rules}
 use Rattle.form_layout.proofs.Sizes.{sized}
-use Rattle.form_letters.proofs.Tables.{Noting, noting_first, noting_next, noting_last}
+use Rattle.form_letters.proofs.Tables.{noting_first, noting_next, noting_last}
 use Rattle.form_letters.proofs.mark_nodes.Goals as goal
 
 pub node_count-n-requires : goal.node_count-n-requires

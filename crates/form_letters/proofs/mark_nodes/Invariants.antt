@@ -1,8 +1,6 @@
 -- Invariant: the table has the classes by the first i nodes. Assumes nothing.
 use Prim.Native.Nat.{◌-◌}
-use borrow.Author.Rules.{rules}
-use Rattle.form_layout.proofs.Sizes.{sized}
-use Rattle.form_letters.proofs.Tables.{Noting, noting_first, noting_next, noting_last}
+use Rattle.form_letters.proofs.Tables.{Noting}
 use Rattle.form_letters.proofs.mark_nodes.Given as goal
 
 abbrev pub invariant-loop-i : goal.invariant-loop-i

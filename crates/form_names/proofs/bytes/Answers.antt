@@ -1,5 +1,4 @@
 -- The part of the area that the record names. Assumes nothing.
-use borrow.Author.Rules.{rules}
 use Rattle.form_names.proofs.Records.{bytes_part}
 use Rattle.form_names.proofs.bytes.Goals as goal
 

@@ -1,5 +1,4 @@
 -- The name lies in the area, and its type is tested. Assumes nothing.
-use borrow.Author.Rules.{rules}
 use Rattle.form_names.proofs.Records.{name_long, name_outside, name_inside}
 use Rattle.form_names.proofs.name_good.Goals as goal
 

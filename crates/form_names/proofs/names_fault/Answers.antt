@@ -1,10 +1,6 @@
-use mathlib.Core.Path.{◌≡◌}
-use mathlib.Core.Bool.{true}
-use Prim.Native.Nat.{ℕ, ◌<◌, ◌-◌}
-use native.Mathlib.Omega.{arith}
-use borrow.Author.Rules.{rules}
+use Prim.Native.Nat.{◌-◌}
 use borrow.Author.Count.{below_none}
-use Rattle.form_names.proofs.Records.{names_next, good_at, names_here, names_nowhere}
+use Rattle.form_names.proofs.Records.{names_next, names_here, names_nowhere}
 use Rattle.form_names.proofs.names_fault.Goals as goal
 
 pub loop-k-init : goal.loop-k-init

@@ -2,10 +2,7 @@
 use mathlib.Core.Path.{◌≡◌}
 use mathlib.Core.Bool.{true}
 use Prim.Native.Nat.{ℕ, ◌<◌, ◌-◌}
-use native.Mathlib.Omega.{arith}
-use borrow.Author.Rules.{rules}
-use borrow.Author.Count.{below_none}
-use Rattle.form_names.proofs.Records.{names_next, good_at, names_here, names_nowhere}
+use Rattle.form_names.proofs.Records.{good_at}
 use Rattle.form_names.proofs.names_fault.Given as goal
 
 abbrev pub invariant-loop-k : goal.invariant-loop-k

@@ -1,5 +1,4 @@
 -- Only a name of type 0 is tested. Assumes nothing.
-use borrow.Author.Rules.{rules}
 use Rattle.form_names.proofs.Records.{portable_other, portable_none, portable_one}
 use Rattle.form_names.proofs.portable_name.Goals as goal
 

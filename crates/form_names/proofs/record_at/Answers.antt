@@ -1,5 +1,4 @@
 -- Three numbers of two bytes. Assumes nothing.
-use borrow.Author.Rules.{rules}
 use Rattle.form_names.proofs.Records.{record_read}
 use Rattle.form_names.proofs.record_at.Goals as goal
 

@@ -1,5 +1,4 @@
 -- Each type has its test. Assumes nothing.
-use borrow.Author.Rules.{rules}
 use Rattle.form_names.proofs.Records.{type_short, type_long, type_text}
 use Rattle.form_names.proofs.type_good.Goals as goal
 

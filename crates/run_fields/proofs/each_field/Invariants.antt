@@ -1,8 +1,6 @@
 -- Invariant: what is told of the fields so far, behind which the others are to be told. Measure: how many are left. Assumes nothing.
 use Prim.Native.Nat.{◌-◌}
-use borrow.Author.Rules.{rules}
-use Rattle.run_fields.proofs.Going.{Going, starts_long, going_first, field_good, field_inside, going_number, going_sum, going_field, going_tries}
-use Rattle.run_fields.proofs.Going.{going_at, going_step, going_most, going_long, long_refused, going_refused, going_next, going_end}
+use Rattle.run_fields.proofs.Going.{Going}
 use Rattle.run_fields.proofs.each_field.Given as goal
 
 abbrev pub invariant-loop-k : goal.invariant-loop-k

@@ -1,4 +1,3 @@
-use borrow.Author.Rules.{rules}
 use Rattle.run_fields.proofs.Fields.{value_put}
 use Rattle.run_fields.proofs.put_value.Goals as goal
 

@@ -1,5 +1,4 @@
 -- A flag and a positional by the lemmas of their nodes, any other node by the general run. Assumes nothing.
-use borrow.Author.Rules.{rules}
 use mathlib.Core.Logic.{inl, inr}
 use native.Mathlib.Omega.{arith}
 use Rattle.eval_shortcut.proofs.Given.{flag_ready, flag_node, positional_says}

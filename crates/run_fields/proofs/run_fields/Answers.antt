@@ -1,4 +1,3 @@
-use borrow.Author.Rules.{rules}
 use Rattle.run_fields.proofs.LeftOver.{all_refused, scope_order, all_empty, place_fits, place_more, all_left}
 use Rattle.run_fields.proofs.run_fields.Goals as goal
 

@@ -1,4 +1,3 @@
-use borrow.Author.Rules.{rules}
 use Rattle.run_fields.proofs.Fields.{field_listed, field_scalar, field_put}
 use Rattle.run_fields.proofs.run_value.Goals as goal
 

@@ -1,6 +1,5 @@
 -- The tests in order. Assumes nothing.
 use Rattle.short_check.proofs.Legal.{no_letter, many_letters, letters_good}
-use borrow.Author.Rules.{rules}
 use Rattle.short_check.proofs.alphabet_good.Goals as goal
 
 pub returns-then-alphabet-lt1 : goal.returns-then-alphabet-lt1

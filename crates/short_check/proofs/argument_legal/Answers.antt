@@ -1,7 +1,5 @@
 use Prim.Native.Nat.{◌-◌}
-use lib.ListN.{length}
-use Rattle.short_check.proofs.Legal.{BytesLeft, bytes_first, argument_long, byte_other, bytes_legal, byte_legal}
-use borrow.Author.Rules.{rules}
+use Rattle.short_check.proofs.Legal.{bytes_first, argument_long, byte_other, bytes_legal, byte_legal}
 use Rattle.short_check.proofs.argument_legal.Goals as goal
 
 pub returns-then-argument-gt-ARGUMENT : goal.returns-then-argument-gt-ARGUMENT

@@ -1,8 +1,7 @@
 -- Invariant: the first i bytes are letters, and the others are left. Assumes nothing.
 use Prim.Native.Nat.{◌-◌}
 use lib.ListN.{length}
-use Rattle.short_check.proofs.Legal.{BytesLeft, bytes_first, argument_long, byte_other, bytes_legal, byte_legal}
-use borrow.Author.Rules.{rules}
+use Rattle.short_check.proofs.Legal.{BytesLeft}
 use Rattle.short_check.proofs.argument_legal.Given as goal
 
 abbrev pub invariant-loop-i : goal.invariant-loop-i

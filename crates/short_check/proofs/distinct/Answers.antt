@@ -1,9 +1,6 @@
-use mathlib.Core.Path.{◌≡◌, refl}
+use mathlib.Core.Path.{refl}
 use Prim.Native.Nat.{◌-◌}
-use lib.ListN.{length, drop}
-use Rattle.rules_short.specs.Short.{distinct}
 use Rattle.short_check.proofs.Legal.{byte_twice, byte_once, rest_is, all_once}
-use borrow.Author.Rules.{rules}
 use Rattle.short_check.proofs.distinct.Goals as goal
 
 pub loop-i-init : goal.loop-i-init

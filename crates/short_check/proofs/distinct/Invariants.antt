@@ -1,10 +1,8 @@
 -- Invariant: no byte before i stands twice, and those from i on are left. Assumes nothing.
-use mathlib.Core.Path.{◌≡◌, refl}
+use mathlib.Core.Path.{◌≡◌}
 use Prim.Native.Nat.{◌-◌}
 use lib.ListN.{length, drop}
 use Rattle.rules_short.specs.Short.{distinct}
-use Rattle.short_check.proofs.Legal.{byte_twice, byte_once, rest_is, all_once}
-use borrow.Author.Rules.{rules}
 use Rattle.short_check.proofs.distinct.Given as goal
 
 abbrev pub invariant-loop-i : goal.invariant-loop-i

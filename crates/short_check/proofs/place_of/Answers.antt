@@ -1,7 +1,5 @@
 use Prim.Native.Nat.{◌-◌}
-use lib.ListN.{length}
-use Rattle.short_check.proofs.Letters.{Sought, sought_first, sought_here, sought_next, sought_end}
-use borrow.Author.Rules.{rules}
+use Rattle.short_check.proofs.Letters.{sought_first, sought_here, sought_next, sought_end}
 use Rattle.short_check.proofs.place_of.Goals as goal
 
 pub loop-i-init : goal.loop-i-init

@@ -1,8 +1,7 @@
 -- Invariant: the first i bytes are others. Assumes nothing.
 use Prim.Native.Nat.{◌-◌}
 use lib.ListN.{length}
-use Rattle.short_check.proofs.Letters.{Sought, sought_first, sought_here, sought_next, sought_end}
-use borrow.Author.Rules.{rules}
+use Rattle.short_check.proofs.Letters.{Sought}
 use Rattle.short_check.proofs.place_of.Given as goal
 
 abbrev pub invariant-loop-i : goal.invariant-loop-i

@@ -1,6 +1,5 @@
 use Prim.Native.Nat.{◌-◌}
-use Rattle.short_check.proofs.Legal.{ArgumentsLeft, sheet_damaged, whole, sheet_many, left_first, argument_other, argument_good, arguments_good, has_argument}
-use borrow.Author.Rules.{rules}
+use Rattle.short_check.proofs.Legal.{sheet_damaged, whole, sheet_many, left_first, argument_other, argument_good, arguments_good, has_argument}
 use Rattle.short_check.proofs.sheet_legal.Goals as goal
 
 pub returns-then-check-ne0 : goal.returns-then-check-ne0

@@ -1,7 +1,6 @@
 -- Invariant: the first k arguments are legal, and the others are left. Assumes nothing.
 use Prim.Native.Nat.{◌-◌}
-use Rattle.short_check.proofs.Legal.{ArgumentsLeft, sheet_damaged, whole, sheet_many, left_first, argument_other, argument_good, arguments_good, has_argument}
-use borrow.Author.Rules.{rules}
+use Rattle.short_check.proofs.Legal.{ArgumentsLeft}
 use Rattle.short_check.proofs.sheet_legal.Given as goal
 
 abbrev pub invariant-loop-k : goal.invariant-loop-k

@@ -1,5 +1,4 @@
-use Rattle.short_sheets.proofs.Digits.{Carried, carried_first, carried_to, carried_on, carried_all}
-use borrow.Author.Rules.{rules}
+use Rattle.short_sheets.proofs.Digits.{carried_first, carried_to, carried_on, carried_all}
 use Rattle.short_sheets.proofs.count_up.Goals as goal
 
 pub loop-i-init : goal.loop-i-init

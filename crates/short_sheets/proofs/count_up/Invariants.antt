@@ -1,6 +1,5 @@
 -- Invariant: the digits from i on were the highest, and are 0. Assumes nothing.
-use Rattle.short_sheets.proofs.Digits.{Carried, carried_first, carried_to, carried_on, carried_all}
-use borrow.Author.Rules.{rules}
+use Rattle.short_sheets.proofs.Digits.{Carried}
 use Rattle.short_sheets.proofs.count_up.Given as goal
 
 abbrev pub invariant-loop-i : goal.invariant-loop-i

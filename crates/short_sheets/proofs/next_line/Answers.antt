@@ -1,6 +1,5 @@
 -- Read, then counted up. Assumes nothing.
 use Rattle.short_sheets.proofs.Lines.{line_made, has_offset, base_narrow, can_count, next_line}
-use borrow.Author.Rules.{rules}
 use Rattle.short_sheets.proofs.next_line.Goals as goal
 
 pub count-count-requires : goal.count-count-requires

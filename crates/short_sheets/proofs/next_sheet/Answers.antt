@@ -1,6 +1,5 @@
 -- The tests, then the step. Assumes nothing.
 use Rattle.short_sheets.proofs.Next.{refused_reported, can_step, step_reported}
-use borrow.Author.Rules.{rules}
 use Rattle.short_sheets.proofs.next_sheet.Goals as goal
 
 pub returns-then-fault-ne0 : goal.returns-then-fault-ne0

@@ -1,7 +1,5 @@
 use Prim.Native.Nat.{◌-◌}
-use lib.ListN.{length}
-use Rattle.short_sheets.proofs.Writing.{Lettered, lettered_first, letter_there, lettered_next, lettered_last}
-use borrow.Author.Rules.{rules}
+use Rattle.short_sheets.proofs.Writing.{lettered_first, letter_there, lettered_next, lettered_last}
 use Rattle.short_sheets.proofs.put_letters.Goals as goal
 
 pub loop-i-init : goal.loop-i-init

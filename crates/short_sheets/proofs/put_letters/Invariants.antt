@@ -1,8 +1,7 @@
 -- Invariant: the first i places are letters. Assumes nothing.
 use Prim.Native.Nat.{◌-◌}
 use lib.ListN.{length}
-use Rattle.short_sheets.proofs.Writing.{Lettered, lettered_first, letter_there, lettered_next, lettered_last}
-use borrow.Author.Rules.{rules}
+use Rattle.short_sheets.proofs.Writing.{Lettered}
 use Rattle.short_sheets.proofs.put_letters.Given as goal
 
 abbrev pub invariant-loop-i : goal.invariant-loop-i

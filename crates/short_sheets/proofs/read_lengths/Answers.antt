@@ -1,9 +1,6 @@
 use Prim.Native.Nat.{◌-◌}
-use Rattle.wire.proofs.Stores.{Stored, stored_first}
-use Rattle.rules.specs.Sheet.{arguments}
-use Rattle.rules_short.specs.Short.{lengths as lengths_of}
+use Rattle.wire.proofs.Stores.{stored_first}
 use Rattle.short_sheets.proofs.Reading.{argument_there, length_there, length_narrow, length_stored, lengths_stored}
-use borrow.Author.Rules.{rules}
 use Rattle.short_sheets.proofs.read_lengths.Goals as goal
 
 pub loop-k-init : goal.loop-k-init

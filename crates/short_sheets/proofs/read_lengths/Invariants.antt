@@ -1,10 +1,8 @@
 -- Invariant: the first k lengths are stored. Assumes nothing.
 use Prim.Native.Nat.{◌-◌}
-use Rattle.wire.proofs.Stores.{Stored, stored_first}
+use Rattle.wire.proofs.Stores.{Stored}
 use Rattle.rules.specs.Sheet.{arguments}
 use Rattle.rules_short.specs.Short.{lengths as lengths_of}
-use Rattle.short_sheets.proofs.Reading.{argument_there, length_there, length_narrow, length_stored, lengths_stored}
-use borrow.Author.Rules.{rules}
 use Rattle.short_sheets.proofs.read_lengths.Given as goal
 
 abbrev pub invariant-loop-k : goal.invariant-loop-k

@@ -2,7 +2,6 @@
 use mathlib.Core.Path.{refl}
 use mathlib.Core.Logic.{inl}
 use Rattle.short_sheets.proofs.Lines.{line_short, line_made, start_small, area_there, letters_in_lem, reads_line}
-use borrow.Author.Rules.{rules}
 use Rattle.short_sheets.proofs.read_line.Goals as goal
 
 pub read_lengths-requires : goal.read_lengths-requires

@@ -1,9 +1,6 @@
 use Prim.Native.Nat.{◌-◌}
-use lib.ListN.{length}
-use Rattle.wire.proofs.Stores.{Stored, stored_first}
-use Rattle.short_sheets.specs.Steps.{places_in}
+use Rattle.wire.proofs.Stores.{stored_first}
 use Rattle.short_sheets.proofs.Reading.{place_narrow, place_stored, places_stored}
-use borrow.Author.Rules.{rules}
 use Rattle.short_sheets.proofs.read_places.Goals as goal
 
 pub loop-i-init : goal.loop-i-init

@@ -1,10 +1,8 @@
 -- Invariant: the first i places are stored. Assumes nothing.
 use Prim.Native.Nat.{◌-◌}
 use lib.ListN.{length}
-use Rattle.wire.proofs.Stores.{Stored, stored_first}
+use Rattle.wire.proofs.Stores.{Stored}
 use Rattle.short_sheets.specs.Steps.{places_in}
-use Rattle.short_sheets.proofs.Reading.{place_narrow, place_stored, places_stored}
-use borrow.Author.Rules.{rules}
 use Rattle.short_sheets.proofs.read_places.Given as goal
 
 abbrev pub invariant-loop-i : goal.invariant-loop-i

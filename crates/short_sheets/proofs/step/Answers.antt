@@ -1,6 +1,5 @@
 -- After the last line nothing is written. Assumes nothing.
 use Rattle.short_sheets.proofs.Next.{last_reported, line_there, next_reported}
-use borrow.Author.Rules.{rules}
 use Rattle.short_sheets.proofs.step.Goals as goal
 
 pub returns-then-count-gt-ARGUMENTS : goal.returns-then-count-gt-ARGUMENTS

@@ -2,9 +2,7 @@ use mathlib.Core.Path.{refl}
 use mathlib.Core.Logic.{inl}
 use Prim.Native.Nat.{◌-◌}
 use native.Mathlib.Omega.{arith}
-use lib.ListN.{length}
-use Rattle.short_sheets.proofs.Writing.{Written, written_first, sheet_fits, begun_length, argument_small, argument_within, argument_fits, written_next, written_last}
-use borrow.Author.Rules.{rules}
+use Rattle.short_sheets.proofs.Writing.{written_first, sheet_fits, begun_length, argument_small, argument_within, argument_fits, written_next, written_last}
 use Rattle.short_sheets.proofs.write_sheet.Goals as goal
 
 pub begin_sheet-requires : goal.begin_sheet-requires

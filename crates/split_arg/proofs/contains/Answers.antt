@@ -1,6 +1,5 @@
 -- By the length of the list. Assumes nothing.
 use native.Mathlib.Omega.{arith}
-use borrow.Author.Rules.{rules}
 use Rattle.split_arg.proofs.contains.Goals as goal
 
 pub search-requires : goal.search-requires

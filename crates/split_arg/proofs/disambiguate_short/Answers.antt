@@ -1,7 +1,6 @@
 -- A letter alone is no matter of looking up (`LookUp`). Assumes nothing.
 use mathlib.Core.Path.{sym, ◌∙◌}
 use Rattle.split_arg.proofs.LookUp.{alone, no_letter, no_single}
-use borrow.Author.Rules.{rules}
 use Rattle.split_arg.proofs.disambiguate_short.Goals as goal
 
 pub returns-in_default : goal.returns-in_default

@@ -1,8 +1,6 @@
-use mathlib.Core.Path.{◌≡◌, sym, ◌∙◌}
-use Prim.Native.Nat.{◌≤◌, ◌-◌}
-use lib.ListN.{length}
+use mathlib.Core.Path.{sym, ◌∙◌}
+use Prim.Native.Nat.{◌-◌}
 use borrow.Author.Rules.{rules}
-use Rattle.split_arg.specs.Parts.{equals_from}
 use Rattle.split_arg.proofs.Equals.{equals_end, equals_here, equals_later}
 use Rattle.split_arg.proofs.find_equals.Goals as goal
 

@@ -1,10 +1,8 @@
 -- Invariant: the first `=` from here on is that of the whole. Measure: what is left. Assumes nothing.
-use mathlib.Core.Path.{◌≡◌, sym, ◌∙◌}
+use mathlib.Core.Path.{◌≡◌}
 use Prim.Native.Nat.{◌≤◌, ◌-◌}
 use lib.ListN.{length}
-use borrow.Author.Rules.{rules}
 use Rattle.split_arg.specs.Parts.{equals_from}
-use Rattle.split_arg.proofs.Equals.{equals_end, equals_here, equals_later}
 use Rattle.split_arg.proofs.find_equals.Given as goal
 
 abbrev pub invariant-loop-i : goal.invariant-loop-i

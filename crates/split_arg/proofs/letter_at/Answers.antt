@@ -1,5 +1,4 @@
 -- An ASCII byte is a character by itself. Assumes nothing.
-use borrow.Author.Rules.{rules}
 use Rattle.utf8.specs.Laws.{decode_ascii}
 use Rattle.split_arg.proofs.letter_at.Goals as goal
 

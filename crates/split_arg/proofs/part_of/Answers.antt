@@ -1,13 +1,12 @@
 -- By the test. Assumes nothing.
 use borrow.Author.Tests.{eq-eqb, ne_eqb}
-use Rattle.utf8.specs.Utf8.{if◌then◌else◌}
 use Rattle.split_arg.specs.Items.{part_of}
 use Rattle.split_arg.proofs.part_of.Goals as goal
 
 pub returns-then-length-eq0 : goal.returns-then-length-eq0
-unfolding part_of if◌then◌else◌
+unfolding part_of
 returns-then-length-eq0 c = rw (eq-eqb _ _ c.if-length-eq0.true)
 
 pub returns : goal.returns
-unfolding part_of if◌then◌else◌
+unfolding part_of
 returns c = rw (ne_eqb _ _ c.if-length-eq0.false)

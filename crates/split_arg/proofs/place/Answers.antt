@@ -1,7 +1,6 @@
 use Prim.Native.Nat.{◌+◌, ◌-◌, ◌/◌}
 use native.Mathlib.Omega.{arith}
-use borrow.Author.Rules.{rules}
-use Rattle.split_arg.proofs.Order.{Between, between_first, upper_half, lower_half, between_last}
+use Rattle.split_arg.proofs.Order.{between_first, upper_half, lower_half, between_last}
 use Rattle.split_arg.proofs.place.Goals as goal
 
 pub loop-low-init : goal.loop-low-init

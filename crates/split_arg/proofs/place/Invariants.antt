@@ -1,8 +1,6 @@
 -- Invariant: the place lies between `low` and `high`. Measure: how far they are apart. Assumes nothing.
-use Prim.Native.Nat.{◌+◌, ◌-◌, ◌/◌}
-use native.Mathlib.Omega.{arith}
-use borrow.Author.Rules.{rules}
-use Rattle.split_arg.proofs.Order.{Between, between_first, upper_half, lower_half, between_last}
+use Prim.Native.Nat.{◌-◌}
+use Rattle.split_arg.proofs.Order.{Between}
 use Rattle.split_arg.proofs.place.Given as goal
 
 abbrev pub invariant-loop-low : goal.invariant-loop-low

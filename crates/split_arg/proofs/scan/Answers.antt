@@ -1,9 +1,6 @@
-use mathlib.Core.Path.{◌≡◌}
-use Prim.Native.Nat.{◌≤◌, ◌-◌}
-use lib.ListN.{length, drop}
+use Prim.Native.Nat.{◌-◌}
 use borrow.Author.Tests.{eq-eqb, ne_eqb}
 use borrow.Author.Rules.{rules}
-use Rattle.rules.specs.Base.{contains as has}
 use Rattle.split_arg.proofs.LookUp.{contains_end, contains_step}
 use Rattle.split_arg.proofs.scan.Goals as goal
 

@@ -2,10 +2,7 @@
 use mathlib.Core.Path.{◌≡◌}
 use Prim.Native.Nat.{◌≤◌, ◌-◌}
 use lib.ListN.{length, drop}
-use borrow.Author.Tests.{eq-eqb, ne_eqb}
-use borrow.Author.Rules.{rules}
 use Rattle.rules.specs.Base.{contains as has}
-use Rattle.split_arg.proofs.LookUp.{contains_end, contains_step}
 use Rattle.split_arg.proofs.scan.Given as goal
 
 abbrev pub invariant-loop-i : goal.invariant-loop-i

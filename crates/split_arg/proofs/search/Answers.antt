@@ -1,6 +1,5 @@
 -- The letter stands at its place or nowhere (`Order`). Assumes nothing.
 use native.Mathlib.Omega.{arith}
-use borrow.Author.Rules.{rules}
 use Rattle.split_arg.proofs.Order.{parted_end, parted_here}
 use Rattle.split_arg.proofs.search.Goals as goal
 

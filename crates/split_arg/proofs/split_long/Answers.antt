@@ -1,7 +1,6 @@
 -- The first `=` from byte 2 on ends the name (`Names`). Assumes nothing.
 use mathlib.Core.Path.{sym, ◌∙◌}
 use native.Mathlib.Omega.{arith}
-use borrow.Author.Rules.{rules}
 use Rattle.split_arg.proofs.Names.{equals_least, equals_most, no_long_name, long_bad, long_whole, long_value}
 use Rattle.split_arg.proofs.split_long.Goals as goal
 

@@ -1,5 +1,4 @@
 -- The first two bytes say which of the two it is. Assumes nothing.
-use borrow.Author.Rules.{rules}
 use Rattle.split_arg.proofs.Names.{too_short, no_dash_lem, two_dashes, one_dash}
 use Rattle.split_arg.proofs.split_os_argument.Goals as goal
 

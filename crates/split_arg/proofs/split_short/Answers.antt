@@ -1,6 +1,5 @@
 -- The first `=` from byte 2 on ends the name; with an `=` the name is one byte (`Names`). Assumes nothing.
 use mathlib.Core.Path.{sym, ◌∙◌}
-use borrow.Author.Rules.{rules}
 use Rattle.split_arg.proofs.Names.{short_bad, short_whole, letter_bad, short_value_lem, short_rest}
 use Rattle.split_arg.proofs.split_short.Goals as goal
 

@@ -1,4 +1,3 @@
-use borrow.Author.Rules.{rules}
 use Rattle.split_arg.proofs.store_item.Goals as goal
 
 pub returns-then-items-i-ge7 : goal.returns-then-items-i-ge7

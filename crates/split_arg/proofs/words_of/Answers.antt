@@ -1,6 +1,4 @@
 -- By the kind. Assumes nothing.
-use borrow.Author.Rules.{rules}
-use Rattle.utf8.specs.Utf8.{if◌then◌else◌}
 use Rattle.rules.specs.Split.{bit}
 use Rattle.split_arg.proofs.words_of.Goals as goal
 
@@ -11,13 +9,13 @@ pub returns-in-Long : goal.returns-in-Long
 returns-in-Long c = rw (c.in-Long.is, ← c.bit-in-Long.ensures)
 
 pub returns-in-ArgWord : goal.returns-in-ArgWord
-unfolding bit if◌then◌else◌
+unfolding bit
 returns-in-ArgWord c = rw c.in-ArgWord.is
 
 pub returns-in-Word : goal.returns-in-Word
-unfolding bit if◌then◌else◌
+unfolding bit
 returns-in-Word c = rw c.in-Word.is
 
 pub returns-in-PosWord : goal.returns-in-PosWord
-unfolding bit if◌then◌else◌
+unfolding bit
 returns-in-PosWord c = rw c.in-PosWord.is

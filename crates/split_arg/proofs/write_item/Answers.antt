@@ -1,5 +1,4 @@
 -- The seven words are copied. Assumes nothing.
-use borrow.Author.Rules.{rules}
 use Rattle.split_arg.proofs.write_item.Goals as goal
 
 pub returns : goal.returns

@@ -1,10 +1,9 @@
 use mathlib.Core.Path.{refl}
 use Prim.Native.Nat.{◌-◌}
 use native.Mathlib.Omega.{arith}
-use borrow.Author.Rules.{rules}
 use Rattle.split_args.proofs.Sheets.{good_sheet}
 use Rattle.split_args.proofs.Lines.{count_is}
-use Rattle.split_args.proofs.Plain.{Plain, plain_entry, plain_not, plain_next, plain_all}
+use Rattle.split_args.proofs.Plain.{plain_entry, plain_not, plain_next, plain_all}
 use Rattle.split_args.proofs.all_plain.Goals as goal
 
 pub u16_at-n-requires : goal.u16_at-n-requires

@@ -1,5 +1,4 @@
 -- By whether `--` was seen. Assumes nothing.
-use borrow.Author.Rules.{rules}
 use Rattle.split_args.proofs.States.{no_marker, one_marker}
 use Rattle.split_args.proofs.begin.Goals as goal
 

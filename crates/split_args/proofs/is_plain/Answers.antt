@@ -1,5 +1,4 @@
 -- By the length and the first two bytes. Assumes nothing.
-use borrow.Author.Rules.{rules}
 use Rattle.split_args.proofs.Plain.{plain_short, plain_word, plain_dashed}
 use Rattle.split_args.proofs.is_plain.Goals as goal
 

@@ -1,5 +1,4 @@
 -- By whether `--` was seen. Assumes nothing.
-use borrow.Author.Rules.{rules}
 use Rattle.split_arg.specs.Clusters.{letters}
 use Rattle.split_group.proofs.Groups.{makes_same}
 use Rattle.split_args.proofs.Lines.{group_first, group_later}

@@ -1,12 +1,9 @@
 -- Invariant: the first k arguments are split and written, and what is left decides (`Lines`). Assumes nothing.
-use mathlib.Core.Path.{◌≡◌, refl}
-use mathlib.Core.Logic.{inl}
+use mathlib.Core.Path.{◌≡◌}
 use Prim.Native.Nat.{◌-◌}
-use borrow.Author.Rules.{rules}
 use Rattle.rules.specs.Sheet.{argument_count}
 use Rattle.split_arg.specs.Clusters.{letters}
-use Rattle.split_args.proofs.Lines.{SplitSoFar, two_bytes, count_is, going_first, has_offset, has_argument, fits_here, made_long}
-use Rattle.split_args.proofs.Lines.{too_many_lem, goes_on, count_few, ambiguous_few, ambiguous_letter_lem, marker_small, all_done, fits_32, fits_64}
+use Rattle.split_args.proofs.Lines.{SplitSoFar}
 use Rattle.split_args.proofs.split_arguments.Given as goal
 
 abbrev pub invariant-loop-k : goal.invariant-loop-k

@@ -1,6 +1,5 @@
 -- The state is put together. Assumes nothing.
 use mathlib.Core.Path.{◌∙◌}
-use borrow.Author.Rules.{rules}
 use Rattle.split_args.proofs.state_of.Goals as goal
 
 pub returns : goal.returns

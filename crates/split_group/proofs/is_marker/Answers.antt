@@ -1,5 +1,4 @@
 -- By its two bytes. Assumes nothing.
-use borrow.Author.Rules.{rules}
 use Rattle.split_group.proofs.Groups.{not_two, not_dash, second_dash}
 use Rattle.split_group.proofs.is_marker.Goals as goal
 

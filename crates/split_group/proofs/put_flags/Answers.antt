@@ -1,7 +1,6 @@
 -- Room for all letters, or none. Assumes nothing.
 use mathlib.Core.Path.{refl}
 use native.Mathlib.Omega.{arith}
-use borrow.Author.Rules.{rules}
 use Rattle.split_group.proofs.Stores.{puts_nothing, puts_all}
 use Rattle.split_group.proofs.put_flags.Goals as goal
 

@@ -1,7 +1,6 @@
 -- Room for all letters and both items, or none. Assumes nothing.
 use mathlib.Core.Path.{refl}
 use native.Mathlib.Omega.{arith}
-use borrow.Author.Rules.{rules}
 use Rattle.split_group.specs.Groups.{first_letters, flag_words}
 use Rattle.split_group.proofs.Stores.{sets_two_behind, puts_nothing, puts_all}
 use Rattle.split_group.proofs.Records.{flags_size}

@@ -1,7 +1,6 @@
 -- Room for two items, or none. Assumes nothing.
 use mathlib.Core.Path.{refl}
 use native.Mathlib.Omega.{arith}
-use borrow.Author.Rules.{rules}
 use Rattle.split_arg.specs.Items.{record_of}
 use Rattle.split_group.proofs.Stores.{sets_behind, record_size, puts_nothing, puts_all}
 use Rattle.split_group.proofs.put_two.Goals as goal

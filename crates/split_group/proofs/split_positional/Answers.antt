@@ -1,5 +1,4 @@
 -- A PosWord. Assumes nothing.
-use borrow.Author.Rules.{rules}
 use Rattle.split_group.proofs.Groups.{a_positional}
 use Rattle.split_group.proofs.split_positional.Goals as goal
 

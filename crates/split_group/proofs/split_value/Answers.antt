@@ -1,6 +1,5 @@
 -- The letter is one byte, which is UTF-8. Assumes nothing.
 use mathlib.Core.Path.{sym, ◌∙◌}
-use borrow.Author.Rules.{rules}
 use Rattle.split_group.proofs.Groups.{letter_known, a_value}
 use Rattle.split_group.proofs.split_value.Goals as goal
 

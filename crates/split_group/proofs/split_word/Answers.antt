@@ -1,6 +1,5 @@
 -- A Word, or the first `--`. Assumes nothing.
 use mathlib.Core.Path.{sym, ◌∙◌}
-use borrow.Author.Rules.{rules}
 use Rattle.split_group.proofs.Groups.{a_marker, a_word}
 use Rattle.split_group.proofs.split_word.Goals as goal
 

@@ -1,9 +1,8 @@
 use mathlib.Core.Path.{sym, ◌∙◌}
 use Prim.Native.Nat.{◌-◌}
 use native.Mathlib.Omega.{arith}
-use borrow.Author.Rules.{rules}
 use Rattle.utf8.specs.Laws.{character}
-use Rattle.split_group.proofs.Flags.{WroteFlags, wrote_none, wrote_more, wrote_all, letter_there}
+use Rattle.split_group.proofs.Flags.{wrote_none, wrote_more, wrote_all, letter_there}
 use Rattle.split_group.proofs.write_flags.Goals as goal
 
 pub loop-k-init : goal.loop-k-init

@@ -1,10 +1,6 @@
 -- Invariant: the first k letters are written, and the others follow. Assumes nothing.
-use mathlib.Core.Path.{sym, ◌∙◌}
 use Prim.Native.Nat.{◌-◌}
-use native.Mathlib.Omega.{arith}
-use borrow.Author.Rules.{rules}
-use Rattle.utf8.specs.Laws.{character}
-use Rattle.split_group.proofs.Flags.{WroteFlags, wrote_none, wrote_more, wrote_all, letter_there}
+use Rattle.split_group.proofs.Flags.{WroteFlags}
 use Rattle.split_group.proofs.write_flags.Given as goal
 
 abbrev pub invariant-loop-k : goal.invariant-loop-k

@@ -1,5 +1,4 @@
 -- A checked sheet's table has the entry. Assumes nothing.
-use borrow.Author.Rules.{rules}
 use Rattle.split_sheet.proofs.Arguments.{has_entry}
 use Rattle.split_sheet.proofs.argument.Goals as goal
 

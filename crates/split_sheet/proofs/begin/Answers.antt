@@ -1,7 +1,6 @@
 -- The offsets of a checked sheet are there. Assumes nothing.
 use mathlib.Core.Path.{refl}
 use mathlib.Core.Logic.{inl}
-use borrow.Author.Rules.{rules}
 use Rattle.split_sheet.proofs.Arguments.{offset_there}
 use Rattle.split_sheet.proofs.begin.Goals as goal
 

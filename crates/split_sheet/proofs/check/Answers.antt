@@ -2,7 +2,6 @@
 use mathlib.Core.Path.{refl}
 use mathlib.Core.Logic.{inl}
 use native.Mathlib.Omega.{arith}
-use borrow.Author.Rules.{rules}
 use Rattle.wire.specs.Laws.{start_most}
 use Rattle.split_sheet.proofs.Faults.{no_count, too_many_lem, bad_table, area_there, too_long, no_fault}
 use Rattle.split_sheet.proofs.check.Goals as goal

@@ -1,6 +1,5 @@
 -- A checked sheet has two bytes. Assumes nothing.
 use native.Mathlib.Omega.{arith}
-use borrow.Author.Rules.{rules}
 use Rattle.rules.specs.Sheet.{argument_count}
 use Rattle.rules.proofs.Formats.{good_sheet}
 use Rattle.split_sheet.proofs.count.Goals as goal

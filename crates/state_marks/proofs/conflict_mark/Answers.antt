@@ -1,5 +1,4 @@
 -- A law for each way out. Assumes nothing.
-use borrow.Author.Rules.{rules}
 use Rattle.state_marks.proofs.Marks.{conflict_used, conflict_new, conflict_none}
 use Rattle.state_marks.proofs.conflict_mark.Goals as goal
 

@@ -1,6 +1,5 @@
 use Prim.Native.Nat.{◌-◌}
-use borrow.Author.Rules.{rules}
-use Rattle.state_marks.proofs.Marks.{Counting, counting_first, counting_more, counting_next, counting_last}
+use Rattle.state_marks.proofs.Marks.{counting_first, counting_more, counting_next, counting_last}
 use Rattle.state_marks.proofs.count_present.Goals.{then-is_present, else-is_present}
 use Rattle.state_marks.proofs.count_present.Goals as goal
 

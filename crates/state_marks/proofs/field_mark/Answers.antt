@@ -1,6 +1,5 @@
 -- The mark fits in 16 bits. Assumes nothing.
 use mathlib.Core.Path.{refl}
-use borrow.Author.Rules.{rules}
 use Rattle.state_marks.proofs.Mark.{field_told}
 use Rattle.state_marks.proofs.field_mark.Goals as goal
 

@@ -1,6 +1,5 @@
 use Prim.Native.Nat.{◌-◌}
-use borrow.Author.Rules.{rules}
-use Rattle.state_marks.proofs.Marks.{FirstFrom, searched_first, searched_next, searched_hit, searched_end}
+use Rattle.state_marks.proofs.Marks.{searched_first, searched_next, searched_hit, searched_end}
 use Rattle.state_marks.proofs.first_present.Goals as goal
 
 pub loop-i-init : goal.loop-i-init

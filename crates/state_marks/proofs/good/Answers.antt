@@ -15,17 +15,17 @@ use Rattle.state_marks.proofs.good.Goals as goal
 pub returns-then-wide-n : goal.returns-then-wide-n
 returns-then-wide-n c =
     refusing _ _ _ (λ k. elim c.then-wide-n.branch [
-    then-wide-n-via-then-wide-n w ↦ w.if-wide-n.true (c.wide.ensures ∙ k.count)
-    | then-wide-n-via-else-wide-n+then-n-gt256 w ↦ omega (arith, w.if-n-gt256.true, k.small)
+      | then-wide-n-via-then-wide-n w ↦ w.if-wide-n.true (c.wide.ensures ∙ k.count)
+      | then-wide-n-via-else-wide-n+then-n-gt256 w ↦ omega (arith, w.if-n-gt256.true, k.small)
     ])
 
 pub returns-then-end-start : goal.returns-then-end-start
 returns-then-end-start c =
     refusing _ _ _ (λ k. elim c.then-end-start.branch [
-    then-end-start-via-then-end-start w ↦ omega (arith, w.if-end-start.true, k.order, c.wide-start.ensures, c.wide-end.ensures)
-    | then-end-start-via-else-end-start+then-n-end w ↦ omega (arith, w.if-n-end.true, k.inside, c.wide-end.ensures)
-    | then-end-start-via-else-end-start+else-n-end+then-n-wide w ↦
-        omega (arith, w.if-n-wide.true, k.current, w.wide-else-n-end.ensures)
+      | then-end-start-via-then-end-start w ↦ omega (arith, w.if-end-start.true, k.order, c.wide-start.ensures, c.wide-end.ensures)
+      | then-end-start-via-else-end-start+then-n-end w ↦ omega (arith, w.if-n-end.true, k.inside, c.wide-end.ensures)
+      | then-end-start-via-else-end-start+else-n-end+then-n-wide w ↦
+          omega (arith, w.if-n-wide.true, k.current, w.wide-else-n-end.ensures)
     ])
 
 pub marks_good-requires : goal.marks_good-requires
@@ -36,9 +36,9 @@ marks_good-requires c =
 pub returns-then-not-marks_good : goal.returns-then-not-marks_good
 returns-then-not-marks_good c =
     refusing _ _ _ (λ k. elim c.then-not-marks_good.branch [
-    then-not-marks_good-via-then-not-marks_good w ↦ marks_kept _ _ _ k _ c.marks_good.ensures (ap not w.if-not-marks_good.true)
-    | then-not-marks_good-via-else-not-marks_good+then-not-zeros_from w ↦
-        rest_kept _ _ _ k _ w.zeros_from.ensures (ap not w.if-not-zeros_from.true)
+      | then-not-marks_good-via-then-not-marks_good w ↦ marks_kept _ _ _ k _ c.marks_good.ensures (ap not w.if-not-marks_good.true)
+      | then-not-marks_good-via-else-not-marks_good+then-not-zeros_from w ↦
+          rest_kept _ _ _ k _ w.zeros_from.ensures (ap not w.if-not-zeros_from.true)
     ])
 
 pub count_present-requires : goal.count_present-requires

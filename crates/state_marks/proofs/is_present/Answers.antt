@@ -1,5 +1,4 @@
 -- The code is the definition. Assumes nothing.
-use borrow.Author.Rules.{rules}
 use Rattle.state_marks.proofs.Mark.{present_is}
 use Rattle.state_marks.proofs.is_present.Goals as goal
 

@@ -1,5 +1,4 @@
 -- A law for each way out. Assumes nothing.
-use borrow.Author.Rules.{rules}
 use Rattle.state_marks.proofs.Mark.{zero_good, used_good, low_bad, winner_good}
 use Rattle.state_marks.proofs.mark_good.Goals as goal
 

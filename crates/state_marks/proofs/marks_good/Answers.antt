@@ -1,9 +1,7 @@
 use mathlib.Core.Path.{refl}
-use Prim.Native.Nat.{◌≤◌, ◌-◌}
-use lib.ListN.{take}
+use Prim.Native.Nat.{◌-◌}
 use borrow.Author.Rules.{rules}
-use Rattle.rules.specs.State.{used_below, mark_good}
-use Rattle.state_marks.proofs.Marks.{AllFrom, part_next, part_fails, part_last}
+use Rattle.state_marks.proofs.Marks.{part_next, part_fails, part_last}
 use Rattle.state_marks.proofs.marks_good.Goals as goal
 
 pub loop-i-init : goal.loop-i-init

@@ -1,10 +1,8 @@
 -- Invariant: the marks up to i pass. Assumes nothing.
-use mathlib.Core.Path.{refl}
 use Prim.Native.Nat.{◌≤◌, ◌-◌}
 use lib.ListN.{take}
-use borrow.Author.Rules.{rules}
 use Rattle.rules.specs.State.{used_below, mark_good}
-use Rattle.state_marks.proofs.Marks.{AllFrom, part_next, part_fails, part_last}
+use Rattle.state_marks.proofs.Marks.{AllFrom}
 use Rattle.state_marks.proofs.marks_good.Given as goal
 
 abbrev pub invariant-loop-i : goal.invariant-loop-i

@@ -1,12 +1,9 @@
 -- By the test. Assumes nothing.
 use borrow.Author.Tests.{eq-eqb, ne_eqb}
-use Rattle.utf8.specs.Utf8.{if◌then◌else◌}
 use Rattle.state_marks.proofs.or_differ.Goals as goal
 
 pub returns-then-x-y : goal.returns-then-x-y
-unfolding if◌then◌else◌
 returns-then-x-y c = rw (eq-eqb _ _ c.if-x-y.true)
 
 pub returns : goal.returns
-unfolding if◌then◌else◌
 returns c = rw (ne_eqb _ _ c.if-x-y.false)

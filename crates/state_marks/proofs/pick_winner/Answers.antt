@@ -1,6 +1,5 @@
 use Prim.Native.Nat.{◌-◌}
-use borrow.Author.Rules.{rules}
-use Rattle.state_marks.proofs.Marks.{Picking, picking_from, picking_next, picking_hit, picking_last}
+use Rattle.state_marks.proofs.Marks.{picking_from, picking_next, picking_hit, picking_last}
 use Rattle.state_marks.proofs.pick_winner.Goals as goal
 
 pub loop-i-init : goal.loop-i-init

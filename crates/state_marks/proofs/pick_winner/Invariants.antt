@@ -1,8 +1,7 @@
 -- Invariant: up to i the two agree. Assumes nothing.
 -- cN is the place N before c.
 use Prim.Native.Nat.{◌-◌}
-use borrow.Author.Rules.{rules}
-use Rattle.state_marks.proofs.Marks.{Picking, picking_from, picking_next, picking_hit, picking_last}
+use Rattle.state_marks.proofs.Marks.{Picking}
 use Rattle.state_marks.proofs.pick_winner.Given as goal
 
 abbrev pub invariant-loop-i : goal.invariant-loop-i

@@ -1,5 +1,4 @@
 -- A place outside the scope, a used one, and one that becomes used: a law each. Assumes nothing.
-use borrow.Author.Rules.{rules}
 use Rattle.state_marks.proofs.Laws.{below_scope, above_scope, used_before_lem, some_left, used_now}
 use Rattle.state_marks.proofs.remove.Goals as goal
 

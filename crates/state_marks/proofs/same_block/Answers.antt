@@ -1,6 +1,5 @@
 use Prim.Native.Nat.{◌-◌}
-use borrow.Author.Rules.{rules}
-use Rattle.state_marks.proofs.Marks.{Blocked, blocked_first, blocked_next, blocked_last}
+use Rattle.state_marks.proofs.Marks.{blocked_first, blocked_next, blocked_last}
 use Rattle.state_marks.proofs.same_block.Goals as goal
 
 pub loop-k-init : goal.loop-k-init

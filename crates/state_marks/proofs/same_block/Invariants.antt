@@ -1,7 +1,6 @@
 -- Invariant: unless others were found, the marks passed are the same. Measure: the marks left. Assumes nothing.
 use Prim.Native.Nat.{◌-◌}
-use borrow.Author.Rules.{rules}
-use Rattle.state_marks.proofs.Marks.{Blocked, blocked_first, blocked_next, blocked_last}
+use Rattle.state_marks.proofs.Marks.{Blocked}
 use Rattle.state_marks.proofs.same_block.Given as goal
 
 abbrev pub invariant-loop-k : goal.invariant-loop-k

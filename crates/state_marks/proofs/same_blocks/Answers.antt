@@ -1,6 +1,5 @@
 use Prim.Native.Nat.{◌-◌}
-use borrow.Author.Rules.{rules}
-use Rattle.state_marks.proofs.Marks.{Blocks, blocks_first, blocks_next}
+use Rattle.state_marks.proofs.Marks.{blocks_first, blocks_next}
 use Rattle.state_marks.proofs.same_blocks.Goals as goal
 
 pub loop-i-init : goal.loop-i-init

@@ -1,8 +1,6 @@
 -- Invariant: the marks passed are the same. Measure: the marks left. Assumes nothing.
 use Prim.Native.Nat.{◌-◌}
-use borrow.Author.Rules.{rules}
-use borrow.Author.Tests.{not-false}
-use Rattle.state_marks.proofs.Marks.{Blocks, blocks_first, blocks_next}
+use Rattle.state_marks.proofs.Marks.{Blocks}
 use Rattle.state_marks.proofs.same_blocks.Given as goal
 
 abbrev pub invariant-loop-i : goal.invariant-loop-i

@@ -1,6 +1,5 @@
 use Prim.Native.Nat.{◌-◌}
-use borrow.Author.Rules.{rules}
-use Rattle.state_marks.proofs.Marks.{Saving, saving_from, saving_next, saving_last}
+use Rattle.state_marks.proofs.Marks.{saving_from, saving_next, saving_last}
 use Rattle.state_marks.proofs.save_conflicts.Goals as goal
 
 pub loop-i-init : goal.loop-i-init

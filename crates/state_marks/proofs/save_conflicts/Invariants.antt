@@ -1,8 +1,7 @@
 -- Invariant: the first i marks are those of `conflicts`, the others as they were. It begins where blocks of the same marks end.
 -- Assumes nothing.
 use Prim.Native.Nat.{◌-◌}
-use borrow.Author.Rules.{rules}
-use Rattle.state_marks.proofs.Marks.{Saving, saving_from, saving_next, saving_last}
+use Rattle.state_marks.proofs.Marks.{Saving}
 use Rattle.state_marks.proofs.save_conflicts.Given as goal
 
 abbrev pub invariant-loop-i : goal.invariant-loop-i

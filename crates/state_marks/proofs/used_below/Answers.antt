@@ -1,5 +1,4 @@
 -- A law for each way out. Assumes nothing.
-use borrow.Author.Rules.{rules}
 use Rattle.state_marks.proofs.Mark.{unused_below, named_below, field_below}
 use Rattle.state_marks.proofs.used_below.Goals as goal
 

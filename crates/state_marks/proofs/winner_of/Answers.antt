@@ -1,5 +1,4 @@
 -- A law for each way out. Assumes nothing.
-use borrow.Author.Rules.{rules}
 use Rattle.state_marks.proofs.Mark.{winner_parsed, winner_none, winner_some}
 use Rattle.state_marks.proofs.winner_of.Goals as goal
 

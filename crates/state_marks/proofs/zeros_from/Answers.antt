@@ -1,11 +1,8 @@
 use mathlib.Core.Path.{refl, sym}
 use Prim.Native.Nat.{◌-◌}
-use lib.Dec.{eqb}
-use lib.ListN.{length}
-use borrow.Author.Rules.{rules}
 use borrow.Author.Tests.{eq-eqb, ne_eqb}
 use Rattle.rules.specs.Tree.{zeros}
-use Rattle.state_marks.proofs.Marks.{AllFrom, passing_next, passing_fails, passing_last}
+use Rattle.state_marks.proofs.Marks.{passing_next, passing_fails, passing_last}
 use Rattle.state_marks.proofs.zeros_from.Goals as goal
 
 pub loop-i-init : goal.loop-i-init

@@ -1,6 +1,5 @@
 -- A law for each way out. Assumes nothing.
 -- cN is the place N before c.
-use borrow.Author.Rules.{rules}
 use Rattle.state_value.proofs.Given.{until_ready, scope_none, scope_same, scope_some}
 use Rattle.state_value.proofs.adjacent_scope.Goals as goal
 

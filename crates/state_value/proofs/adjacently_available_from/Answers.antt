@@ -1,5 +1,4 @@
 -- By the law of the span. Assumes nothing.
-use borrow.Author.Rules.{rules}
 use Rattle.state_value.proofs.Given.{span_ready, span_over}
 use Rattle.state_value.proofs.adjacently_available_from.Goals as goal
 

@@ -1,7 +1,6 @@
 -- A law for each way out. Assumes nothing.
 -- cN is the place N before c.
 use native.Mathlib.Omega.{arith}
-use borrow.Author.Rules.{rules}
 use Rattle.state_value.proofs.Given.{first_ready, place_below_lem, conflict_nowhere, conflict_absent, conflict_there}
 use Rattle.state_value.proofs.conflict.Goals as goal
 

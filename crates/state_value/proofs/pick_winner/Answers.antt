@@ -1,6 +1,5 @@
 -- The two have the same count. Assumes nothing.
 -- cN is the place N before c.
-use borrow.Author.Rules.{rules}
 use Rattle.state_value.proofs.Given.{both_ready, picked_over}
 use Rattle.state_value.proofs.pick_winner.Goals as goal
 

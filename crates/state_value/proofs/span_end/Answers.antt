@@ -1,6 +1,5 @@
 use Prim.Native.Nat.{◌-◌}
-use borrow.Author.Rules.{rules}
-use Rattle.state_value.proofs.Loops.{Spanning, spanning_first, spanning_next, spanning_used, spanning_last}
+use Rattle.state_value.proofs.Loops.{spanning_first, spanning_next, spanning_used, spanning_last}
 use Rattle.state_value.proofs.span_end.Goals as goal
 
 pub loop-i-init : goal.loop-i-init

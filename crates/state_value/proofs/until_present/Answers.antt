@@ -1,7 +1,5 @@
-use mathlib.Core.Logic.{⊎_elim}
 use Prim.Native.Nat.{◌-◌}
-use borrow.Author.Rules.{rules}
-use Rattle.state_value.proofs.Loops.{Going, going_first, going_hit, going_ours, going_theirs, going_last}
+use Rattle.state_value.proofs.Loops.{going_first, going_hit, going_ours, going_theirs, going_last}
 use Rattle.state_value.proofs.until_present.Goals as goal
 use Rattle.state_value.proofs.until_present.Goals.{then-is_present+else-is_present-2, else-is_present}
 
@@ -12,7 +10,7 @@ pub returns-then-is_present-2 : goal.returns-then-is_present-2
 returns-then-is_present-2 c = search going_hit
 
 pub loop-i-preserved : goal.loop-i-preserved
-loop-i-preserved c = 
+loop-i-preserved c =
     elim c.if-is_present.branch [ then-is_present+else-is_present-2 w ↦ search going_theirs | else-is_present w ↦ search going_ours ]
 
 pub returns : goal.returns

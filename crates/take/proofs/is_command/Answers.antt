@@ -1,5 +1,4 @@
 -- By the kind of the item. Assumes nothing.
-use borrow.Author.Rules.{rules}
 use Rattle.take.proofs.Texts.{text_part_lem, no_command, a_command}
 use Rattle.std.proofs.Math.Path.{ap}
 use mathlib.Core.Bool.{not}

@@ -1,5 +1,4 @@
 -- By the kind of the item. Assumes nothing.
-use borrow.Author.Rules.{rules}
 use Rattle.take.proofs.Texts.{not_compared, tags_not_compared}
 use Rattle.take.proofs.is_compared.Goals as goal
 

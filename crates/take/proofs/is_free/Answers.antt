@@ -1,5 +1,4 @@
 -- By the end. Assumes nothing.
-use borrow.Author.Rules.{rules}
 use Rattle.take.proofs.Laws.{free_beyond, free_test}
 use Rattle.take.proofs.is_free.Goals as goal
 

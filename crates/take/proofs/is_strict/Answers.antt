@@ -1,5 +1,4 @@
 -- By the kind of the record. Assumes nothing.
-use borrow.Author.Rules.{rules}
 use Rattle.take.proofs.Texts.{strict_read}
 use Rattle.take.proofs.is_strict.Goals as goal
 

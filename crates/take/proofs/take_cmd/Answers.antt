@@ -1,7 +1,5 @@
 -- By the first present item. Assumes nothing.
-use mathlib.Core.Logic.{⊎_elim}
 use mathlib.Core.Path.{refl}
-use borrow.Author.Rules.{rules}
 use Rattle.take.proofs.Laws.{ready_item, cmd_missing, cmd_other, cmd_taken}
 use Rattle.take.proofs.take_cmd.Goals as goal
 use Rattle.take.proofs.take_cmd.Goals.{then-place-end+else-is_command, else-place-end}
@@ -17,10 +15,10 @@ returns-then-is_command c =
 pub returns : goal.returns
 returns c =
     elim c.if-place-end.branch [
-      then-place-end+else-is_command w ↦
-        cmd_other _ _ _ _ _ c.requires.1 _ _ c.wide-start.ensures c.wide-end.ensures _ c.first_present-place.ensures c.args.word.now w.if-place-end.true _
-        w.is_command.ensures w.if-is_command.false _ c.set_current-2.ensures
-    | else-place-end w ↦
-        cmd_missing _ _ _ _ _ c.requires.1 _ _ c.wide-start.ensures c.wide-end.ensures _ c.first_present-place.ensures c.args.word.now w.if-place-end.false _
-        c.set_current-2.ensures
+      | then-place-end+else-is_command w ↦
+          cmd_other _ _ _ _ _ c.requires.1 _ _ c.wide-start.ensures c.wide-end.ensures _ c.first_present-place.ensures c.args.word.now w.if-place-end.true _
+          w.is_command.ensures w.if-is_command.false _ c.set_current-2.ensures
+      | else-place-end w ↦
+          cmd_missing _ _ _ _ _ c.requires.1 _ _ c.wide-start.ensures c.wide-end.ensures _ c.first_present-place.ensures c.args.word.now w.if-place-end.false _
+          c.set_current-2.ensures
     ]

@@ -1,7 +1,6 @@
 -- By what the search of the scope finds. Assumes nothing.
 use mathlib.Core.Path.{refl}
 use native.Mathlib.Omega.{arith}
-use borrow.Author.Rules.{rules}
 use Rattle.take.proofs.Laws.{ready_items, scope_sought}
 use Rattle.take.proofs.take_flag.Goals as goal
 

@@ -1,6 +1,5 @@
 -- By what the search of the table finds. Assumes nothing.
 use mathlib.Core.Path.{refl}
-use borrow.Author.Rules.{rules}
 use Rattle.take.proofs.Laws.{known_sought}
 use Rattle.take.proofs.take_flag_known.Goals as goal
 

@@ -1,5 +1,4 @@
 -- From the start of the scope. Assumes nothing.
-use borrow.Author.Rules.{rules}
 use Rattle.take.proofs.Laws.{skip_none}
 use Rattle.take.proofs.take_positional_word.Goals as goal
 

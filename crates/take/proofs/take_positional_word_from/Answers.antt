@@ -1,5 +1,4 @@
 -- By what the search finds. Assumes nothing.
-use borrow.Author.Rules.{rules}
 use mathlib.Core.Path.{refl}
 use Rattle.take.proofs.Laws.{ready_room, ready_below, here_fine, operand_sought, operand_found, positional_missing, positional_taken}
 use Rattle.take.proofs.take_positional_word_from.Goals as goal

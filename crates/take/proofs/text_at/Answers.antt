@@ -1,5 +1,4 @@
 -- By the words of the record. Assumes nothing.
-use borrow.Author.Rules.{rules}
 use Rattle.take.proofs.Texts.{text_read}
 use Rattle.take.proofs.text_at.Goals as goal
 

@@ -1,5 +1,4 @@
 -- The rules remove the same two places. Assumes nothing.
-use borrow.Author.Rules.{rules}
 use Rattle.take.proofs.Laws.{value_fine, both_used}
 use Rattle.take.proofs.use_both.Goals as goal
 

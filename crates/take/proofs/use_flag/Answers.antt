@@ -1,7 +1,6 @@
 -- By where the search ended. Assumes nothing.
 use mathlib.Core.Path.{refl}
 use native.Mathlib.Omega.{arith}
-use borrow.Author.Rules.{rules}
 use Rattle.take.proofs.Laws.{flag_missing, flag_found}
 use Rattle.take.proofs.use_flag.Goals as goal
 

@@ -1,7 +1,5 @@
 use native.Mathlib.Omega.{arith}
-use borrow.Author.Rules.{rules}
-use Rattle.rules.specs.Sheet.{sheet_area}
-use Rattle.take_once.proofs.Names.{place_item, Looking, looking_first, looking_next, looking_hit, looking_last}
+use Rattle.take_once.proofs.Names.{place_item, looking_first, looking_next, looking_hit, looking_last}
 use Rattle.take_once.proofs.earlier.Goals as goal
 
 pub loop-j-init : goal.loop-j-init

@@ -1,8 +1,6 @@
 -- Invariant: no place from j on, below this one, has its name. Assumes nothing.
-use native.Mathlib.Omega.{arith}
-use borrow.Author.Rules.{rules}
 use Rattle.rules.specs.Sheet.{sheet_area}
-use Rattle.take_once.proofs.Names.{place_item, Looking, looking_first, looking_next, looking_hit, looking_last}
+use Rattle.take_once.proofs.Names.{Looking}
 use Rattle.take_once.proofs.earlier.Given as goal
 
 abbrev pub invariant-loop-j : goal.invariant-loop-j

@@ -1,5 +1,4 @@
 -- By the kind of the item. Assumes nothing.
-use borrow.Author.Rules.{rules}
 use Rattle.take_search.proofs.Items.{long_part}
 use Rattle.take_once.proofs.Names.{long_is, long_not}
 use Rattle.split_arg.proofs.Tags.{tags_not_long}

@@ -1,5 +1,4 @@
 -- By the kind of the item. Assumes nothing.
-use borrow.Author.Rules.{rules}
 use Rattle.take_once.proofs.Names.{short_is, short_not}
 use Rattle.split_arg.proofs.Tags.{tags_not_short}
 use Rattle.take_once.proofs.is_short.Goals as goal

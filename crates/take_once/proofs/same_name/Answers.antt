@@ -1,7 +1,6 @@
 -- By the kind of the first item. Assumes nothing.
 use Rattle.std.proofs.Math.Path.{refl}
 use mathlib.Core.Logic.{⊎_elim, inl, inr}
-use borrow.Author.Rules.{rules}
 use Rattle.take_search.proofs.Items.{long_part}
 use Rattle.take_once.proofs.Names.{named_short, named_long, named_not}
 use Rattle.take_once.proofs.same_name.Goals as goal
@@ -16,5 +15,5 @@ pub returns-in-Long : goal.returns-in-Long
 returns-in-Long c x y e d = named_long _ _ _ c.read_item-item.ensures x e y _ _ _ c.in-Long.is _ (c.is_long.ensures y d)
 
 pub returns-in-ArgWord : goal.returns-in-ArgWord
-returns-in-ArgWord c x y e d = named_not _ _ _ c.read_item-item.ensures x e y 
+returns-in-ArgWord c x y e d = named_not _ _ _ c.read_item-item.ensures x e y
     (⊎_elim (λ p. rw p.1 (inl refl)) (⊎_elim (λ p. rw p.1 (inr (inl refl))) (λ p. rw p.1 (inr (inr refl)))) c.in-ArgWord.is)

@@ -1,10 +1,5 @@
-use mathlib.Core.Logic.{⊎_elim}
 use Prim.Native.Nat.{◌-◌}
-use borrow.Author.Rules.{rules}
-use Rattle.rules.specs.Take.{matches_arg}
-use Rattle.rules.specs.Sheet.{sheet_area}
-use Rattle.take_search.proofs.Search.{item_there, Seeking, seeking_first, seeking_used, seeking_other, seeking_hit, seeking_last}
-use Rattle.form_codes.specs.Codes.{named_at}
+use Rattle.take_search.proofs.Search.{item_there, seeking_first, seeking_used, seeking_other, seeking_hit, seeking_last}
 use Rattle.take_search.proofs.find_named.Goals as goal
 use Rattle.take_search.proofs.find_named.Goals.{then-is_present+else-matches, else-is_present}
 
@@ -22,12 +17,12 @@ returns-then-matches c =
 pub loop-i-preserved : goal.loop-i-preserved
 loop-i-preserved c =
     elim c.if-is_present.branch [
-      then-is_present+else-matches w ↦
-        seeking_other _ _ _ _ _ _ _ c.loop-i.invariant c.loop-i-test.true c.requires.1.marked
-        _ c.is_present.ensures w.if-is_present.true _ w.matches.ensures w.if-matches.false
-    | else-is_present w ↦
-        seeking_used _ _ _ _ _ _ _ c.loop-i.invariant c.loop-i-test.true c.requires.1.marked
-        _ c.is_present.ensures w.if-is_present.false
+      | then-is_present+else-matches w ↦
+          seeking_other _ _ _ _ _ _ _ c.loop-i.invariant c.loop-i-test.true c.requires.1.marked
+          _ c.is_present.ensures w.if-is_present.true _ w.matches.ensures w.if-matches.false
+      | else-is_present w ↦
+          seeking_used _ _ _ _ _ _ _ c.loop-i.invariant c.loop-i-test.true c.requires.1.marked
+          _ c.is_present.ensures w.if-is_present.false
     ]
 
 pub returns : goal.returns

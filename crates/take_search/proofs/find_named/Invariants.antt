@@ -1,10 +1,8 @@
 -- Invariant: what is left to search finds what the whole does. Assumes nothing.
-use mathlib.Core.Logic.{⊎_elim}
 use Prim.Native.Nat.{◌-◌}
-use borrow.Author.Rules.{rules}
 use Rattle.rules.specs.Take.{matches_arg}
 use Rattle.rules.specs.Sheet.{sheet_area}
-use Rattle.take_search.proofs.Search.{item_there, Seeking, seeking_first, seeking_used, seeking_other, seeking_hit, seeking_last}
+use Rattle.take_search.proofs.Search.{Seeking}
 use Rattle.form_codes.specs.Codes.{named_at}
 use Rattle.take_search.proofs.find_named.Given as goal
 

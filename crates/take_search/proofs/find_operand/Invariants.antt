@@ -1,11 +1,8 @@
 -- Invariant: what is left to search finds what the whole does. Assumes nothing.
-use mathlib.Core.Logic.{⊎_elim}
 use mathlib.Core.List.{List}
 use Prim.Native.Nat.{ℕ, ◌-◌}
-use borrow.Author.Rules.{rules}
 use Rattle.rules.specs.Take.{is_operand}
-use Rattle.take_search.proofs.Items.{operand_said}
-use Rattle.take_search.proofs.Search.{Seeking, seeking_first, seeking_used, seeking_other, seeking_hit, seeking_last}
+use Rattle.take_search.proofs.Search.{Seeking}
 use Rattle.take_search.proofs.find_operand.Given as goal
 
 abbrev pub invariant-loop-place : goal.invariant-loop-place

@@ -1,8 +1,7 @@
 use Prim.Native.Nat.{◌-◌}
 use native.Mathlib.Omega.{arith}
-use borrow.Author.Rules.{rules}
 use Rattle.form_layout.proofs.Sizes.{names_few}
-use Rattle.take_search.proofs.NameLaws.{Scanning, scanning_first, scanning_next, scanning_hit, scanning_last}
+use Rattle.take_search.proofs.NameLaws.{scanning_first, scanning_next, scanning_hit, scanning_last}
 use Rattle.take_search.proofs.has_long.Goals as goal
 
 pub overflow_add-end : goal.overflow_add-end

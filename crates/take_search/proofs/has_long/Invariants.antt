@@ -1,9 +1,6 @@
 -- Invariant: what is left decides. Assumes nothing.
 use Prim.Native.Nat.{◌-◌}
-use native.Mathlib.Omega.{arith}
-use borrow.Author.Rules.{rules}
-use Rattle.form_layout.proofs.Sizes.{names_few}
-use Rattle.take_search.proofs.NameLaws.{Scanning, scanning_first, scanning_next, scanning_hit, scanning_last}
+use Rattle.take_search.proofs.NameLaws.{Scanning}
 use Rattle.take_search.proofs.has_long.Given as goal
 
 abbrev pub invariant-loop-k : goal.invariant-loop-k

@@ -1,7 +1,6 @@
 use mathlib.Core.Path.{refl}
 use Prim.Native.Nat.{◌-◌}
-use borrow.Author.Rules.{rules}
-use Rattle.take_search.proofs.NameLaws.{Sifting, sifting_first, sifting_next, sifting_hit, sifting_last}
+use Rattle.take_search.proofs.NameLaws.{sifting_first, sifting_next, sifting_hit, sifting_last}
 use Rattle.take_search.proofs.has_short.Goals as goal
 
 pub loop-k-init : goal.loop-k-init

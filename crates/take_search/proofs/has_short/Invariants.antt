@@ -1,8 +1,6 @@
 -- Invariant: what is left decides. Assumes nothing.
-use mathlib.Core.Path.{refl}
 use Prim.Native.Nat.{◌-◌}
-use borrow.Author.Rules.{rules}
-use Rattle.take_search.proofs.NameLaws.{Sifting, sifting_first, sifting_next, sifting_hit, sifting_last}
+use Rattle.take_search.proofs.NameLaws.{Sifting}
 use Rattle.take_search.proofs.has_short.Given as goal
 
 abbrev pub invariant-loop-k : goal.invariant-loop-k

@@ -1,5 +1,4 @@
 -- By the type of the record. Assumes nothing.
-use borrow.Author.Rules.{rules}
 use Rattle.take_search.proofs.NameLaws.{not_long_lem, long_same}
 use Rattle.take_search.proofs.is_long.Goals as goal
 

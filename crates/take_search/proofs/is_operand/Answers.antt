@@ -1,5 +1,4 @@
 -- By the kind. Assumes nothing.
-use borrow.Author.Rules.{rules}
 use Rattle.take_search.proofs.Items.{operand_four, operand_five}
 use Rattle.take_search.proofs.is_operand.Goals as goal
 

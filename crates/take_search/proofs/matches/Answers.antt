@@ -3,7 +3,6 @@ use Rattle.std.proofs.Math.Path.{ap}
 use mathlib.Core.Bool.{not}
 use Rattle.std.proofs.Math.Path.{refl}
 use mathlib.Core.Logic.{⊎_elim, inl, inr}
-use borrow.Author.Rules.{rules}
 use Rattle.take_search.proofs.Items.{short_apart, short_here, long_apart, long_here, other_not, long_part}
 use Rattle.take_search.proofs.matches.Goals as goal
 

@@ -2,7 +2,6 @@
 use mathlib.Core.Logic.{inl}
 use mathlib.Core.Path.{refl}
 use native.Mathlib.Omega.{arith}
-use borrow.Author.Rules.{rules}
 use Rattle.take_search.proofs.Items.{start_small, part_fits, part_bytes_are}
 use Rattle.take_search.proofs.part_bytes.Goals as goal
 

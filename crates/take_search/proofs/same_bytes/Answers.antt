@@ -1,7 +1,5 @@
 use Prim.Native.Nat.{◌-◌}
-use lib.ListN.{length}
-use borrow.Author.Rules.{rules}
-use Rattle.take_search.proofs.NameLaws.{other_length, Comparing, comparing_first, comparing_next, comparing_differ, comparing_last}
+use Rattle.take_search.proofs.NameLaws.{other_length, comparing_first, comparing_next, comparing_differ, comparing_last}
 use Rattle.take_search.proofs.same_bytes.Goals as goal
 
 pub returns-then-a-b : goal.returns-then-a-b

@@ -1,8 +1,7 @@
 -- Invariant: what is left decides. Assumes nothing.
 use Prim.Native.Nat.{◌-◌}
 use lib.ListN.{length}
-use borrow.Author.Rules.{rules}
-use Rattle.take_search.proofs.NameLaws.{other_length, Comparing, comparing_first, comparing_next, comparing_differ, comparing_last}
+use Rattle.take_search.proofs.NameLaws.{Comparing}
 use Rattle.take_search.proofs.same_bytes.Given as goal
 
 abbrev pub invariant-loop-i : goal.invariant-loop-i

@@ -1,5 +1,4 @@
 -- By whether the node is an adjacent argument. Assumes nothing.
-use borrow.Author.Rules.{rules}
 use Rattle.take_table.proofs.Owners.{stays_out, goes_in}
 use Rattle.take_table.proofs.add_loose.Goals as goal
 

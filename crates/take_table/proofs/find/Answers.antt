@@ -1,12 +1,6 @@
-use mathlib.Core.Bool.{Bool}
-use mathlib.Core.List.{List}
-use mathlib.Core.Logic.{⊎_elim}
 use mathlib.Core.Path.{◌∙◌}
-use Prim.Native.Nat.{ℕ, ◌-◌}
-use borrow.Author.Rules.{rules}
-use Rattle.rules.specs.Split.{Item}
-use Rattle.take_search.proofs.Search.{Seeking, seeking_first, seeking_used, seeking_other, seeking_hit, seeking_last}
-use Rattle.take_table.specs.Known.{TableTells}
+use Prim.Native.Nat.{◌-◌}
+use Rattle.take_search.proofs.Search.{seeking_first, seeking_used, seeking_other, seeking_hit, seeking_last}
 use Rattle.take_table.proofs.Absent.{absent_sought}
 use Rattle.take_table.proofs.find.Goals.{then-is_present+else-has, else-is_present}
 use Rattle.take_table.proofs.find.Goals as goal
@@ -28,10 +22,10 @@ loop-i-preserved c =
     λ area words test s.
     let z = c.loop-i.invariant area words test s in
     elim c.if-is_present.branch [
-      then-is_present+else-has w ↦
-        seeking_other area words test _ _ _ _ z c.loop-i-test.true c.requires.4 _ c.is_present.ensures w.if-is_present.true _
-        (λ x h. w.has.ensures ∙ s.at _ x c.loop-i-test.true h) w.if-has.false
-    | else-is_present w ↦ seeking_used area words test _ _ _ _ z c.loop-i-test.true c.requires.4 _ c.is_present.ensures w.if-is_present.false
+      | then-is_present+else-has w ↦
+          seeking_other area words test _ _ _ _ z c.loop-i-test.true c.requires.4 _ c.is_present.ensures w.if-is_present.true _
+          (λ x h. w.has.ensures ∙ s.at _ x c.loop-i-test.true h) w.if-has.false
+      | else-is_present w ↦ seeking_used area words test _ _ _ _ z c.loop-i-test.true c.requires.4 _ c.is_present.ensures w.if-is_present.false
     ]
 
 pub returns : goal.returns

@@ -1,14 +1,10 @@
 -- Invariant: what is left to search finds what the whole does. Assumes nothing.
 use mathlib.Core.Bool.{Bool}
 use mathlib.Core.List.{List}
-use mathlib.Core.Logic.{⊎_elim}
-use mathlib.Core.Path.{◌∙◌}
 use Prim.Native.Nat.{ℕ, ◌-◌}
-use borrow.Author.Rules.{rules}
 use Rattle.rules.specs.Split.{Item}
-use Rattle.take_search.proofs.Search.{Seeking, seeking_first, seeking_used, seeking_other, seeking_hit, seeking_last}
+use Rattle.take_search.proofs.Search.{Seeking}
 use Rattle.take_table.specs.Known.{TableTells}
-use Rattle.take_table.proofs.Absent.{absent_sought}
 use Rattle.take_table.proofs.find.Given as goal
 
 abbrev pub invariant-loop-i : goal.invariant-loop-i

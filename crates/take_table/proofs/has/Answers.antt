@@ -1,6 +1,5 @@
 -- Assumes nothing.
 use mathlib.Core.Path.{refl}
-use borrow.Author.Rules.{rules}
 use Rattle.take_table.specs.Bits.{bit_at}
 use Rattle.take_table.proofs.has.Goals as goal
 

@@ -1,7 +1,6 @@
 -- Assumes nothing.
 use mathlib.Core.Bool.{not}
 use mathlib.Core.Path.{ap}
-use borrow.Author.Rules.{rules}
 use Rattle.take_table.proofs.is_absent.Goals as goal
 
 pub returns : goal.returns

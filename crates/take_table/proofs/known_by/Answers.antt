@@ -1,8 +1,6 @@
 use Prim.Native.Nat.{◌-◌}
-use lib.ListN.{length}
 use borrow.Author.Rules.{rules}
-use Rattle.rules.specs.Sheet.{sheet_area}
-use Rattle.take_table.proofs.Lookups.{Listing, listing_first, listing_next, listing_last, item_there}
+use Rattle.take_table.proofs.Lookups.{listing_first, listing_next, listing_last, item_there}
 use Rattle.take_table.proofs.known_by.Goals as goal
 
 pub loop-i-init : goal.loop-i-init

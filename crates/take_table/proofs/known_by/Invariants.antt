@@ -1,9 +1,8 @@
 -- Invariant: the words of the first i items are there, and `all` is their union. Assumes nothing.
 use Prim.Native.Nat.{◌-◌}
 use lib.ListN.{length}
-use borrow.Author.Rules.{rules}
 use Rattle.rules.specs.Sheet.{sheet_area}
-use Rattle.take_table.proofs.Lookups.{Listing, listing_first, listing_next, listing_last, item_there}
+use Rattle.take_table.proofs.Lookups.{Listing}
 use Rattle.take_table.proofs.known_by.Given as goal
 
 abbrev pub invariant-loop-i : goal.invariant-loop-i

@@ -1,7 +1,5 @@
-use mathlib.Core.Logic.{⊎_elim}
 use Prim.Native.Nat.{◌-◌}
-use borrow.Author.Rules.{rules}
-use Rattle.take_table.proofs.Lookups.{Gathering, is_long, long_first, long_hit, long_miss, long_last}
+use Rattle.take_table.proofs.Lookups.{is_long, long_first, long_hit, long_miss, long_last}
 use Rattle.take_table.proofs.long_owners.Goals.{then-is_long, else-is_long}
 use Rattle.take_table.proofs.long_owners.Goals as goal
 
@@ -11,12 +9,12 @@ loop-k-init c = search long_first
 pub loop-k-preserved : goal.loop-k-preserved
 loop-k-preserved c =
     elim c.if-is_long.branch [
-      then-is_long w ↦
-        rw w.set-is
-        (long_hit _ _ _ c.requires.1 _ _ c.loop-k.invariant c.loop-k-test.true _ c.requires.2 _ c.is_long.ensures w.if-is_long.true _ w.union-set.ensures)
-    | else-is_long w ↦
-        rw w.set-is
-        (long_miss _ _ _ c.requires.1 _ _ c.loop-k.invariant c.loop-k-test.true _ c.requires.2 _ c.is_long.ensures w.if-is_long.false)
+      | then-is_long w ↦
+          rw w.set-is
+          (long_hit _ _ _ c.requires.1 _ _ c.loop-k.invariant c.loop-k-test.true _ c.requires.2 _ c.is_long.ensures w.if-is_long.true _ w.union-set.ensures)
+      | else-is_long w ↦
+          rw w.set-is
+          (long_miss _ _ _ c.requires.1 _ _ c.loop-k.invariant c.loop-k-test.true _ c.requires.2 _ c.is_long.ensures w.if-is_long.false)
     ]
 
 pub returns : goal.returns

@@ -1,7 +1,6 @@
 use Prim.Native.Nat.{◌-◌}
 use native.Mathlib.Omega.{arith}
-use borrow.Author.Rules.{rules}
-use Rattle.form_letters.proofs.Tables.{Marking, marking_first, marking_next, marking_last}
+use Rattle.form_letters.proofs.Tables.{marking_first, marking_next, marking_last}
 use Rattle.take_table.proofs.mark.Goals as goal
 
 pub loop-k-init : goal.loop-k-init

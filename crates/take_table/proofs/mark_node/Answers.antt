@@ -1,5 +1,4 @@
 -- A node of another kind names nothing. Assumes nothing.
-use borrow.Author.Rules.{rules}
 use Rattle.take_table.proofs.Owners.{no_kind, no_names_lem, marked}
 use Rattle.take_table.proofs.mark_node.Goals as goal
 

@@ -1,8 +1,6 @@
 use Prim.Native.Nat.{◌-◌}
-use lib.ListN.{length}
-use borrow.Author.Rules.{rules}
 use Rattle.form_layout.proofs.Sizes.{sized}
-use Rattle.take_table.proofs.Owners.{Adding, adding_first, adding_next, owners_made, loose_made}
+use Rattle.take_table.proofs.Owners.{adding_first, adding_next, owners_made, loose_made}
 use Rattle.take_table.proofs.mark_nodes.Goals as goal
 
 pub node_count-end-requires : goal.node_count-end-requires

@@ -1,9 +1,7 @@
 -- Invariant: the sets have the owners among the first n nodes. Assumes nothing.
 use Prim.Native.Nat.{◌-◌}
 use lib.ListN.{length}
-use borrow.Author.Rules.{rules}
-use Rattle.form_layout.proofs.Sizes.{sized}
-use Rattle.take_table.proofs.Owners.{Adding, adding_first, adding_next, owners_made, loose_made}
+use Rattle.take_table.proofs.Owners.{Adding}
 use Rattle.take_table.proofs.mark_nodes.Given as goal
 
 abbrev pub invariant-loop-n : goal.invariant-loop-n

@@ -1,7 +1,6 @@
 -- By the kind of the item. Assumes nothing.
 use Rattle.std.proofs.Math.Path.{refl}
 use mathlib.Core.Logic.{⊎_elim, inl, inr}
-use borrow.Author.Rules.{rules}
 use Rattle.take_search.proofs.Items.{long_part}
 use Rattle.take_table.proofs.Lookups.{short_matched, long_matched, none_matched}
 use Rattle.take_table.proofs.matching.Goals as goal

@@ -1,5 +1,4 @@
 -- Assumes nothing.
-use borrow.Author.Rules.{rules}
 use Rattle.take_table.proofs.Bits.{bit_shifted}
 use Rattle.take_table.proofs.only.Goals as goal
 

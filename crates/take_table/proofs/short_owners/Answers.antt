@@ -1,10 +1,6 @@
-use mathlib.Core.List.{List}
-use mathlib.Core.Logic.{⊎_elim}
 use mathlib.Core.Path.{refl}
-use Prim.Native.Nat.{ℕ, ◌-◌}
-use borrow.Author.Rules.{rules}
-use Rattle.take_table.specs.Owners.{Lookup}
-use Rattle.take_table.proofs.Lookups.{Gathering, is_short, short_first, short_hit, short_miss, short_last}
+use Prim.Native.Nat.{◌-◌}
+use Rattle.take_table.proofs.Lookups.{short_first, short_hit, short_miss, short_last}
 use Rattle.take_table.proofs.short_owners.Goals.{then-wide64-want, else-wide64-want}
 use Rattle.take_table.proofs.short_owners.Goals as goal
 
@@ -16,12 +12,12 @@ loop-k-preserved c =
     λ form loose q.
     let z = c.loop-k.invariant form loose q in
     elim c.if-wide64-want.branch [
-      then-wide64-want w ↦
-        rw w.set-is
-        (short_hit form _ _ _ loose q _ _ _ z c.loop-k-test.true _ _ _ c.wide64-want.ensures refl c.wide64.ensures w.if-wide64-want.true _ w.union-set.ensures)
-    | else-wide64-want w ↦
-        rw w.set-is
-        (short_miss form _ _ _ loose q _ _ _ z c.loop-k-test.true _ _ _ c.wide64-want.ensures refl c.wide64.ensures w.if-wide64-want.false)
+      | then-wide64-want w ↦
+          rw w.set-is
+          (short_hit form _ _ _ loose q _ _ _ z c.loop-k-test.true _ _ _ c.wide64-want.ensures refl c.wide64.ensures w.if-wide64-want.true _ w.union-set.ensures)
+      | else-wide64-want w ↦
+          rw w.set-is
+          (short_miss form _ _ _ loose q _ _ _ z c.loop-k-test.true _ _ _ c.wide64-want.ensures refl c.wide64.ensures w.if-wide64-want.false)
     ]
 
 pub returns : goal.returns

@@ -1,11 +1,8 @@
 -- Invariant: what is left decides. Assumes nothing.
 use mathlib.Core.List.{List}
-use mathlib.Core.Logic.{⊎_elim}
-use mathlib.Core.Path.{refl}
 use Prim.Native.Nat.{ℕ, ◌-◌}
-use borrow.Author.Rules.{rules}
 use Rattle.take_table.specs.Owners.{Lookup}
-use Rattle.take_table.proofs.Lookups.{Gathering, is_short, short_first, short_hit, short_miss, short_last}
+use Rattle.take_table.proofs.Lookups.{Gathering, is_short}
 use Rattle.take_table.proofs.short_owners.Given as goal
 
 abbrev pub invariant-loop-k : goal.invariant-loop-k

@@ -1,9 +1,5 @@
-use mathlib.Core.Path.{◌≡◌, refl, sym, ◌∙◌}
-use Prim.Native.Nat.{◌-◌}
+use mathlib.Core.Path.{refl, sym, ◌∙◌}
 use native.Mathlib.Omega.{arith}
-use lib.ListN.{length, drop}
-use borrow.Author.Rules.{rules}
-use Rattle.utf8.specs.Utf8.{well_formed}
 use Rattle.utf8.specs.Laws.{character, decode_ascii, well_formed_end, well_formed_char, well_formed_bad}
 use Rattle.utf8.proofs.all_characters.Goals as goal
 

@@ -1,11 +1,8 @@
 -- Invariant: the whole is as well-formed as what is left. Measure: what is left. Assumes nothing.
-use mathlib.Core.Path.{◌≡◌, refl, sym, ◌∙◌}
+use mathlib.Core.Path.{◌≡◌}
 use Prim.Native.Nat.{◌-◌}
-use native.Mathlib.Omega.{arith}
 use lib.ListN.{length, drop}
-use borrow.Author.Rules.{rules}
 use Rattle.utf8.specs.Utf8.{well_formed}
-use Rattle.utf8.specs.Laws.{character, decode_ascii, well_formed_end, well_formed_char, well_formed_bad}
 use Rattle.utf8.proofs.all_characters.Given as goal
 
 abbrev pub invariant-loop-at : goal.invariant-loop-at

@@ -1,6 +1,5 @@
 -- An ASCII byte is a character by itself; otherwise four bytes decide, where bytes that are missing count as 0. Assumes nothing.
 use mathlib.Core.Path.{sym}
-use borrow.Author.Rules.{rules}
 use Rattle.utf8.specs.Laws.{decode_end, decode_ascii, decode_bytes}
 use Rattle.utf8.proofs.decode_at.Goals as goal
 

@@ -1,11 +1,9 @@
 use mathlib.Core.List.{List}
-use mathlib.Core.Logic.{⊎_elim}
-use Prim.Native.Nat.{ℕ, ◌+◌, ◌-◌, ◌≤◌, ◌<◌}
+use Prim.Native.Nat.{ℕ, ◌+◌, ◌≤◌, ◌<◌}
 use native.Mathlib.Nat.{le_trans}
 use native.Mathlib.Omega.{arith}
 use borrow.Author.Count.{below_more}
-use borrow.Author.Rules.{rules}
-use lib.ListN.{length, get_or}
+use lib.ListN.{get_or}
 use Rattle.utf8.proofs.greatest.Goals as goal
 use Rattle.utf8.proofs.greatest.Goals.{then-most-s, else-most-s}
 
@@ -25,10 +23,9 @@ loop-at-init c = (omega arith, λ i l. omega arith)
 pub loop-at-preserved : goal.loop-at-preserved
 loop-at-preserved c =
     let rises : c.loop-at.most ≤ c.if-most-s.most =
-        elim c.if-most-s.branch [ then-most-s w ↦ omega arith | else-most-s w ↦ omega arith ] in
+    elim c.if-most-s.branch [ then-most-s w ↦ omega arith | else-most-s w ↦ omega arith ] in
     let above : get_or c.args.s.now c.loop-at.at 0 ≤ c.if-most-s.most =
-        elim c.if-most-s.branch [ then-most-s w ↦ omega arith | else-most-s w ↦ omega arith ] in
-    (
+    elim c.if-most-s.branch [ then-most-s w ↦ omega arith | else-most-s w ↦ omega arith ] in (
       omega arith,
       passed c.args.s.now c.loop-at.at c.loop-at.most c.if-most-s.most c.loop-at.invariant.1 rises above,
     )

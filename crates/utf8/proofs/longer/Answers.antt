@@ -2,7 +2,6 @@
 use mathlib.Core.Path.{refl, sym, ◌∙◌}
 use native.Mathlib.Nat.{le_refl}
 use native.Mathlib.Omega.{arith}
-use borrow.Author.Rules.{rules}
 use Rattle.utf8.specs.Utf8.{◌to◌, table, fits}
 use Rattle.utf8.specs.Laws.{inside, apart, free, after_lead, by_row, by_none}
 use Rattle.utf8.proofs.longer.Goals as goal

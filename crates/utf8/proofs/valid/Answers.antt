@@ -1,6 +1,5 @@
 use mathlib.Core.Path.{sym}
 use native.Mathlib.Omega.{arith}
-use borrow.Author.Rules.{rules}
 use Rattle.utf8.specs.Laws.{well_formed_ascii}
 use Rattle.utf8.proofs.valid.Goals as goal
 

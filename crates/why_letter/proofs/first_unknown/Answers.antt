@@ -1,9 +1,6 @@
 use borrow.Author.Rules.{rules}
 use Prim.Native.Nat.{◌-◌}
-use native.Mathlib.Omega.{arith}
-use lib.ListN.{length}
-use Rattle.split_arg.specs.Clusters.{letters}
-use Rattle.why_letter.proofs.Laws.{Seeking, seeking_first, seeking_end, seeking_hit, seeking_next, letter_fits, seeking_less}
+use Rattle.why_letter.proofs.Laws.{seeking_first, seeking_end, seeking_hit, seeking_next, letter_fits, seeking_less}
 use Rattle.why_letter.proofs.first_unknown.Goals as goal
 
 pub loop-letter-init : goal.loop-letter-init

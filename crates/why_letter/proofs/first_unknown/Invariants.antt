@@ -1,10 +1,8 @@
 -- Invariant: all letters before this byte are known. Assumes nothing.
-use borrow.Author.Rules.{rules}
 use Prim.Native.Nat.{◌-◌}
-use native.Mathlib.Omega.{arith}
 use lib.ListN.{length}
 use Rattle.split_arg.specs.Clusters.{letters}
-use Rattle.why_letter.proofs.Laws.{Seeking, seeking_first, seeking_end, seeking_hit, seeking_next, letter_fits, seeking_less}
+use Rattle.why_letter.proofs.Laws.{Seeking}
 use Rattle.why_letter.proofs.first_unknown.Given as goal
 
 abbrev pub invariant-loop-letter : goal.invariant-loop-letter

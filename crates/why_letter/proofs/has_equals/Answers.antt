@@ -1,7 +1,5 @@
-use borrow.Author.Rules.{rules}
 use Prim.Native.Nat.{◌-◌}
-use lib.ListN.{length}
-use Rattle.why_letter.proofs.Names.{NoEquals, equals_first, equals_next, equals_hit, equals_none}
+use Rattle.why_letter.proofs.Names.{equals_first, equals_next, equals_hit, equals_none}
 use Rattle.why_letter.proofs.has_equals.Goals as goal
 
 pub loop-i-init : goal.loop-i-init

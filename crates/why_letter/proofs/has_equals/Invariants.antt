@@ -1,8 +1,7 @@
 -- Invariant: no `=` stands before this byte. Assumes nothing.
-use borrow.Author.Rules.{rules}
 use Prim.Native.Nat.{◌-◌}
 use lib.ListN.{length}
-use Rattle.why_letter.proofs.Names.{NoEquals, equals_first, equals_next, equals_hit, equals_none}
+use Rattle.why_letter.proofs.Names.{NoEquals}
 use Rattle.why_letter.proofs.has_equals.Given as goal
 
 abbrev pub invariant-loop-i : goal.invariant-loop-i

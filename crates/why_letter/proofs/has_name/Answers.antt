@@ -1,6 +1,5 @@
 -- Each test in its turn. Assumes nothing.
 use Rattle.why_letter.proofs.Names.{name_short, name_plain, name_long, name_equals, name_utf8}
-use borrow.Author.Rules.{rules}
 use Rattle.why_letter.proofs.has_name.Goals as goal
 
 pub returns-then-os-lt2 : goal.returns-then-os-lt2

@@ -1,6 +1,5 @@
 -- By the flags, then by the arguments. Assumes nothing.
 use Rattle.why_letter.proofs.Laws.{known_flag, known_else}
-use borrow.Author.Rules.{rules}
 use Rattle.why_letter.proofs.is_known.Goals as goal
 
 pub returns-then-knows : goal.returns-then-knows

@@ -1,7 +1,6 @@
 -- By the item before the place. Assumes nothing.
 use Rattle.why_letter.proofs.Laws.{rest_first, rest_short, rest_other}
 use Rattle.split_arg.proofs.Tags.{tags_not_short}
-use borrow.Author.Rules.{rules}
 use Rattle.why_letter.proofs.is_rest.Goals as goal
 
 pub returns-then-i-eq0 : goal.returns-then-i-eq0

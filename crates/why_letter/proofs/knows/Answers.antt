@@ -1,7 +1,5 @@
-use borrow.Author.Rules.{rules}
 use Prim.Native.Nat.{◌-◌}
-use lib.ListN.{length}
-use Rattle.why_letter.proofs.Laws.{NotYet, knows_first, knows_hit, knows_next, knows_last}
+use Rattle.why_letter.proofs.Laws.{knows_first, knows_hit, knows_next, knows_last}
 use Rattle.why_letter.proofs.knows.Goals as goal
 
 pub loop-i-init : goal.loop-i-init

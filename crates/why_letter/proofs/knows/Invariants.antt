@@ -1,8 +1,7 @@
 -- Invariant: the letter is none of those before. Assumes nothing.
-use borrow.Author.Rules.{rules}
 use Prim.Native.Nat.{◌-◌}
 use lib.ListN.{length}
-use Rattle.why_letter.proofs.Laws.{NotYet, knows_first, knows_hit, knows_next, knows_last}
+use Rattle.why_letter.proofs.Laws.{NotYet}
 use Rattle.why_letter.proofs.knows.Given as goal
 
 abbrev pub invariant-loop-i : goal.invariant-loop-i

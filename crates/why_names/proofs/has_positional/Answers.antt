@@ -1,7 +1,7 @@
 use Prim.Native.Nat.{◌-◌}
 use borrow.Author.Rules.{rules}
 use Rattle.form_layout.proofs.Sizes.{node_below}
-use Rattle.why_names.proofs.Laws.{good_eight, NoPositional, positional_first, positional_next, positional_hit, positional_last}
+use Rattle.why_names.proofs.Laws.{good_eight, positional_first, positional_next, positional_hit, positional_last}
 use Rattle.why_names.proofs.has_positional.Goals as goal
 
 pub node_count-end-requires : goal.node_count-end-requires

@@ -1,8 +1,6 @@
 -- Invariant: no node before this one is a positional. Assumes nothing.
 use Prim.Native.Nat.{◌-◌}
-use borrow.Author.Rules.{rules}
-use Rattle.form_layout.proofs.Sizes.{node_below}
-use Rattle.why_names.proofs.Laws.{good_eight, NoPositional, positional_first, positional_next, positional_hit, positional_last}
+use Rattle.why_names.proofs.Laws.{NoPositional}
 use Rattle.why_names.proofs.has_positional.Given as goal
 
 abbrev pub invariant-loop-n : goal.invariant-loop-n

@@ -1,8 +1,7 @@
 use borrow.Author.Rules.{rules}
 use Prim.Native.Nat.{◌-◌}
-use Rattle.rules.specs.Sheet.{sheet_area}
 use Rattle.form_layout.proofs.Sizes.{node_below}
-use Rattle.why_names.proofs.Laws.{named_eight, Unnamed, unnamed_first, unnamed_next, unnamed_hit, unnamed_last}
+use Rattle.why_names.proofs.Laws.{named_eight, unnamed_first, unnamed_next, unnamed_hit, unnamed_last}
 use Rattle.why_names.proofs.is_named.Goals as goal
 
 pub node_count-end-requires : goal.node_count-end-requires

@@ -1,9 +1,7 @@
 -- Invariant: no node before this one has the item's name. Assumes nothing.
-use borrow.Author.Rules.{rules}
 use Prim.Native.Nat.{◌-◌}
 use Rattle.rules.specs.Sheet.{sheet_area}
-use Rattle.form_layout.proofs.Sizes.{node_below}
-use Rattle.why_names.proofs.Laws.{named_eight, Unnamed, unnamed_first, unnamed_next, unnamed_hit, unnamed_last}
+use Rattle.why_names.proofs.Laws.{Unnamed}
 use Rattle.why_names.proofs.is_named.Given as goal
 
 abbrev pub invariant-loop-n : goal.invariant-loop-n

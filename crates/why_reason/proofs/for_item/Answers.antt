@@ -1,6 +1,5 @@
 -- By the kind of the item. Assumes nothing.
 use Rattle.why_reason.proofs.Laws.{reason_room, item_name, item_value, item_operand}
-use borrow.Author.Rules.{rules}
 use Rattle.why_reason.proofs.for_item.Goals as goal
 
 pub read_item-item-requires : goal.read_item-item-requires

@@ -1,6 +1,5 @@
 -- By what the form has. Assumes nothing.
 use Rattle.why_reason.proofs.Laws.{name_asked, name_known, name_unknown}
-use borrow.Author.Rules.{rules}
 use Rattle.why_reason.proofs.for_name.Goals as goal
 
 pub is_named-requires : goal.is_named-requires

@@ -1,6 +1,5 @@
 -- By what the form has, and then by the letter. Assumes nothing.
 use Rattle.why_reason.proofs.Laws.{explain_long, operand_nobody, operand_letter, operand_none}
-use borrow.Author.Rules.{rules}
 use Rattle.why_reason.proofs.for_operand.Goals as goal
 
 pub has_positional-requires : goal.has_positional-requires

@@ -1,6 +1,5 @@
 -- By the mark before. Assumes nothing.
 use Rattle.why_reason.proofs.Laws.{value_first, value_used, value_free}
-use borrow.Author.Rules.{rules}
 use Rattle.why_reason.proofs.for_value.Goals as goal
 
 pub returns-then-i-eq0 : goal.returns-then-i-eq0

@@ -1,6 +1,5 @@
 -- What a good table says of the two offsets of an entry (`placed`) answers every need. Assumes nothing.
 use native.Mathlib.Omega.{arith}
-use borrow.Author.Rules.{rules}
 use Rattle.wire.specs.Laws.{placed, entry_part}
 use Rattle.wire.proofs.entry.Goals as goal
 

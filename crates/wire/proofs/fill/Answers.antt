@@ -1,7 +1,5 @@
 use Prim.Native.Nat.{◌-◌}
-use lib.ListN.{replicate}
-use borrow.Author.Rules.{rules}
-use Rattle.wire.proofs.Stores.{Stored, stored_first, filled_next, filled_last}
+use Rattle.wire.proofs.Stores.{stored_first, filled_next, filled_last}
 use Rattle.wire.proofs.fill.Goals as goal
 
 pub loop-i-init : goal.loop-i-init

@@ -1,8 +1,7 @@
 -- Invariant: the first i words are stored. Assumes nothing.
 use Prim.Native.Nat.{◌-◌}
 use lib.ListN.{replicate}
-use borrow.Author.Rules.{rules}
-use Rattle.wire.proofs.Stores.{Stored, stored_first, filled_next, filled_last}
+use Rattle.wire.proofs.Stores.{Stored}
 use Rattle.wire.proofs.fill.Given as goal
 
 abbrev pub invariant-loop-i : goal.invariant-loop-i

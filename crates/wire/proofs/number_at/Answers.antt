@@ -1,6 +1,5 @@
 -- A width that is not 2 is 4. Assumes nothing.
 use native.Mathlib.Omega.{arith}
-use borrow.Author.Rules.{rules}
 use Rattle.wire.specs.Laws.{wider}
 use Rattle.wire.proofs.number_at.Goals as goal
 

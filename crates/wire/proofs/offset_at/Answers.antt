@@ -1,6 +1,5 @@
 -- Offset k ends where the area of a table of k entries would start. Assumes nothing.
 use native.Mathlib.Omega.{arith}
-use borrow.Author.Rules.{rules}
 use Rattle.wire.specs.Wire.{offset}
 use Rattle.wire.specs.Laws.{offset_end}
 use Rattle.wire.proofs.offset_at.Goals as goal

@@ -1,7 +1,7 @@
 use Prim.Native.Nat.{◌-◌, ◌+◌}
 use native.Mathlib.Omega.{arith}
 use Rattle.wire.specs.Laws.{start_most, start_rises}
-use Rattle.wire.proofs.Tables.{Risen, risen_first, risen_next, too_short, first_bad, falls, last_test}
+use Rattle.wire.proofs.Tables.{risen_first, risen_next, too_short, first_bad, falls, last_test}
 use Rattle.wire.proofs.table_good.Goals as goal
 
 pub area_start-start-requires : goal.area_start-start-requires

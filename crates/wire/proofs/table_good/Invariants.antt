@@ -1,8 +1,6 @@
 -- Invariant: the offsets up to k do not fall, and the last of them is known. Assumes nothing.
-use Prim.Native.Nat.{◌-◌, ◌+◌}
-use native.Mathlib.Omega.{arith}
-use Rattle.wire.specs.Laws.{start_most, start_rises}
-use Rattle.wire.proofs.Tables.{Risen, risen_first, risen_next, too_short, first_bad, falls, last_test}
+use Prim.Native.Nat.{◌-◌}
+use Rattle.wire.proofs.Tables.{Risen}
 use Rattle.wire.proofs.table_good.Given as goal
 
 abbrev pub invariant-loop-k : goal.invariant-loop-k

@@ -1,7 +1,6 @@
 -- A byte is below 256, so the sum fits. Assumes nothing.
 use Prim.Native.Nat.{◌+◌}
 use native.Mathlib.Omega.{arith}
-use borrow.Author.Rules.{rules}
 use Rattle.wire.specs.Laws.{number_two}
 use Rattle.wire.proofs.u16_at.Goals as goal
 

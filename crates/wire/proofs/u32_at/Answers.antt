@@ -1,7 +1,6 @@
 -- A number of two bytes is below 65536, so the sum fits; a number of four bytes is two of two. Assumes nothing.
 use Prim.Native.Nat.{◌+◌}
 use native.Mathlib.Omega.{arith}
-use borrow.Author.Rules.{rules}
 use Rattle.wire.specs.Laws.{number_bound, number_split}
 use Rattle.wire.proofs.u32_at.Goals as goal
 

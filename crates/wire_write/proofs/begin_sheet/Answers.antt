@@ -1,5 +1,4 @@
 -- The slice is cleared, then the count is written. Assumes nothing.
-use borrow.Author.Rules.{rules}
 use Rattle.wire_write.proofs.Sheets.{count_fits, sheet_begun}
 use Rattle.wire_write.proofs.begin_sheet.Goals as goal
 

@@ -1,7 +1,6 @@
 use Prim.Native.Nat.{◌-◌}
-use borrow.Author.Rules.{rules}
 use Rattle.wire.proofs.Stores.{stored_first}
-use Rattle.wire_write.proofs.Stores.{Cleared, cleared_next, cleared_last}
+use Rattle.wire_write.proofs.Stores.{cleared_next, cleared_last}
 use Rattle.wire_write.proofs.clear_from.Goals as goal
 
 pub loop-i-init : goal.loop-i-init

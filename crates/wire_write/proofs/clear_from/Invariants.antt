@@ -1,8 +1,6 @@
 -- Invariant: the first i zeros are stored. Assumes nothing.
 use Prim.Native.Nat.{◌-◌}
-use borrow.Author.Rules.{rules}
-use Rattle.wire.proofs.Stores.{stored_first}
-use Rattle.wire_write.proofs.Stores.{Cleared, cleared_next, cleared_last}
+use Rattle.wire_write.proofs.Stores.{Cleared}
 use Rattle.wire_write.proofs.clear_from.Given as goal
 
 abbrev pub invariant-loop-i : goal.invariant-loop-i

@@ -1,6 +1,5 @@
 use Prim.Native.Nat.{◌-◌}
-use borrow.Author.Rules.{rules}
-use Rattle.wire.proofs.Stores.{Stored, stored_first, stored_next, stored_last}
+use Rattle.wire.proofs.Stores.{stored_first, stored_next, stored_last}
 use Rattle.wire_write.proofs.put.Goals as goal
 
 pub loop-i-init : goal.loop-i-init

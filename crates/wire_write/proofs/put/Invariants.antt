@@ -1,7 +1,6 @@
 -- Invariant: the first i bytes are stored. Assumes nothing.
 use Prim.Native.Nat.{◌-◌}
-use borrow.Author.Rules.{rules}
-use Rattle.wire.proofs.Stores.{Stored, stored_first, stored_next, stored_last}
+use Rattle.wire.proofs.Stores.{Stored}
 use Rattle.wire_write.proofs.put.Given as goal
 
 abbrev pub invariant-loop-i : goal.invariant-loop-i

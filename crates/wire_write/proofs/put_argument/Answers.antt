@@ -2,7 +2,6 @@
 use mathlib.Core.Path.{refl}
 use mathlib.Core.Logic.{inl}
 use native.Mathlib.Omega.{arith}
-use borrow.Author.Rules.{rules}
 use Rattle.wire_write.proofs.Sheets.{offset_fits, argument_put}
 use Rattle.wire_write.proofs.put_argument.Goals as goal
 

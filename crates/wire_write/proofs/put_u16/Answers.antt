@@ -1,5 +1,4 @@
 -- Two stores, one after the other. Assumes nothing.
-use borrow.Author.Rules.{rules}
 use Rattle.wire_write.proofs.Stores.{two_bytes, still_there}
 use Rattle.wire_write.proofs.put_u16.Goals as goal
 

@@ -1,5 +1,4 @@
 -- Four bytes are two and two. Assumes nothing.
-use borrow.Author.Rules.{rules}
 use Rattle.wire_write.proofs.Stores.{four_bytes}
 use Rattle.wire_write.proofs.put_u32.Goals as goal
 
