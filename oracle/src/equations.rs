@@ -50,14 +50,14 @@ fn header() -> (String, String) {
             let mut brought = Vec::new();
             for name in unfoldable(&text) {
                 let fresh = !all.contains(&name);
-                let own = if fresh { name.clone() } else { format!("{name}·{file}") };
+                let own = if fresh { name.clone() } else { format!("{name}_of_{file}") };
                 brought.push(if fresh { name } else { format!("{name} as {own}") });
                 all.push(own);
             }
-            uses.push_str(&format!("use Rattle·{name}.specs.{file}.{{{}}}\n", brought.join(", ")));
+            uses.push_str(&format!("use Rattle.{name}.specs.{file}.{{{}}}\n", brought.join(", ")));
         }
     }
-    (uses, format!("unfolding flatten xor shownPlace shownState shownRun shownCall onLine treeNamed {}\n", all.join(" ")))
+    (uses, format!("unfolding flatten xor shown_place shown_state shown_run shown_call on_line tree_named {}\n", all.join(" ")))
 }
 
 fn list<T: ToString>(numbers: impl IntoIterator<Item = T>) -> String {
@@ -99,7 +99,7 @@ struct Equations {
 impl Equations {
     fn add(&mut self, left: &str, right: &str) {
         self.made += 1;
-        let name = format!("case-{}", self.made);
+        let name = format!("case_{}", self.made);
         self.text.push_str(&format!("{name} : {left} ≡ {right}\n{}{name} = refl\n\n", self.unfolding));
     }
 
@@ -120,7 +120,7 @@ impl Equations {
         listed.resize(slices[2], 0);
         let all = words.chain(ran.records.iter().flatten().chain(&listed).map(|w| *w as usize));
         let lengths = slices.map(|n| n.to_string()).join(" ");
-        let left = format!("shownRun (run {} {} {lengths})", list(&case.form), list(&case.sheet));
+        let left = format!("shown_run (run {} {} {lengths})", list(&case.form), list(&case.sheet));
         self.add(&left, &list(all));
         self.cover(format!("answer {}", a.number));
         if let Ok(form) = Form::check(&case.form) {
@@ -142,7 +142,7 @@ impl Equations {
         let term = call_term(&call, &given, second.as_ref())?;
         let answer = script.call(&call).expect("a random call is allowed");
         let words = answer_words(&answer).into_iter().chain(state_words(&script.view()));
-        let left = format!("onLine {} {} (λ a is. {term})", list(&case.form), list(&case.sheet));
+        let left = format!("on_line {} {} (λ a is. {term})", list(&case.form), list(&case.sheet));
         self.add(&left, &list(words));
         self.cover(call.split(' ').next().unwrap_or("").to_string());
         Some(())
@@ -171,35 +171,37 @@ fn call_term(call: &str, given: &View, second: Option<&View>) -> Option<String> 
     let n = |k: usize| numbers[k];
     Some(match name {
         "remove" => {
-            format!("shownCall (remove (fieldMark {}) {s} {} >>= λ u. ok (record {{ answer = []; state = u }}))", n(1), n(0))
+            format!("shown_call (remove (field_mark {}) {s} {} >>= λ u. ok (record {{ answer = []; state = u }}))", n(1), n(0))
         }
-        "get" => format!("shownCall (ok (record {{ answer = bit (isSome (get is {s} {})) ∷ []; state = {s} }}))", n(0)),
-        "conflict" => format!("shownCall (conflict is {s} >>= λ c. ok (record {{ answer = conflictWords c; state = {s} }}))"),
-        "pick_winner" => format!("shownCall (ok (record {{ answer = pickedWords (pickWinner {s} {t}); state = {s} }}))"),
-        "save_conflicts" => format!("shownCall (ok (record {{ answer = []; state = saveConflicts {s} {t} {} }}))", n(1)),
-        "set_scope" => format!("shownCall (setScope {s} {} {} >>= λ u. ok (record {{ answer = []; state = u }}))", n(0), n(1)),
+        "get" => format!("shown_call (ok (record {{ answer = bit (is_some (get is {s} {})) ∷ []; state = {s} }}))", n(0)),
+        "conflict" => format!("shown_call (conflict is {s} >>= λ c. ok (record {{ answer = conflict_words c; state = {s} }}))"),
+        "pick_winner" => format!("shown_call (ok (record {{ answer = picked_words (pick_winner {s} {t}); state = {s} }}))"),
+        "save_conflicts" => format!("shown_call (ok (record {{ answer = []; state = save_conflicts {s} {t} {} }}))", n(1)),
+        "set_scope" => {
+            format!("shown_call (set_scope {s} {} {} >>= λ u. ok (record {{ answer = []; state = u }}))", n(0), n(1))
+        }
         "adjacent_scope" => {
-            format!("shownCall (adjacentScope {s} {t} >>= λ c. ok (record {{ answer = scopeWords c; state = {s} }}))")
+            format!("shown_call (adjacent_scope {s} {t} >>= λ c. ok (record {{ answer = scope_words c; state = {s} }}))")
         }
         "adjacently_available_from" => format!(
-            "shownCall (ok (record {{ answer = scopeWords (some (adjacentlyAvailableFrom {s} {})); state = {s} }}))",
+            "shown_call (ok (record {{ answer = scope_words (some (adjacently_available_from {s} {})); state = {s} }}))",
             n(0)
         ),
         "only_once" => {
-            format!("shownCall (onlyOnce is {} >>= λ p. ok (record {{ answer = shownPlace p ∷ []; state = {s} }}))", n(0))
+            format!("shown_call (only_once is {} >>= λ p. ok (record {{ answer = shown_place p ∷ []; state = {s} }}))", n(0))
         }
         "matches_arg" => format!(
-            "shownCall (ok (record {{ answer = matchWords (treeNamed a {}) (getElem? is {}); state = {s} }}))",
+            "shown_call (ok (record {{ answer = match_words (tree_named a {}) (get_elem? is {}); state = {s} }}))",
             n(0),
             n(1)
         ),
-        "take_flag" => format!("shownTook (takeFlag (fieldMark {}) is (treeNamed a {} .0) {s})", n(1), n(0)),
+        "take_flag" => format!("shown_took (take_flag (field_mark {}) is (tree_named a {}).0 {s})", n(1), n(0)),
         "take_arg" => {
-            format!("shownArg {s} (takeArg (fieldMark {}) is (treeNamed a {} .0) (treeNamed a {} .1) {s})", n(1), n(0), n(0))
+            format!("shown_arg {s} (take_arg (field_mark {}) is (tree_named a {}).0 (tree_named a {}).1 {s})", n(1), n(0), n(0))
         }
-        "take_positional_word" => format!("shownOperand (takePositionalWord (fieldMark {}) is {s})", n(0)),
-        "take_cmd" => format!("shownTook (takeCmd commandMark is (recordBytes a {}) {s})", n(0)),
-        "eval" => format!("shownEval (evalNode a is {} {s})", n(0)),
+        "take_positional_word" => format!("shown_operand (take_positional_word (field_mark {}) is {s})", n(0)),
+        "take_cmd" => format!("shown_took (take_cmd command_mark is (record_bytes a {}) {s})", n(0)),
+        "eval" => format!("shown_eval (eval_node a is {} {s})", n(0)),
         _ => return None,
     })
 }
