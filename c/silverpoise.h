@@ -1,10 +1,10 @@
 // Silverpoise for C99 and C++: command lines read under a form, answered with values or a numbered refusal.
 //
-// Link with target/staticlib/libexports.a (whole forms and lines: `rt staticlib exports` writes it), for commands with
-// target/staticlib/libexports_commands.a (`rt staticlib exports_commands`), for many lines in one call with
-// target/staticlib/libexports_batch.a (`rt staticlib exports_batch`), for what looks at a line that was run, which is the
-// careful run and why a place was left over, with target/staticlib/libexports_why.a (`rt staticlib exports_why`) and for the
-// single calls with target/staticlib/libexports_calls.a (`rt staticlib exports_calls`), on x86-64. docs/FORMAT.md has the
+// Link with target/staticlib/libexports.a (whole forms and lines: `tools/libraries exports` makes it), for commands with
+// target/staticlib/libexports_commands.a (`tools/libraries exports_commands`), for many lines in one call with
+// target/staticlib/libexports_batch.a (`tools/libraries exports_batch`), for what looks at a line that was run, which is the
+// careful run and why a place was left over, with target/staticlib/libexports_why.a (`tools/libraries exports_why`) and for the
+// single calls with target/staticlib/libexports_calls.a (`tools/libraries exports_calls`), on x86-64. docs/FORMAT.md has the
 // formats, the rules and the refusals; numbers in brackets here are its sections. c/example.c reads a whole line.
 //
 // What holds of every call:
