@@ -1029,7 +1029,7 @@ fn the_wear_order_of_the_workshop() {
     assert_eq!(table.forms()[0].bytes(), emitted("wear.form"));
 }
 
-/// The proved program `bench` reads what is emitted, a sheet behind it. It is left out where `rt check bench` was not run.
+/// The proved program `bench` reads what is emitted, a sheet behind it. It is left out where `tools/programs bench` was not run.
 #[test]
 fn bench_reads_emitted_forms() {
     let bench = Path::new(env!("CARGO_MANIFEST_DIR")).join("../target/bin/bench");
