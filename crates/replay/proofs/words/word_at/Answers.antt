@@ -1,6 +1,5 @@
 -- A word that is there whole, or 0. Assumes nothing.
 use borrow.Author.Tests.{le-ltb, lt-ltb}
-use Rattle.std.specs.Prelude.{if◌then◌else◌}
 use Rattle.replay.specs.Words.{word_at}
 use Rattle.replay.proofs.words.word_at.Goals as goal
 
