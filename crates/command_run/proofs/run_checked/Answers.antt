@@ -19,14 +19,7 @@ pub run_table-requires : goal.run_table-requires
 run_table-requires c = line_split _ _ _ _ _ c.requires.0 _ c.fill.ensures _ c.fill-2.ensures _ _ c.split-split.ensures _ _ c.begin-p.ensures c.if-split-ne0.false
 
 pub shape_of-answers : goal.shape_of-answers
-shape_of-answers c =
-    let
-    by-fill
-    =
-    c in
-    let fill = by-fill.fill in
-    let args = by-fill.before.before.before.before.before.before.before.args in
-    c.answers-2-1.given ∙ fill_long _ args.answers.now 0 (length args.answers.now) fill.ensures
+shape_of-answers c = c.answers-2-1.given ∙ fill_long _ c.args.answers.now 0 (length c.args.answers.now) c.fill.ensures
 
 pub shape_of-list : goal.shape_of-list
 shape_of-list c = c.list-2-1.given ∙ fill_long _ c.args.list.now 0 (length c.args.list.now) c.fill-2.ensures

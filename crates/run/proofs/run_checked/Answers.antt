@@ -13,14 +13,7 @@ pub run_split-requires : goal.run_split-requires
 run_split-requires c = search after_split
 
 pub shape_of-answers : goal.shape_of-answers
-shape_of-answers c =
-    let
-    by-fill
-    =
-    c in
-    let fill = by-fill.fill in
-    let args = by-fill.before.before.before.before.before.before.before.args in
-    c.answers-2-1.given ∙ fill_long _ args.answers.now 0 (length args.answers.now) fill.ensures
+shape_of-answers c = c.answers-2-1.given ∙ fill_long _ c.args.answers.now 0 (length c.args.answers.now) c.fill.ensures
 
 pub shape_of-list : goal.shape_of-list
 shape_of-list c = c.list-2-1.given ∙ fill_long _ c.args.list.now 0 (length c.args.list.now) c.fill-2.ensures
