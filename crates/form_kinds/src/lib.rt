@@ -2,7 +2,7 @@
 // if there is a repeat here or beneath, and 32 for a node at fault.
 #![tactic(auto)]
 
-ghost use Rattle.std.specs.Prelude.{◌≡◌, true, [], ◌∷◌, replicate};
+ghost use Rattle.std.specs.Prelude.{◌≡◌, true, [], ◌∷◌};
 ghost use Rattle.rules.specs.Base.{is_some};
 ghost use Rattle.rules.specs.Form.{read_form};
 ghost use Rattle.rules.specs.Tree.{zeros, names_of};
@@ -211,13 +211,6 @@ fn inner_code(b: &[u8], x: form_layout::Node, c: u8, d: u8) -> u8
         11 => guard_code(x, c),
         _ => AT_FAULT,
     }
-}
-
-// A table of codes in which none is known: 0 is no code.
-pub fn empty() -> [u8; 64]
-    ensures { result ≡ replicate 64 0 }
-{
-    [0u8; 64]
 }
 
 // The code of child p of node k, which is worked out first unless it is known; 0 if there is no such child.
