@@ -34,7 +34,8 @@ slice_bounds-iter-end c = sym (length-take-le _ c.fill_all.new.table (omega (ari
 pub returns-in-Some : goal.returns-in-Some
 returns-in-Some c =
     let first : c.position.result ≡ position (λ x. eqb x 32) (take c.node_count-n.result c.fill_all.new.table) =
-    position_from_yields_List (λ x. eqb x 32) _ _ c.position.result c.position.ensures.ran (YieldsList-from_slice (take c.node_count-n.result c.fill_all.new.table) c.iter.ensures.rest) (λ x b q k. search (rules, tests)) in
+    position_from_yields_List (λ x. eqb x 32) _ _ c.position.result c.position.ensures.ran
+    (YieldsList-from_slice (take c.node_count-n.result c.fill_all.new.table) c.iter.ensures.rest) (λ x b q k. search (rules, tests)) in
     nodes_bad _ _ (nodes_length c.args.b.now ∙ sym c.node_count-n.ensures)
     (omega (arith, c.node_count-n.ensures, sized _ c.requires))
     _ c.fill_all.ensures _ _
@@ -44,7 +45,8 @@ returns-in-Some c =
 pub returns-in-None : goal.returns-in-None
 returns-in-None c =
     let first : c.position.result ≡ position (λ x. eqb x 32) (take c.node_count-n.result c.fill_all.new.table) =
-    position_from_yields_List (λ x. eqb x 32) _ _ c.position.result c.position.ensures.ran (YieldsList-from_slice (take c.node_count-n.result c.fill_all.new.table) c.iter.ensures.rest) (λ x b q k. search (rules, tests)) in
+    position_from_yields_List (λ x. eqb x 32) _ _ c.position.result c.position.ensures.ran
+    (YieldsList-from_slice (take c.node_count-n.result c.fill_all.new.table) c.iter.ensures.rest) (λ x b q k. search (rules, tests)) in
     nodes_good _ _ (nodes_length c.args.b.now ∙ sym c.node_count-n.ensures)
     (omega (arith, c.node_count-n.ensures, sized _ c.requires))
     _ c.fill_all.ensures _

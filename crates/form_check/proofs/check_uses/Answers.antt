@@ -32,7 +32,8 @@ slice_bounds-iter-end c = sym (length-take-le _ c.count_children.new.counts (ome
 pub returns-in-Some : goal.returns-in-Some
 returns-in-Some c =
     let first : c.position.result ≡ position (λ x. not (eqb x 1)) (take c.node_count-n.result c.count_children.new.counts) =
-    position_from_yields_List (λ x. not (eqb x 1)) _ _ c.position.result c.position.ensures.ran (YieldsList-from_slice (take c.node_count-n.result c.count_children.new.counts) c.iter.ensures.rest) (λ x b q k. search (rules, tests)) in
+    position_from_yields_List (λ x. not (eqb x 1)) _ _ c.position.result c.position.ensures.ran
+    (YieldsList-from_slice (take c.node_count-n.result c.count_children.new.counts) c.iter.ensures.rest) (λ x b q k. search (rules, tests)) in
     λ ts e. uses_fault _ ts e _ c.node_count-n.ensures _ _ _ c.count_fields.ensures _ (ap not c.if-not-count_fields.false) (sized _ c.requires).counts.nodes.1
     refl _ c.count_children.ensures _
     (found_some (λ x. not (eqb x 1)) _ _ (λ k. not_not _) _ (omega (arith, c.count_children.array_long, c.node_count-n.ensures, sized _ c.requires)) _ first _ c.in-Some.is)
@@ -41,7 +42,8 @@ returns-in-Some c =
 pub returns-in-None : goal.returns-in-None
 returns-in-None c =
     let first : c.position.result ≡ position (λ x. not (eqb x 1)) (take c.node_count-n.result c.count_children.new.counts) =
-    position_from_yields_List (λ x. not (eqb x 1)) _ _ c.position.result c.position.ensures.ran (YieldsList-from_slice (take c.node_count-n.result c.count_children.new.counts) c.iter.ensures.rest) (λ x b q k. search (rules, tests)) in
+    position_from_yields_List (λ x. not (eqb x 1)) _ _ c.position.result c.position.ensures.ran
+    (YieldsList-from_slice (take c.node_count-n.result c.count_children.new.counts) c.iter.ensures.rest) (λ x b q k. search (rules, tests)) in
     λ ts e. uses_good _ ts e _ c.node_count-n.ensures _ _ _ c.count_fields.ensures _ (ap not c.if-not-count_fields.false) (sized _ c.requires).counts.nodes.1
     refl _ c.count_children.ensures
     (found_none (λ x. not (eqb x 1)) _ _ (λ k. not_not _) _ (omega (arith, c.count_children.array_long, c.node_count-n.ensures, sized _ c.requires)) _ first c.in-None.is)
