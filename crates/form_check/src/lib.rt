@@ -39,9 +39,7 @@ fn fill_all(b: &[u8], table: &mut [u8; 64])
     requires { (length_good b.now ≡ true) × (table.old ≡ replicate 64 0) }
     ensures { table.new ≡ codes (read_form b.now) 64 }
 {
-    let mut k = form_layout::node_count(b);
-    while 0 < k {
-        k -= 1;
+    for k in (0..form_layout::node_count(b)).rev() {
         if table[k] == 0 {
             form_kinds::fill(b, k, table);
         }
@@ -54,29 +52,10 @@ fn greatest(codes: &[u8; 64]) -> u8
     ensures { result ≡ greatest codes.now }
 {
     let mut most: u8 = 0;
-    let mut k = 0;
-    while k < 64 {
-        if most < codes[k] {
-            most = codes[k];
-        }
-        k += 1;
+    for c in codes {
+        most = most.max(*c);
     }
     most
-}
-
-// The lowest of n nodes that is at fault by its code, or n.
-fn codes_fault(codes: &[u8; 64], n: usize) -> usize
-    requires { n ≤ 64 }
-    ensures { result ≡ fault_or n (first_fault (λ k. not (eqb (get_or codes.now k 0) 32)) 0 (numbers n 0)) }
-{
-    let mut k = 0;
-    while k < n {
-        if codes[k] == AT_FAULT {
-            return k;
-        }
-        k += 1;
-    }
-    n
 }
 
 // The lowest node at fault.
@@ -85,16 +64,15 @@ fn check_nodes(b: &[u8]) -> rules::Refused
     ensures { result ≡ check_code (trees_from (read_form b.now) [] (read_form b.now).nodes) }
 {
     let n = form_layout::node_count(b);
-    let mut codes = form_kinds::empty();
+    let mut codes = [0u8; 64];
     fill_all(b, &mut codes);
     if greatest(&codes) < AT_FAULT {
         return refused(0, 0); // none is at fault
     }
-    let fault = codes_fault(&codes, n);
-    if fault < n {
-        return refused(BAD_NODE, fault + 1);
+    match codes[..n].iter().position(|c| *c == AT_FAULT) {
+        Some(fault) => refused(BAD_NODE, fault + 1),
+        None => refused(0, 0),
     }
-    refused(0, 0)
 }
 
 // One more use of node k: 0, 1, or 2 for more.
@@ -113,18 +91,17 @@ fn count_fields(b: &[u8], n: usize, counts: &mut [u8; 64]) -> bool
     ensures { FieldsCounted n (read_form b.now).fields counts.old counts.new result }
 {
     let f = form_layout::field_count(b);
-    let mut i = 0;
-    while i < f {
+    for i in 0..f {
         let k = form_layout::field_at(b, i);
         if n <= k {
             return false;
         }
         add(counts, k);
-        i += 1;
     }
     true
 }
 
+#[tactic(auto, using(crate::proofs::Counting::added_outside, std::proofs::lemmas::Bool::Decides::nat_tests), unfolding(rules::specs::Accept::children_of, crate::specs::Uses::tally))]
 fn add_children(x: form_layout::Node, counts: &mut [u8; 64])
     ensures { counts.new ≡ tally counts.old (children_of (node_of x)) }
 {
@@ -134,10 +111,7 @@ fn add_children(x: form_layout::Node, counts: &mut [u8; 64])
     if x.p < 64 {
         add(counts, x.p);
     }
-    if x.kind != 9 {
-        return;
-    }
-    if x.q < 64 {
+    if x.kind == 9 && x.q < 64 {
         add(counts, x.q);
     }
 }
@@ -147,33 +121,9 @@ fn count_children(b: &[u8], counts: &mut [u8; 64])
     ensures { counts.new ≡ tally counts.old (concat_map children_of (read_form b.now).nodes) }
 {
     let n = form_layout::node_count(b);
-    let mut k = 0;
-    while k < n {
-        let x = form_layout::node_at(b, k);
-        add_children(x, counts);
-        k += 1;
+    for k in 0..n {
+        add_children(form_layout::node_at(b, k), counts);
     }
-}
-
-fn none() -> [u8; 64]
-    ensures { result ≡ replicate 64 0 }
-{
-    [0u8; 64]
-}
-
-// The lowest of n nodes that is not used once, or n.
-fn uses_fault(counts: &[u8; 64], n: usize) -> usize
-    requires { n ≤ 64 }
-    ensures { result ≡ fault_or n (first_fault (λ k. eqb (get_or counts.now k 0) 1) 0 (numbers n 0)) }
-{
-    let mut k = 0;
-    while k < n {
-        if counts[k] != 1 {
-            return k;
-        }
-        k += 1;
-    }
-    n
 }
 
 // Of the trees, only their number counts here.
@@ -182,16 +132,15 @@ fn check_uses(b: &[u8]) -> rules::Refused
     ensures { (ts : List Tree) → length ts ≡ node_count b.now → result ≡ check_code (check_use (read_form b.now) ts) }
 {
     let n = form_layout::node_count(b);
-    let mut counts = none();
+    let mut counts = [0u8; 64];
     if !count_fields(b, n, &mut counts) {
         return refused(BAD_USE, 0);
     }
     count_children(b, &mut counts);
-    let fault = uses_fault(&counts, n);
-    if fault < n {
-        return refused(BAD_USE, fault + 1);
+    match counts[..n].iter().position(|c| *c != 1) {
+        Some(fault) => refused(BAD_USE, fault + 1),
+        None => refused(0, 0),
     }
-    refused(0, 0)
 }
 
 // The lowest name record at fault, or their count.

@@ -1,5 +1,5 @@
 -- A node as it is read, and the bytes of a name.
-use Rattle.std.specs.Prelude.{Bool, true, ◌&&◌, List, ◌≡◌, ℕ, ◌<◌, leb}
+use Rattle.std.specs.Prelude.{true, List, ◌≡◌, ℕ, ◌<◌}
 use Rattle.std.proofs.Math.Option.{Option, some, none}
 use Rattle.std.proofs.Math.ListN.{get_elem?}
 use Rattle.rules.specs.Base.{first_fault}
@@ -10,9 +10,6 @@ use Rattle.form_layout.specs.declared.Node as declared
 -- the struct as the rules' record
 abbrev pub node_of : declared.Node → Node
 node_of x = record { kind = x.kind; p = x.p; q = x.q; r = x.r; lo = x.lo; hi = x.hi }
-
-unfoldable pub within : ℕ → ℕ → ℕ → Bool
-within lo n hi = leb lo n && leb n hi
 
 -- the bytes of name record k, if there is one
 unfoldable pub name_bytes_at : Form → ℕ → Option (List ℕ)
