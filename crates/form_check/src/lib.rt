@@ -5,6 +5,7 @@ ghost use Rattle.std.specs.Prelude.{◌≡◌, true, not, List, [], ◌≤◌, �
 ghost use Rattle.rules.specs.Base.{numbers, concat_map, first_fault};
 ghost use Rattle.rules.specs.Codes.{check_code};
 ghost use Rattle.rules.specs.Form.{node_count, read_form};
+ghost use Rattle.rules.specs.Reported.{reported};
 ghost use Rattle.rules.specs.Tree.{Tree};
 ghost use Rattle.rules.specs.Accept.{length_good, trees_from, children_of, check_use, check_form};
 ghost use Rattle.form_names.specs.Names.{fault_or};
@@ -13,25 +14,7 @@ ghost use Rattle.form_kinds.specs.Known.{codes};
 ghost use Rattle.form_check.specs.Uses.{greatest, added, tally, FieldsCounted, records_fault};
 
 use form_kinds::AT_FAULT;
-
-// What a form is refused for: its length or counts, a name record, a node, a node that is not used once.
-const BAD_COUNTS: u32 = 1;
-
-const BAD_NAME: u32 = 2;
-
-const BAD_NODE: u32 = 3;
-
-const BAD_USE: u32 = 4;
-
-fn refused(number: u32, place: usize) -> rules::Refused
-    requires { place ≤ 128 }
-    ensures { result ≡ record { number = number; place = place } }
-{
-    rules::Refused {
-        number: number,
-        place: place as u32,
-    }
-}
+use rules::{Refusal, RefusedAt};
 
 // Puts the codes of all nodes into an empty table. The highest is asked for first, and works out those beneath it; every node is
 // asked for, used or not, unless its code is known by then.
@@ -59,19 +42,19 @@ fn greatest(codes: &[u8; 64]) -> u8
 }
 
 // The lowest node at fault.
-fn check_nodes(b: &[u8]) -> rules::Refused
+fn check_nodes(b: &[u8]) -> Result<(), RefusedAt>
     requires { length_good b.now ≡ true }
-    ensures { result ≡ check_code (trees_from (read_form b.now) [] (read_form b.now).nodes) }
+    ensures { reported result ≡ check_code (trees_from (read_form b.now) [] (read_form b.now).nodes) }
 {
     let n = form_layout::node_count(b);
     let mut codes = [0u8; 64];
     fill_all(b, &mut codes);
     if greatest(&codes) < AT_FAULT {
-        return refused(0, 0); // none is at fault
+        return Ok(()); // none is at fault
     }
     match codes[..n].iter().position(|c| *c == AT_FAULT) {
-        Some(fault) => refused(BAD_NODE, fault + 1),
-        None => refused(0, 0),
+        Some(fault) => Err(RefusedAt::at(Refusal::BadNode, fault)),
+        None => Ok(()),
     }
 }
 
@@ -127,19 +110,19 @@ fn count_children(b: &[u8], counts: &mut [u8; 64])
 }
 
 // Of the trees, only their number counts here.
-fn check_uses(b: &[u8]) -> rules::Refused
+fn check_uses(b: &[u8]) -> Result<(), RefusedAt>
     requires { length_good b.now ≡ true }
-    ensures { (ts : List Tree) → length ts ≡ node_count b.now → result ≡ check_code (check_use (read_form b.now) ts) }
+    ensures { (ts : List Tree) → length ts ≡ node_count b.now → reported result ≡ check_code (check_use (read_form b.now) ts) }
 {
     let n = form_layout::node_count(b);
     let mut counts = [0u8; 64];
     if !count_fields(b, n, &mut counts) {
-        return refused(BAD_USE, 0);
+        return Err(RefusedAt::from(Refusal::BadUse));
     }
     count_children(b, &mut counts);
     match counts[..n].iter().position(|c| *c != 1) {
-        Some(fault) => refused(BAD_USE, fault + 1),
-        None => refused(0, 0),
+        Some(fault) => Err(RefusedAt::at(Refusal::BadUse, fault)),
+        None => Ok(()),
     }
 }
 
@@ -154,19 +137,16 @@ fn records_fault(b: &[u8]) -> usize
 }
 
 // The form check: whether the form is accepted, or its first fault.
-pub fn check(b: &[u8]) -> rules::Refused
-    ensures { result ≡ check_code (check_form b.now) }
+pub fn check(b: &[u8]) -> Result<(), RefusedAt>
+    ensures { reported result ≡ check_code (check_form b.now) }
 {
     if !form_layout::length_good(b) {
-        return refused(BAD_COUNTS, 0);
+        return Err(RefusedAt::from(Refusal::BadCounts));
     }
     let fault = records_fault(b);
     if fault < form_layout::name_count(b) {
-        return refused(BAD_NAME, fault + 1);
+        return Err(RefusedAt::at(Refusal::BadName, fault));
     }
-    let nodes = check_nodes(b);
-    if nodes.number != 0 {
-        return nodes;
-    }
+    check_nodes(b)?;
     check_uses(b)
 }

@@ -1,5 +1,7 @@
 -- A refusal as the code hands it about: its name, and its place if it has one.
-use Rattle.std.specs.Prelude.{ℕ, Result, Ok, Err}
+use Rattle.std.specs.Prelude.{ℕ, ◌+◌, Option, Some, None, Result, Ok, Err}
+use Rattle.rules.specs.declared.Refused.{Refused}
+use Rattle.rules.specs.declared.RefusedAt.{RefusedAt}
 use Rattle.rules.specs.declared.Refusal.{Refusal}
 use Rattle.rules.specs.declared.Refusal.TheVariants.{BadCounts, BadName, BadNode, BadUse, BadSheet, TooManyArguments, ShortSlice, TooManyItems, Ambiguous, BadTable, ShortList, BadBatch, BadAlphabet, NotShort, TooLarge, ShortOutput, Missing, NothingCounted, NoArgument, NotStrict, Strict, NotNumber, OutOfBounds, LeftOver, NotThere, BadState, BadItem, NoCommand, Misread}
 
@@ -39,3 +41,16 @@ number_of Misread = 50
 abbrev pub tested : {A : Type 0} → Result A Refusal → ℕ
 tested (Ok a) = 0
 tested (Err e) = number_of e
+
+-- a place is itself plus 1, or 0 for none
+abbrev pub place_told : Option ℕ → ℕ
+place_told None = 0
+place_told (Some i) = i + 1
+
+abbrev pub told : RefusedAt → Refused
+told e = record { number = number_of e.refusal; place = place_told e.place }
+
+-- how a check ended: number 0 if nothing is refused
+abbrev pub reported : {A : Type 0} → Result A RefusedAt → Refused
+reported (Ok a) = record { number = 0; place = 0 }
+reported (Err e) = told e

@@ -1,7 +1,7 @@
 // The types that all crates share. The rules themselves are definitions (specs/), with theorems about them (proofs/).
 #![tactic(auto)]
 
-ghost use Rattle.std.specs.Prelude.{◌≡◌, None};
+ghost use Rattle.std.specs.Prelude.{◌≡◌, ◌^◌, ◌<◌, Some, None};
 ghost use Rattle.rules.specs.Reported.{number_of};
 
 // How a check or a call ends: number 0 is accepted, else document 01's refusal. A place is itself plus 1, or 0 for none.
@@ -72,6 +72,18 @@ impl Refusal {
 pub struct RefusedAt {
     pub refusal: Refusal,
     pub place: Option<u32>,
+}
+
+impl RefusedAt {
+    pub fn at(refusal: Refusal, place: usize) -> RefusedAt
+        requires { place < 2 ^ 32 }
+        ensures { result ≡ record { refusal = refusal; place = Some place } }
+    {
+        RefusedAt {
+            refusal,
+            place: Some(place as u32),
+        }
+    }
 }
 
 impl From<Refusal> for RefusedAt {

@@ -11,6 +11,7 @@ use Rattle.form_layout.proofs.Sizes.{sized, nodes_length}
 use Rattle.form_kinds.proofs.Table.{codes_length}
 use Rattle.form_check.proofs.Climbing.{nodes_small, nodes_bad, nodes_good}
 use Rattle.form_check.proofs.Counting.{found_some, found_none}
+use Rattle.rules.specs.Reported.{told}
 use Rattle.form_check.proofs.check_nodes.Goals as goal
 
 pub node_count-n-requires : goal.node_count-n-requires
@@ -23,7 +24,7 @@ pub returns-then-greatest-lt-AT_FAULT : goal.returns-then-greatest-lt-AT_FAULT
 returns-then-greatest-lt-AT_FAULT c =
     nodes_small _ _ (nodes_length c.args.b.now ∙ sym c.node_count-n.ensures)
     (omega (arith, c.node_count-n.ensures, sized _ c.requires))
-    _ c.fill_all.ensures _ _ c.greatest.ensures c.if-greatest-lt-AT_FAULT.true c.refused.ensures
+    _ c.fill_all.ensures _ _ c.greatest.ensures c.if-greatest-lt-AT_FAULT.true refl
 
 pub slice_bounds-codes-end : goal.slice_bounds-codes-end
 slice_bounds-codes-end c = omega (arith, c.fill_all.array_long, c.node_count-n.ensures, sized _ c.requires)
@@ -40,7 +41,7 @@ returns-in-Some c =
     (omega (arith, c.node_count-n.ensures, sized _ c.requires))
     _ c.fill_all.ensures _ _
     (found_some (λ x. eqb x 32) _ _ (λ k. refl) _ (omega (arith, c.fill_all.array_long, c.node_count-n.ensures, sized _ c.requires)) _ first _ c.in-Some.is)
-    c.refused-in-Some.ensures
+    (ap told c.at.ensures)
 
 pub returns-in-None : goal.returns-in-None
 returns-in-None c =
@@ -51,4 +52,4 @@ returns-in-None c =
     (omega (arith, c.node_count-n.ensures, sized _ c.requires))
     _ c.fill_all.ensures _
     (found_none (λ x. eqb x 32) _ _ (λ k. refl) _ (omega (arith, c.fill_all.array_long, c.node_count-n.ensures, sized _ c.requires)) _ first c.in-None.is)
-    c.refused-in-None.ensures
+    refl

@@ -12,6 +12,7 @@ use native.Mathlib.Omega.{arith}
 use Rattle.form_check.proofs.Verdict.{uses_outside, uses_fault, uses_good}
 use Rattle.form_layout.proofs.Sizes.{sized}
 use Rattle.form_check.proofs.Counting.{found_some, found_none, not_not}
+use Rattle.rules.specs.Reported.{told}
 use Rattle.form_check.proofs.check_uses.Goals as goal
 
 pub node_count-n-requires : goal.node_count-n-requires
@@ -21,7 +22,7 @@ pub count_fields-requires : goal.count_fields-requires
 count_fields-requires c = (c.requires, omega (arith, c.node_count-n.ensures, sized _ c.requires))
 
 pub returns-then-not-count_fields : goal.returns-then-not-count_fields
-returns-then-not-count_fields c = λ ts e. uses_outside _ ts e _ c.node_count-n.ensures _ _ _ c.count_fields.ensures _ (ap not c.if-not-count_fields.true) c.refused.ensures
+returns-then-not-count_fields c = λ ts e. uses_outside _ ts e _ c.node_count-n.ensures _ _ _ c.count_fields.ensures _ (ap not c.if-not-count_fields.true) (ap told c.from.ensures)
 
 pub slice_bounds-counts-end : goal.slice_bounds-counts-end
 slice_bounds-counts-end c = omega (arith, c.count_children.array_long, c.node_count-n.ensures, sized _ c.requires)
@@ -37,7 +38,7 @@ returns-in-Some c =
     λ ts e. uses_fault _ ts e _ c.node_count-n.ensures _ _ _ c.count_fields.ensures _ (ap not c.if-not-count_fields.false) (sized _ c.requires).counts.nodes.1
     refl _ c.count_children.ensures _
     (found_some (λ x. not (eqb x 1)) _ _ (λ k. not_not _) _ (omega (arith, c.count_children.array_long, c.node_count-n.ensures, sized _ c.requires)) _ first _ c.in-Some.is)
-    c.refused-in-Some.ensures
+    (ap told c.at.ensures)
 
 pub returns-in-None : goal.returns-in-None
 returns-in-None c =
@@ -47,4 +48,4 @@ returns-in-None c =
     λ ts e. uses_good _ ts e _ c.node_count-n.ensures _ _ _ c.count_fields.ensures _ (ap not c.if-not-count_fields.false) (sized _ c.requires).counts.nodes.1
     refl _ c.count_children.ensures
     (found_none (λ x. not (eqb x 1)) _ _ (λ k. not_not _) _ (omega (arith, c.count_children.array_long, c.node_count-n.ensures, sized _ c.requires)) _ first c.in-None.is)
-    c.refused-in-None.ensures
+    refl
