@@ -31,6 +31,7 @@ pub fn codes(form: &[u8], out: &mut [u32])
     }
 }
 
+// A literal with a contract: the proofs of other crates cite it.
 pub fn no_codes() -> [u32; 128]
     ensures { result ≡ replicate 128 0 }
 {
