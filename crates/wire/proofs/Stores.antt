@@ -22,7 +22,7 @@ module _ {A : Type 0} where
   sets_out (x ∷ v) o i h = rw (set_out o i x h) (sets_out v o (suc i) (omega arith))
 
   -- so those for which there is room are all
-  sets_room : (v o : List A) (i n : ℕ) → min (length v) (length o - i) ≤ n → sets o i (take n v) ≡ sets o i v
+  pub sets_room : (v o : List A) (i n : ℕ) → min (length v) (length o - i) ≤ n → sets o i (take n v) ≡ sets o i v
   sets_room [] o i zero h = refl
   sets_room [] o i (suc n) h = refl
   sets_room (x ∷ v) o i zero h = sym (sets_out (x ∷ v) o i (omega arith))
