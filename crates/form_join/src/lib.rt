@@ -248,7 +248,7 @@ fn write_area(out: &mut [u8], at: usize, b: &[u8]) -> usize
     ensures { WritesPart out.old at (read_form b.now).area result out.new }
 {
     let start = form_layout::area_at(b);
-    wire_write::put(out, at, &b[start..]);
+    wire::copy(out, at, &b[start..]);
     at + form_layout::area_length(b)
 }
 

@@ -26,26 +26,19 @@ const SHEET: usize = 22;
 pub fn place_of(alphabet: &[u8], x: u8) -> usize
     ensures { result ≡ index_of x alphabet.now }
 {
-    let mut i = 0;
-    while i < alphabet.len() {
-        if alphabet[i] == x {
-            return i;
-        }
-        i += 1;
-    }
-    i
+    alphabet
+        .iter()
+        .position(|y| *y == x)
+        .unwrap_or(alphabet.len())
 }
 
 fn distinct(alphabet: &[u8]) -> bool
     ensures { result ≡ none_twice alphabet.now }
 {
-    let mut i = 0;
-    while i < alphabet.len() {
-        let rest = &alphabet[i + 1..];
-        if place_of(rest, alphabet[i]) < rest.len() {
+    for i in 0..alphabet.len() {
+        if alphabet[i + 1..].contains(&alphabet[i]) {
             return false;
         }
-        i += 1;
     }
     true
 }
@@ -53,29 +46,13 @@ fn distinct(alphabet: &[u8]) -> bool
 fn alphabet_good(alphabet: &[u8]) -> bool
     ensures { result ≡ alphabet_good alphabet.now }
 {
-    if alphabet.len() < 1 {
-        return false;
-    }
-    if alphabet.len() > LETTERS {
-        return false;
-    }
-    distinct(alphabet)
+    1 <= alphabet.len() && alphabet.len() <= LETTERS && distinct(alphabet)
 }
 
 fn argument_legal(alphabet: &[u8], argument: &[u8]) -> bool
     ensures { result ≡ argument_legal alphabet.now argument.now }
 {
-    if argument.len() > ARGUMENT {
-        return false;
-    }
-    let mut i = 0;
-    while i < argument.len() {
-        if place_of(alphabet, argument[i]) >= alphabet.len() {
-            return false;
-        }
-        i += 1;
-    }
-    true
+    argument.len() <= ARGUMENT && argument.iter().all(|x| alphabet.contains(x))
 }
 
 fn sheet_legal(alphabet: &[u8], sheet: &[u8]) -> bool
@@ -88,12 +65,10 @@ fn sheet_legal(alphabet: &[u8], sheet: &[u8]) -> bool
     if count > ARGUMENTS {
         return false;
     }
-    let mut k = 0;
-    while k < count {
+    for k in 0..count {
         if !argument_legal(alphabet, split_sheet::argument(sheet, k)) {
             return false;
         }
-        k += 1;
     }
     true
 }

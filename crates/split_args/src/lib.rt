@@ -8,14 +8,13 @@ ghost use Rattle.split_arg.specs.Clusters.{letters};
 ghost use Rattle.split_arg.specs.Order.{CanLookUp};
 ghost use Rattle.split_group.specs.Groups.{ArgumentFits, Makes};
 ghost use Rattle.state_marks.specs.Lent.{raw_of};
-ghost use Rattle.split_args.specs.Construct.{group_at, marker_after, plain_argument, starting_state};
+ghost use Rattle.split_args.specs.Construct.{group_at, plain_argument, starting_state};
 ghost use Rattle.split_args.specs.Construct.{MarkerWithin, Unmarked, SheetAndRoom, SplitWrites, SplitEnds};
 
 use rules::State;
 use split_arg::ITEMS;
 use split_group::Group;
 use state_marks::{MARKER, Numbers};
-use wire::wide;
 
 // The refusals of splitting: more items than have room, and a letter that is a flag's and an argument's.
 const TOO_MANY: u32 = 8;
@@ -51,23 +50,15 @@ fn next_group(
     split_group::split_positional(os, begin, items, at)
 }
 
-fn marker_after(marker: usize, first: bool, at: usize) -> usize
-    requires { at ≤ 256 }
-    ensures { result ≡ marker_after marker first at }
-{
-    if first { at + 1 } else { marker }
-}
-
 // The loop over the arguments. `at` is the place of the next item. What stands behind the records of the items is of no use.
 fn split_arguments(sheet: &[u8], flags: &[u32], arguments: &[u32], items: &mut [u32]) -> Ended
     requires { SheetAndRoom sheet.now items.old × CanLookUp flags.now arguments.now }
     ensures { SplitWrites (letters flags.now arguments.now) sheet.now items.new result }
 {
     let n = wire::u16_at(sheet, 0) as usize;
-    let mut k = 0;
     let mut at = 0;
     let mut marker = 0;
-    while k < n {
+    for k in 0..n {
         let begin = wire::offset_at(sheet, 2, k);
         let os = wire::entry(sheet, 2, n, k);
         let group = next_group(os, begin, marker, flags, arguments, items, at);
@@ -89,9 +80,10 @@ fn split_arguments(sheet: &[u8], flags: &[u32], arguments: &[u32], items: &mut [
                 marker: 0,
             };
         }
-        marker = marker_after(marker, group.marker, at);
+        if group.marker {
+            marker = at + 1;
+        }
         at += count;
-        k += 1;
     }
     Ended {
         number: 0,
@@ -108,7 +100,7 @@ pub fn construct(sheet: &[u8], flags: &[u32], arguments: &[u32], items: &mut [u3
     ensures { SplitEnds (letters flags.now arguments.now) sheet.now (length items.old) items.new result }
 {
     let split = split_arguments(sheet, flags, arguments, items);
-    let end = 7 * wide(split.count);
+    let end = 7 * split.count as usize;
     wire::fill(items, end, items.len() - end, 0);
     split
 }
@@ -117,13 +109,10 @@ pub fn construct(sheet: &[u8], flags: &[u32], arguments: &[u32], items: &mut [u3
 fn is_plain(os: &[u8]) -> bool
     ensures { result ≡ plain_argument os.now }
 {
-    if os.len() < 3 {
-        return true;
+    match os {
+        [b'-', second, _, ..] => *second == b'-',
+        _ => true,
     }
-    if os[0] != b'-' {
-        return true;
-    }
-    os[1] == b'-'
 }
 
 // Whether splitting looks no letter up, so that it comes to the same under any letters.
@@ -132,13 +121,10 @@ pub fn all_plain(sheet: &[u8]) -> bool
     ensures { result ≡ all plain_argument (arguments sheet.now) }
 {
     let n = wire::u16_at(sheet, 0) as usize;
-    let mut k = 0;
-    while k < n {
-        let os = wire::entry(sheet, 2, n, k);
-        if !is_plain(os) {
+    for k in 0..n {
+        if !is_plain(wire::entry(sheet, 2, n, k)) {
             return false;
         }
-        k += 1;
     }
     true
 }
@@ -148,19 +134,14 @@ pub fn begin(count: u32, marker: u32, marks: &mut [u16; 256]) -> Numbers
     requires { MarkerWithin count marker × Unmarked marks.old }
     ensures { raw_of marks.new result ≡ starting_state count marker }
 {
-    if marker == 0 {
-        return Numbers {
-            count,
-            remaining: count,
-            current: 0,
-            start: 0,
-            end: count,
-        };
+    let mut remaining = count;
+    if marker != 0 {
+        marks[(marker - 1) as usize] = MARKER;
+        remaining -= 1;
     }
-    marks[(marker - 1) as usize] = MARKER;
     Numbers {
         count,
-        remaining: count - 1,
+        remaining,
         current: 0,
         start: 0,
         end: count,

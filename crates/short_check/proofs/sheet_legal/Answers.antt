@@ -1,4 +1,3 @@
-use Prim.Native.Nat.{◌-◌}
 use Rattle.short_check.proofs.Legal.{sheet_damaged, whole, sheet_many, left_first, argument_other, argument_good, arguments_good, has_argument}
 use Rattle.short_check.proofs.sheet_legal.Goals as goal
 

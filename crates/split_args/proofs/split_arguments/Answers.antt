@@ -1,9 +1,10 @@
-use mathlib.Core.Path.{refl}
+use mathlib.Core.Path.{◌≡◌, refl}
 use mathlib.Core.Logic.{inl}
-use Prim.Native.Nat.{◌-◌}
 use borrow.Author.Rules.{rules}
 use Rattle.split_args.proofs.Lines.{two_bytes, count_is, going_first, has_offset, has_argument, fits_here, made_long}
 use Rattle.split_args.proofs.Lines.{too_many_lem, goes_on, count_few, ambiguous_few, ambiguous_letter_lem, marker_small, all_done, fits_32, fits_64}
+use Rattle.split_args.specs.Construct.{marker_after}
+use Rattle.split_args.proofs.split_arguments.Goals.{then-group, else-group}
 use Rattle.split_args.proofs.split_arguments.Goals as goal
 
 pub u16_at-n-requires : goal.u16_at-n-requires
@@ -49,7 +50,10 @@ pub overflow_add-at : goal.overflow_add-at
 overflow_add-at c = record { fits = search (fits_64, count_few) }
 
 pub loop-k-preserved : goal.loop-k-preserved
-loop-k-preserved c = (search goes_on, search rules)
+loop-k-preserved c =
+    let after : c.if-group.marker ≡ marker_after c.loop-k.marker c.next_group-group.result.marker c.loop-k.at =
+    elim c.if-group.branch [ then-group w ↦ rw w.if-group.true w.marker-is | else-group w ↦ rw w.if-group.false w.marker-is ] in
+    (search goes_on, search rules)
 
 pub overflow_cast-result-2 : goal.overflow_cast-result-2
 overflow_cast-result-2 c = record { fits = search fits_32 }
