@@ -85,18 +85,15 @@ pub fn gather(table: &[u8], flags: &mut [u32], arguments: &mut [u32]) -> Counts
     ensures gathered { Gathered table.now 1 flags.old flags.new result.flags }
     ensures gathered_2 { Gathered table.now 2 arguments.old arguments.new result.arguments }
 {
-    let mut n = 0;
-    let mut m = 0;
+    let mut counts = Counts {
+        flags: 0,
+        arguments: 0,
+    };
     for k in 0..command_layout::entry_count(table) {
         let form = command_layout::command_form(table, k);
-        let counts = gather_form(form, flags, n, arguments, m);
-        n = counts.flags;
-        m = counts.arguments;
+        counts = gather_form(form, flags, counts.flags, arguments, counts.arguments);
     }
-    Counts {
-        flags: n,
-        arguments: m,
-    }
+    counts
 }
 
 // The same as `split`, with the letters worked out in room for N of a kind.
