@@ -55,26 +55,17 @@ pub struct FormPart {
 fn fits(entry: &[u8]) -> bool
     ensures { result ≡ ((leb (entry_names entry.now) 128 && leb (entry_area entry.now) 4096) && leb (entry_form_at entry.now) (length entry.now)) }
 {
-    if entry.len() < HEAD {
-        return false;
-    }
-    if NAMES < command_layout::name_count(entry) {
-        return false;
-    }
-    if AREA < command_layout::area_size(entry) {
-        return false;
-    }
-    command_layout::form_at(entry) <= entry.len()
+    HEAD <= entry.len()
+        && command_layout::name_count(entry) <= NAMES
+        && command_layout::area_size(entry) <= AREA
+        && command_layout::form_at(entry) <= entry.len()
 }
 
 // Whether a name is good, and long or short.
 fn name_good(area: &[u8], x: Name) -> bool
     ensures { result ≡ command_name_good area.now (name_of x) }
 {
-    if LONG < x.kind {
-        return false;
-    }
-    form_names::name_good(area, x)
+    x.kind <= LONG && form_names::name_good(area, x)
 }
 
 fn names_good(entry: &[u8]) -> bool
@@ -83,15 +74,7 @@ fn names_good(entry: &[u8]) -> bool
 {
     let area = command_layout::area_of(entry);
     let n = command_layout::name_count(entry);
-    let mut k = 0;
-    while k < n {
-        let x = command_layout::name_at(entry, k);
-        if !name_good(area, x) {
-            return false;
-        }
-        k += 1;
-    }
-    true
+    (0..n).all(|k| name_good(area, command_layout::name_at(entry, k)))
 }
 
 fn has_long(entry: &[u8]) -> bool
@@ -99,28 +82,14 @@ fn has_long(entry: &[u8]) -> bool
     ensures { result ≡ not (null (of_type 1 (read_command entry.now))) }
 {
     let n = command_layout::name_count(entry);
-    let mut k = 0;
-    while k < n {
-        let x = command_layout::name_at(entry, k);
-        if x.kind == LONG {
-            return true;
-        }
-        k += 1;
-    }
-    false
+    (0..n).any(|k| command_layout::name_at(entry, k).kind == LONG)
 }
 
 // Whether an entry's names are good, and one is long.
 fn entry_good(entry: &[u8]) -> bool
     ensures { result ≡ entry_good entry.now }
 {
-    if !fits(entry) {
-        return false;
-    }
-    if !names_good(entry) {
-        return false;
-    }
-    has_long(entry)
+    fits(entry) && names_good(entry) && has_long(entry)
 }
 
 fn offsets_good(table: &[u8]) -> bool
@@ -130,21 +99,7 @@ fn offsets_good(table: &[u8]) -> bool
         return false;
     }
     let n = command_layout::entry_count(table);
-    if n == 0 {
-        return false;
-    }
-    if ENTRIES < n {
-        return false;
-    }
-    wire::table_good(table, WIDE_OFFSET, n)
-}
-
-// The same of entry k.
-fn entry_good_at(table: &[u8], k: usize) -> bool
-    requires { HasEntry table.now k }
-    ensures { result ≡ entry_good (entry_of 4 (entry_count table.now) table.now k) }
-{
-    entry_good(command_layout::entry_at(table, k))
+    1 <= n && n <= ENTRIES && wire::table_good(table, WIDE_OFFSET, n)
 }
 
 fn entries_good(table: &[u8]) -> bool
@@ -152,24 +107,14 @@ fn entries_good(table: &[u8]) -> bool
     ensures { result ≡ all entry_good (table_entries table.now) }
 {
     let n = command_layout::entry_count(table);
-    let mut k = 0;
-    while k < n {
-        if !entry_good_at(table, k) {
-            return false;
-        }
-        k += 1;
-    }
-    true
+    (0..n).all(|k| entry_good(command_layout::entry_at(table, k)))
 }
 
 // Whether the offsets and all names are good.
 pub fn table_good(table: &[u8]) -> bool
     ensures { result ≡ (offsets_good table.now && all entry_good (table_entries table.now)) }
 {
-    if !offsets_good(table) {
-        return false;
-    }
-    entries_good(table)
+    offsets_good(table) && entries_good(table)
 }
 
 // The first form that is not accepted, of a table whose names are good.
@@ -178,8 +123,7 @@ fn check_forms(table: &[u8]) -> TableRefused
     ensures { table_told (table_forms table.now) (entry_at_fault table.now) ≡ some result }
 {
     let n = command_layout::entry_count(table);
-    let mut k = 0;
-    while k < n {
+    for k in 0..n {
         let checked = form_check::check(command_layout::command_form(table, k));
         if checked.number != 0 {
             return TableRefused {
@@ -188,7 +132,6 @@ fn check_forms(table: &[u8]) -> TableRefused
                 entry: k as u32 + 1,
             };
         }
-        k += 1;
     }
     TableRefused {
         number: 0,

@@ -16,7 +16,6 @@ ghost use Rattle.command_run.specs.Chosen.{LineSplit, FormBegins};
 use rules::State;
 use run_fields::Reached;
 use state_marks::Numbers;
-use wire::wide;
 
 // No name of the table is the first word.
 const NO_COMMAND: u32 = 31;
@@ -95,7 +94,7 @@ fn run_table(
             run_fields::refused(NO_COMMAND, 0, 0, 0, left),
         );
     }
-    let k = wide(tried.entry - 1);
+    let k = (tried.entry - 1) as usize;
     let ran = run_chosen(table, k, sheet, items, marks, left, answers, list);
     told(tried.comparisons, tried.entry, ran)
 }

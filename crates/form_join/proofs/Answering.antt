@@ -25,7 +25,8 @@ use Rattle.form_join.specs.Moved.{FormPasses, moved_fields, moved_names, moved_n
 use Rattle.form_join.specs.Written.{WritesBoth, CanJoin, BothGood, counts_of, fitting, count_bytes, joined_fields, joined_nodes, joined_names, joined_area, joined_head, joined_tail}
 use Rattle.form_join.specs.Written.{joined_bytes}
 use Rattle.form_join.specs.Answers.{answered, ReportsJoin, Refuses, Fills, BothPass}
-use Rattle.form_join.proofs.MovedLaws.{area_length_lem, moved_accepted, moved_nodes_lem, moved_fields_lem, moved_names_lem}
+use Rattle.form_join.specs.Sizes.{moved_accepted, moved_nodes_lem, moved_fields_lem, moved_names_lem}
+use Rattle.form_join.proofs.MovedLaws.{area_length_lem}
 
 -- ---- the limits
 

@@ -9,10 +9,10 @@ use native.Mathlib.Nat.{zero-add}
 use native.Mathlib.Omega.{arith}
 use borrow.Author.Tests.{eq-eqb, ne_eqb, le-leb, lt-leb}
 use lib.Dec.{leb, eqb}
-use lib.ListN.{length, get_elem?, length-map, length-drop}
+use lib.ListN.{length, get_elem?, length-drop}
 use Rattle.std.specs.Prelude.{if◌then◌else◌}
 use Rattle.rules.specs.Value.{Base, yes_no, text, number, same_base, base_number, Kind, one, optional, list, list_of_optional, optional_list}
-use Rattle.rules.specs.Form.{Node, Name, Form, node_count, field_count, name_count, area_length, area_at, read_form}
+use Rattle.rules.specs.Form.{Node, Name, Form, node_count, name_count, area_length, area_at, read_form}
 use Rattle.rules.specs.Tree.{Tree, kind_of, shape_of, inner_base, same_kind}
 use Rattle.rules.specs.Accept.{Accepted, accepted, length_good, check_form}
 use Rattle.rules.specs.Codes.{base_code, kind_code}
@@ -26,10 +26,11 @@ use Rattle.form_names.specs.Names.{name_of}
 use Rattle.form_names.specs.declared.Name as names
 use Rattle.form_layout.specs.Layout.{node_of}
 use Rattle.form_layout.specs.declared.Node as nodes
-use Rattle.form_layout.proofs.Sizes.{sized, fields_length, nodes_length, names_length}
+use Rattle.form_layout.proofs.Sizes.{sized, nodes_length, names_length}
 use Rattle.form_join.specs.declared.Moves as declared
 use Rattle.form_join.specs.Moved.{moves_of, SmallMoves, MovesPast, FormPasses, CanMoveNode, CanMoveName, CanMoveField, NodeWithin}
-use Rattle.form_join.specs.Moved.{moved_fields, moved_names, moved_nodes, IsText, NodeThere, NameThere}
+use Rattle.form_join.specs.Sizes.{moved_accepted}
+use Rattle.form_join.specs.Moved.{nowhere, moved_fields, moved_names, moved_nodes, IsText, NodeThere, NameThere}
 
 -- ---- an accepted form
 
@@ -71,7 +72,7 @@ text_code (optional_list text) = refl
 text_code (optional_list number) = refl
 
 module _ (b : List ℕ) (k kind : ℕ) where
-  pub other_kind : (kind ≡ 10 → ⊥) → IsText b k kind false
+  pub other_kind : (kind ≡ 10 → ⊥) → IsText b k kind (eqb kind 10)
   other_kind h a t e s = rw (ne_eqb kind 10 h)
 
   pub fallback_kind :
@@ -151,10 +152,6 @@ nodes_at_lem d (u ∷ ts) [] k t x p q = absurd (none-ne-some x q)
 nodes_at_lem d (u ∷ ts) (y ∷ xs) zero t x p q = rw (some-injective u t p, some-injective y x q)
 nodes_at_lem d (u ∷ ts) (y ∷ xs) (suc k) t x p q = nodes_at_lem d ts xs k t x p q
 
-pub moved_accepted : (d : Moves) (b : List ℕ) (a : Accepted) → check_form b ≡ accepted a → moved_nodes d b ≡ move_nodes d a.trees a.form.nodes
-unfolding moved_nodes
-moved_accepted d b a e = rw (e, moved_nodes)
-
 module _ (d : declared.Moves) (b : List ℕ) (k : ℕ) (has : CanMoveNode b k) (s : SmallMoves d) (x : nodes.Node) (ex : get_elem? (read_form b).nodes k ≡ some (node_of x)) where
   pub node_within : NodeWithin 128 (node_of x)
   node_within =
@@ -221,13 +218,13 @@ module _ (d : declared.Moves) (b : List ℕ) (k : ℕ) where
         let here = All-at (NameMade (read_form b).area) (read_form b).names k (name_of x) made.name_records ex in
         omega (arith, here.inside, area_length_lem b has.passes.good, made.counts.area)
 
-    pub offset_within : x.offset ≤ 4096
-    offset_within = omega (arith, name_inside)
+    pub offset_fits : d.area + x.offset < 18446744073709551616
+    offset_fits = omega (arith, name_inside, s.area)
 
-    pub name_there : (n : ℕ) → n ≡ d.area + x.offset → NameThere (moves_of d) b k (record { kind = x.kind; offset = n; size = x.size })
+    pub name_there : NameThere (moves_of d) b k (record { kind = x.kind; offset = d.area + x.offset; size = x.size })
     unfolding moved_names move_name
-    name_there n e = record {
-      same = lookup_map (move_name (moves_of d)) (read_form b).names k (name_of x) ex ∙ rw e;
+    name_there = record {
+      same = lookup_map (move_name (moves_of d)) (read_form b).names k (name_of x) ex;
       within = record { offset = omega (arith, name_inside, s.area); size = omega (arith, name_inside) };
     }
 
@@ -248,34 +245,7 @@ module _ (d : declared.Moves) (b : List ℕ) (k : ℕ) where
     unfolding moved_fields
     field_there = lookup_map (λ (n : ℕ). d.nodes + n) (read_form b).fields k x ex
 
--- ---- how many there are
-
-nodes_many : (d : Moves) (ts : List Tree) (xs : List Node) → length ts ≡ length xs → length (move_nodes d ts xs) ≡ length xs
-unfolding move_nodes
-nodes_many d [] [] e = refl
-nodes_many d [] (x ∷ xs) e = absurd (omega arith)
-nodes_many d (t ∷ ts) [] e = absurd (omega arith)
-nodes_many d (t ∷ ts) (x ∷ xs) e = ap suc (nodes_many d ts xs (omega arith))
-
-module _ (d : Moves) (b : List ℕ) where
-  pub moved_nodes_lem : FormPasses b → length (moved_nodes d b) ≡ node_count b
-  moved_nodes_lem p =
-      let a = p.form in
-      let e = p.accepts in
-      rw (moved_accepted d b a e) (nodes_many d a.trees a.form.nodes (accepted_trees b a e) ∙ rw (accepted_form b a e) (nodes_length b))
-
-  pub moved_fields_lem : length (moved_fields d b) ≡ field_count b
-  unfolding moved_fields
-  moved_fields_lem = length-map (read_form b).fields _ ∙ fields_length b
-
-  pub moved_names_lem : length (moved_names d b) ≡ name_count b
-  unfolding moved_names
-  moved_names_lem = length-map (read_form b).names _ ∙ names_length b
-
 -- ---- what moves by nothing stays
-
-abbrev pub nowhere : Moves
-nowhere = record { nodes = 0; names = 0; area = 0 }
 
 either : (c : Bool) (x y z : ℕ) → x ≡ z → y ≡ z → (if c then x else y) ≡ z
 either true x y z p q = p

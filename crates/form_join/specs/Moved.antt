@@ -18,6 +18,10 @@ use Rattle.form_join.specs.declared.Moves as declared
 abbrev pub moves_of : declared.Moves → Moves
 moves_of d = record { nodes = d.nodes; names = d.names; area = d.area }
 
+-- what moves by nothing stays
+abbrev pub nowhere : Moves
+nowhere = record { nodes = 0; names = 0; area = 0 }
+
 -- no farther than behind a form
 pub record SmallMoves (d : declared.Moves) : Type 0 where
   pub nodes : d.nodes ≤ 64

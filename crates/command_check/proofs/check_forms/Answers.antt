@@ -1,5 +1,4 @@
 use mathlib.Core.Path.{refl}
-use Prim.Native.Nat.{◌-◌}
 use borrow.Author.Rules.{rules}
 use borrow.Author.Count.{below_none}
 use Rattle.command_check.proofs.Steps.{few_entries, forms_pass, form_passes, form_fails}

@@ -2,8 +2,8 @@
 use Rattle.form_join.proofs.MovedLaws.{other_kind, fallback_kind}
 use Rattle.form_join.proofs.has_text.Goals as goal
 
-pub returns-then-x-ne10 : goal.returns-then-x-ne10
-returns-then-x-ne10 c = search other_kind
+pub returns-then-x-eq10 : goal.returns-then-x-eq10
+returns-then-x-eq10 c = search fallback_kind
 
-pub returns : goal.returns
-returns c = search fallback_kind
+pub returns-else-x-eq10 : goal.returns-else-x-eq10
+returns-else-x-eq10 c = search other_kind

@@ -1,6 +1,6 @@
 -- The counts of a form are small. Assumes nothing.
 use Rattle.form_join.proofs.MovedLaws.{good_eight, moves_past}
-use Rattle.form_join.proofs.behind.Goals as goal
+use Rattle.form_join.proofs.Moves.past.Goals as goal
 
 pub node_count-requires : goal.node_count-requires
 node_count-requires c = search good_eight
