@@ -3,7 +3,7 @@ use mathlib.Core.Bool.{Bool, true, false, not}
 use mathlib.Core.List.{List}
 use mathlib.Core.Option.{Option, some, none}
 use mathlib.Core.Path.{◌≡◌, refl, sym, ap, subst, ◌∙◌}
-use Prim.Native.Nat.{ℕ, ◌+◌, ◌-◌}
+use Prim.Native.Nat.{ℕ, ◌+◌}
 use native.Mathlib.Numerals.{add-one}
 use borrow.Author.Tests.{not-true, not-false}
 use Rattle.std.specs.Prelude.{if◌then◌else◌}
@@ -20,17 +20,17 @@ use Rattle.rules.specs.Eval.{eval_positional, eval}
 use Rattle.rules.specs.Sound.{is_named}
 use Rattle.rules.proofs.Nodes.{named_shown}
 use Rattle.rules.proofs.CodeLaws.{code_place}
-use Rattle.split_arg.specs.declared.Part.{Part}
 use Rattle.state_marks.specs.declared.Numbers.{Numbers}
 use Rattle.state_marks.specs.Lent.{state_of}
 use Rattle.take_search.specs.Items.{part_bytes}
-use Rattle.std.specs.Prelude.{Some, None}
+use Rattle.std.specs.Prelude.{Some, None, Ok, Err}
 use Rattle.std.specs.Prelude as prelude
 use Rattle.eval_number.specs.Number.{option_of}
 use Rattle.take.specs.declared.Flag.{Flag as TookFlag}
-use Rattle.take.specs.declared.Value.TheVariants.{Missing, Taken as Value-as-Taken, NoArgument}
+use Rattle.take.specs.declared.Word.{Word}
+use Rattle.take.specs.declared.NoArgument.{NoArgument}
 use Rattle.take.specs.declared.Argument.{Argument as TookArgument}
-use Rattle.take.specs.declared.Operand.TheVariants.{Missing as Operand-as-Missing, Taken as Operand-as-Taken}
+use Rattle.take.specs.declared.Operand.{Operand as TookOperand}
 use Rattle.take.specs.declared.Positional.{Positional as TookPositional}
 use Rattle.take_search.specs.States.{Items}
 use Rattle.take.specs.Takes.{value_of, ValueUnchanged, operand_of, TakesFlag, TakesArg, TakesPositional}
@@ -163,7 +163,7 @@ module _ (mark : ℕ) (area words m : List ℕ) (p : Numbers) (m' : List ℕ) wh
           leaf_told (Argument n names b adjacent) (state_of m p) (take_arg mark is names adjacent (state_of m p)) (argument_value n names b) x (state_of m' r.numbers)
           (d.same is t ∙ h)
 
-      pub argument_missing : r.value ≡ Missing → q ≡ leaf_refusal 20 0 r.numbers
+      pub argument_missing : r.value ≡ Ok None → q ≡ leaf_refusal 20 0 r.numbers
           → (n : ℕ) → Evaluates mark area words (Argument n names b adjacent) m p m' q
       unfolding told leaf_run argument_value refuse_missing scalar_words
       argument_missing h eq n =
@@ -175,26 +175,26 @@ module _ (mark : ℕ) (area words m : List ℕ) (p : Numbers) (m' : List ℕ) wh
             left = d.left;
           })
 
-      pub argument_taken : (i : ℕ) (x : Part) → r.value ≡ Value-as-Taken i x → LeafTells (parse_text b i (part_bytes area x)) r.numbers q
+      pub argument_taken : (w : Word) → r.value ≡ Ok (Some w) → LeafTells (parse_text b w.place (part_bytes area w.text)) r.numbers q
           → (n : ℕ) → Evaluates mark area words (Argument n names b adjacent) m p m' q
       unfolding argument_value
-      argument_taken i x h w n =
+      argument_taken x h w n =
           record {
             same = λ is t.
-                argument_told (some (record { place = i; text = part_bytes area x })) (ap (value_of area m' r.numbers) h) n is t
+                argument_told (some (record { place = x.place; text = part_bytes area x.text })) (ap (value_of area m' r.numbers) h) n is t
                 ∙ w.same m';
             left = rw w.kept d.left;
           }
 
       -- 22: the state is the one that was given
-      pub argument_refused : (i : ℕ) → r.value ≡ NoArgument i → q ≡ leaf_refusal 22 (i + 1) r.numbers
+      pub argument_refused : (k : NoArgument) → r.value ≡ Err k → q ≡ leaf_refusal 22 (k.key + 1) r.numbers
           → (n : ℕ) → Evaluates mark area words (Argument n names b adjacent) m p m' q
       unfolding told leaf_run eval eval_argument scalar_words
       argument_refused i h eq n =
           let k : (m' ≡ m) × (r.numbers ≡ p) = subst (ValueUnchanged m p m' r.numbers) h d.unchanged in
           rw (eq, add-one) (record {
             same = λ is t.
-                leaf_refused (Argument n names b adjacent) (state_of m p) (take_arg mark is names adjacent (state_of m p)) (argument_value n names b) (refuse 22 (some i))
+                leaf_refused (Argument n names b adjacent) (state_of m p) (take_arg mark is names adjacent (state_of m p)) (argument_value n names b) (refuse 22 (some i.key))
                 (d.same is t ∙ ap (value_of area m' r.numbers) h)
                 ∙ rw (k.0, k.1);
             left = d.left;
@@ -211,7 +211,7 @@ module _ (mark : ℕ) (area words m : List ℕ) (p : Numbers) (m' : List ℕ) wh
         leaf_told (Positional n at b) (state_of m p) (take_positional_word mark is (state_of m p)) (positional_value n at b) x (state_of m' r.numbers)
         (d.same is t ∙ h)
 
-    pub positional_missing : r.operand ≡ Operand-as-Missing → q ≡ leaf_refusal 20 0 r.numbers
+    pub positional_missing : r.operand ≡ None → q ≡ leaf_refusal 20 0 r.numbers
         → (n : ℕ) → Evaluates mark area words (Positional n at b) m p m' q
     unfolding told leaf_run positional_value refuse_missing scalar_words
     positional_missing h eq n = rw eq (record {
@@ -219,12 +219,12 @@ module _ (mark : ℕ) (area words m : List ℕ) (p : Numbers) (m' : List ℕ) wh
       left = d.left;
     })
 
-    pub positional_taken : (i : ℕ) (s : Bool) (x : Part) → r.operand ≡ Operand-as-Taken i s x
-        → LeafTells (placed_value at b (record { place = i; strict = s; text = part_bytes area x })) r.numbers q
+    pub positional_taken : (x : TookOperand) → r.operand ≡ Some x
+        → LeafTells (placed_value at b (record { place = x.place; strict = x.strict; text = part_bytes area x.text })) r.numbers q
         → (n : ℕ) → Evaluates mark area words (Positional n at b) m p m' q
     unfolding positional_value
-    positional_taken i s x h w n =
-        let y : Operand = record { place = i; strict = s; text = part_bytes area x } in
+    positional_taken x h w n =
+        let y : Operand = record { place = x.place; strict = x.strict; text = part_bytes area x.text } in
         record {
           same = λ is t.
               positional_told (some y) (ap (operand_of area m' r.numbers) h) n is t

@@ -22,6 +22,7 @@ ghost use Rattle.eval_params.specs.Leaves.{Leaf, leaf_value, leaf_refusal, LeafT
 use eval_told::Ran;
 use split_arg::Part;
 use state_marks::Numbers;
+use take::Operand;
 
 fn value(word: u32, numbers: Numbers) -> Ran
     ensures { result ≡ leaf_value word numbers }
@@ -73,21 +74,13 @@ fn wrong_position(position: usize, strict: bool) -> Option<u32>
 }
 
 // The value of a word that a positional took. In a wrong position it stays used.
-fn placed(
-    sheet: &[u8],
-    place: usize,
-    strict: bool,
-    t: Part,
-    position: usize,
-    numeric: bool,
-    numbers: Numbers,
-) -> Ran
-    requires { (sheet_fault sheet.now ≡ 0) × (place < 256) }
-    ensures { LeafTells (placed_value (position_of position) (if numeric then number else text) (record { place = place; strict = strict; text = part_bytes (sheet_area sheet.now) t })) numbers result }
+fn placed(sheet: &[u8], word: Operand, position: usize, numeric: bool, numbers: Numbers) -> Ran
+    requires { (sheet_fault sheet.now ≡ 0) × (word.place < 256) }
+    ensures { LeafTells (placed_value (position_of position) (if numeric then number else text) (record { place = word.place; strict = word.strict; text = part_bytes (sheet_area sheet.now) word.text })) numbers result }
 {
-    match wrong_position(position, strict) {
-        Some(wrong) => refused(wrong, place as u32 + 1, numbers),
-        None => parsed(sheet, place, t, numeric, numbers),
+    match wrong_position(position, word.strict) {
+        Some(wrong) => refused(wrong, word.place as u32 + 1, numbers),
+        None => parsed(sheet, word.place, word.text, numeric, numbers),
     }
 }
 
@@ -180,11 +173,10 @@ pub fn eval_argument_from(
 {
     let taken = take::take_arg_known(known, items, marks, p, from, node, mark);
     let left = taken.numbers;
-    let found = taken.value;
-    match found {
-        take::Value::Missing => refused(20, 0, left),
-        take::Value::Taken(place, t) => parsed(sheet, place, t, numeric, left),
-        take::Value::NoArgument(key) => refused(22, key as u32 + 1, left),
+    match taken.value {
+        Ok(None) => refused(20, 0, left),
+        Ok(Some(word)) => parsed(sheet, word.place, word.text, numeric, left),
+        Err(e) => refused(22, e.key as u32 + 1, left),
     }
 }
 
@@ -228,11 +220,8 @@ pub fn eval_positional_from(
 {
     let taken = take::take_positional_word_from(items, marks, p, from, mark);
     let left = taken.numbers;
-    let operand = taken.operand;
-    match operand {
-        take::Operand::Missing => refused(20, 0, left),
-        take::Operand::Taken(place, strict, t) => placed(
-            sheet, place, strict, t, position, numeric, left,
-        ),
+    match taken.operand {
+        None => refused(20, 0, left),
+        Some(word) => placed(sheet, word, position, numeric, left),
     }
 }
