@@ -14,7 +14,7 @@ use borrow.Author.Tests.{eqb-true}
 use types.Run.{OneOf}
 use denote.Enum.Declared.{tag_of}
 use Rattle.std.specs.Prelude.{if◌then◌else◌}
-use Rattle.rules.specs.Base.{same}
+use Rattle.std.specs.Str.{bytes_eq}
 use Rattle.rules.specs.Calls.{item_from}
 use Rattle.rules.specs.Sheet.{sheet_area}
 use Rattle.rules.specs.Split as rules
@@ -26,6 +26,7 @@ use Rattle.split_arg.specs.Items.{record_at, part_at, item_of}
 use Rattle.split_arg.specs.contracts.Item as T
 use Rattle.take_search.specs.Items.{part_bytes, HasPart, operand_kind}
 use Rattle.take_search.specs.Search.{HasItem}
+use Rattle.take_search.proofs.NameLaws.{bytes_same}
 use Rattle.take_search.proofs.Items.{is_short_lem, is_long_lem, is_arg_word_lem, is_word, is_pos_word_lem}
 use Rattle.take.specs.Takes.{text_part, strict_item, compared_item}
 
@@ -144,11 +145,11 @@ module _ (s words : List ℕ) (i : ℕ) (item : Item) (q : item ≡ item_of (rec
         rw (z, n, is_command)
 
     pub a_command : (f : Bool) → f ≡ compared_item item → f ≡ true → (t : Part) → t ≡ text_part item
-        → (y : List ℕ) → y ≡ part_bytes (sheet_area s) t → (r : Bool) → r ≡ same y word → Commands r
+        → (y : List ℕ) → y ≡ part_bytes (sheet_area s) t → (r : Bool) → r ≡ bytes_eq y word → Commands r
     unfolding is_command
     a_command f ef n t et y ey r er x e =
         let a = agrees (sheet_area s) (record_at words i) x e item q in
         let w : compared_item item ≡ true = sym ef ∙ n in
         let v : part_bytes (sheet_area s) (text_part item) ≡ y = sym (ey ∙ ap (part_bytes (sheet_area s)) et) in
         let z : command_text x ≡ some y = a.compared ∙ rw (w, v) in
-        rw (z, is_command) er
+        rw (z, is_command) (er ∙ bytes_same y word)

@@ -105,8 +105,7 @@ fn is_command(sheet: &[u8], items: &[u32], i: usize, word: &[u8]) -> bool
     ensures { (x : RulesItem) → item_from (sheet_area sheet.now) (record_at items.now i) ≡ some x → result ≡ is_command word.now (some (record { place = i; item = x })) }
 {
     let item = split_arg::read_item(items, i);
-    is_compared(item)
-        && take_search::same_bytes(take_search::part_bytes(sheet, text_of(item)), word)
+    is_compared(item) && take_search::part_bytes(sheet, text_of(item)) == word
 }
 
 // A flag for which a search found `place`, or the end of the scope.

@@ -11,4 +11,4 @@ part_bytes-requires c = text_part_lem c.args.sheet.now c.args.items.now c.args.i
 pub returns-then-is_compared : goal.returns-then-is_compared
 returns-then-is_compared c =
     a_command c.args.sheet.now c.args.items.now c.args.i _ c.read_item-item.ensures c.args.word.now _ c.is_compared.ensures c.if-is_compared.true _
-    c.text_of.ensures _ c.part_bytes.ensures _ c.same_bytes.ensures
+    c.text_of.ensures _ c.part_bytes.ensures _ c.eq.ensures
