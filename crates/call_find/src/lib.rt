@@ -13,7 +13,6 @@ use call_answers::{Answer, BAD_ITEM, BAD_STATE, NOT_THERE, answered, narrow, ref
 use call_form::Key;
 use rules::State;
 use state_marks::is_present;
-use wire::wide;
 
 // An item as the seven words of its record.
 #[repr(C)]
@@ -65,15 +64,13 @@ fn words_of(x: ItemRecord) -> [u32; 7]
 fn stopped(number: u32, place: u32) -> Search
     ensures { result ≡ stopped_at number place }
 {
-    let key = call_form::no_key();
-    let codes = form_codes::no_codes();
     Search {
         number,
         place,
         area: 0,
         fields: 0,
-        key,
-        codes,
+        key: call_form::no_key(),
+        codes: form_codes::no_codes(),
     }
 }
 
@@ -107,13 +104,7 @@ fn started(form: &[u8], sheet: &[u8], node: usize) -> Search
 fn is_reached(s: State, i: usize) -> bool
     ensures { ReachedAt s i result }
 {
-    if i < wide(s.start) {
-        return false;
-    }
-    if wide(s.end) <= i {
-        return false;
-    }
-    if 256 <= i {
+    if i < s.start as usize || s.end as usize <= i || 256 <= i {
         return false;
     }
     is_present(s.marks[i])
@@ -151,8 +142,7 @@ fn judge(
     if !is_reached(s, i) {
         return 0;
     }
-    let key = search.key;
-    if take_search::matches(form, &search.codes, sheet, &words, 0, key.names) {
+    if take_search::matches(form, &search.codes, sheet, &words, 0, search.key.names) {
         return i + 2;
     }
     0
@@ -218,10 +208,8 @@ pub fn find(form: &[u8], sheet: &[u8], items: &[ItemRecord], s: State, node: usi
 {
     let search = started(form, sheet, node);
     let mut seen = nothing_seen();
-    let mut i = 0;
-    while i < items.len() {
-        seen = turn(form, sheet, items[i], i, s, search, seen);
-        i += 1;
+    for (i, item) in items.iter().enumerate() {
+        seen = turn(form, sheet, *item, i, s, search, seen);
     }
     finish(s, search, seen)
 }

@@ -5,9 +5,9 @@ use mathlib.Core.Option.{Option, some, none}
 use mathlib.Core.Path.{◌≡◌, refl, sym, ap, ◌∙◌}
 use Prim.Native.Nat.{ℕ, zero, suc, ◌+◌, ◌%◌, ◌≤◌, ◌<◌}
 use native.Mathlib.Omega.{arith}
-use lib.Dec.{eqb, leb}
+use lib.Dec.{eqb, leb, ltb}
 use lib.ListN.{length, take, get_elem?, drop}
-use borrow.Author.Tests.{eq-eqb, ne_eqb}
+use borrow.Author.Tests.{eq-eqb, ne_eqb, le-ltb}
 use Rattle.std.specs.Prelude.{if◌then◌else◌}
 use Rattle.rules.specs.Base.{is_some, ◌>>?◌}
 use Rattle.rules.specs.Form.{Node, Name, Form, node_count, field_count, name_count, read_form, name_bytes}
@@ -163,9 +163,9 @@ module _ (b : List ℕ) (k : ℕ) where
 
 -- ---- the name of a command
 module _ (b : List ℕ) (k : ℕ) where
-  pub name_past : (n : ℕ) → n ≡ name_count b → n ≤ k → false ≡ is_some (command_at b k)
+  pub name_past : (n : ℕ) → n ≡ name_count b → n ≤ k → ltb k n ≡ is_some (command_at b k)
   unfolding command_at is_some ◌>>?◌
-  name_past n m h = rw (past (read_form b).names k (omega (arith, names_length b, m, h)))
+  name_past n m h = rw (le-ltb k n h, past (read_form b).names k (omega (arith, names_length b, m, h)))
 
   pub name_here : (x : names.Name) → get_elem? (read_form b).names k ≡ some (name_of x) → leb x.kind 1 ≡ is_some (command_at b k)
   unfolding command_at is_some ◌>>?◌

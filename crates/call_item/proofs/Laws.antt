@@ -1,18 +1,18 @@
 -- What the calls on items hand back, from what their parts give.
 use mathlib.Core.Path.{◌≡◌, refl, sym, ap, subst, ◌∙◌}
-use mathlib.Core.Bool.{Bool, true, false, not}
+use mathlib.Core.Bool.{Bool, true, false}
 use mathlib.Core.List.{List, [], ◌∷◌}
 use mathlib.Core.Option.{Option, some, none}
 use Prim.Native.Nat.{ℕ, suc, ◌+◌, ◌-◌, ◌*◌, ◌≤◌, ◌<◌}
 use native.Mathlib.Omega.{arith}
 use lib.ListN.{length, get_or, take, drop, get_elem?}
 use lib.Seq.{length-take-le, drop-cons, get_or-take}
-use borrow.Author.Tests.{le-ltb, lt-ltb, le-leb, lt-leb, ne_eqb, not-true, not-false}
+use borrow.Author.Tests.{le-ltb, lt-ltb, ne_eqb}
 use Rattle.std.specs.Prelude.{if◌then◌else◌}
 use Rattle.rules.specs.Outcome.{Outcome, ok, refused, fault, refuse, ◌>>=◌}
 use Rattle.rules.specs.Sheet.{sheet_area}
 use Rattle.rules.specs.Split.{Item}
-use Rattle.rules.specs.State.{State, Found, field_mark, present, in_scope, get, find, remove, with_current, conflict}
+use Rattle.rules.specs.State.{State, Found, field_mark, in_scope, get, find, remove, with_current, conflict}
 use Rattle.rules.specs.Take.{Took, took, Operand as RulesOperand, is_operand, operand, take_positional_word}
 use Rattle.rules.specs.Calls.{from_raw, to_raw, state_in, most_fields, place_in, mark_in, item_from, handed, on_items, operand_or20, call_get, call_conflict, call_take_positional}
 use Rattle.rules.specs.Calls.{call_only_once}
@@ -24,7 +24,6 @@ use Rattle.rules.proofs.Fields.{field_parsed}
 use Rattle.rules.proofs.StepLaws.{Finds, find_good, free_below_lem}
 use Rattle.rules.proofs.CodeLaws.{place_some}
 use Rattle.split_arg.specs.Items.{record_at}
-use Rattle.split_arg.specs.declared.Part.{Part}
 use Rattle.state_marks.specs.declared.Numbers.{Numbers}
 use Rattle.state_marks.specs.Lent.{raw_of, numbers_of, state_of, FineState}
 use Rattle.state_marks.proofs.Laws.{raw_back, fine_long}
@@ -36,7 +35,8 @@ use Rattle.take_search.specs.Items.{Table, part_bytes}
 use Rattle.take_search.specs.States.{CanTake}
 use Rattle.take.specs.Takes.{TakesPositional, operand_of}
 use Rattle.take.specs.declared.Positional.{Positional}
-use Rattle.take.specs.declared.Operand.TheVariants.{Missing, Taken}
+use Rattle.std.specs.Prelude.{Some, None}
+use Rattle.take.specs.declared.Operand.{Operand}
 use Rattle.call_table.specs.Given.{Gives, HasState, GivesState}
 use Rattle.call_table.specs.declared.Input.{Input}
 use Rattle.call_table.proofs.Laws.{table_refused, table_given, state_refused, state_given, item_at}
@@ -168,27 +168,27 @@ module _ (s words : List ℕ) (x : Raw) (j n : ℕ) (g : GivesState 16 s words x
           let h = g.good e in
           positional_called (ok k) (field_there 16 j l ∙ ap ok (sym ek)) ∙ ap (λ (y : Outcome (Took (Option RulesOperand))). handed x (y >>= operand_or20)) (taken h ∙ d)
 
-      pub positional_missing : r.operand ≡ Missing → state_answer_of operand_code (call_take_positional s words x j) ≡ some (state_with 20 0 (coded 0 0 0) x)
+      pub positional_missing : r.operand ≡ None → state_answer_of operand_code (call_take_positional s words x j) ≡ some (state_with 20 0 (coded 0 0 0) x)
       unfolding handed operand_or20 took state_answer_of coded_or0 ◌>>=◌
       positional_missing d = ap (state_answer_of operand_code) (handed_back _ (ap (operand_of (sheet_area s) m r.numbers) d))
 
-      module _ (i : ℕ) (strict : Bool) (part : Part) (d : r.operand ≡ Taken i strict part) where
-        pub positional_below : i < 256
+      module _ (w : Operand) (d : r.operand ≡ Some w) where
+        pub positional_below : w.place < 256
         unfolding state_of
         positional_below =
             let h = g.good e in
             let f = given_fine 16 x.count x h.good in
             let o = h.table.holds.count in
-            let w = operand_below k h.table.holds.items (from_raw x) (record { place = i; strict = strict; text = part_bytes (sheet_area s) part })
+            let below = operand_below k h.table.holds.items (from_raw x) (record { place = w.place; strict = w.strict; text = part_bytes (sheet_area s) w.text })
             (state_of m r.numbers) (good h) (taken h ∙ ap (operand_of (sheet_area s) m r.numbers) d) in
             omega (arith, f.small)
           where
             good : (h : HasState 16 s words x) → Good (length h.table.holds.items) (from_raw x)
             good h = subst (λ (l : ℕ). Good l (from_raw x)) (sym h.table.holds.count) (given_fine 16 x.count x h.good).good
 
-        pub positional_taken : length x.marks ≡ 256 → (u : Raw) → u ≡ raw_of m r.numbers → (b : ℕ) → b ≡ yes_no strict
+        pub positional_taken : length x.marks ≡ 256 → (u : Raw) → u ≡ raw_of m r.numbers → (b : ℕ) → b ≡ yes_no w.strict
             → state_answer_of operand_code (call_take_positional s words x j)
-            ≡ some (record { number = 0; place = 0; found = 1; first = i; second = b; state = u })
+            ≡ some (record { number = 0; place = 0; found = 1; first = w.place; second = b; state = u })
         unfolding handed operand_or20 took state_answer_of coded_or0 ◌>>=◌
         positional_taken long u eu b eb =
             ap (state_answer_of operand_code) (handed_back _ (ap (operand_of (sheet_area s) m r.numbers) d))
@@ -245,20 +245,6 @@ module _ (s words : List ℕ) (i : ℕ) (r : Input) (g : Gives s words r) where
         once_told d = told ∙ rw (place_some f d)
 
 -- ---- `get`
-
-module _ (x : Raw) (i a : ℕ) (start : a ≡ x.start) where
-  pub free_before : i < a → false ≡ free_at x i
-  unfolding free_at
-  free_before h = rw (lt-leb x.start i (omega arith))
-
-  module _ (from : a ≤ i) (b : ℕ) (end : b ≡ x.end) where
-    pub free_behind : b ≤ i → false ≡ free_at x i
-    unfolding free_at
-    free_behind h = rw (le-leb x.start i (omega arith), le-ltb i x.end (omega arith))
-
-    pub free_here : i < b → (f : Bool) → f ≡ present (get_or x.marks i 0) → f ≡ free_at x i
-    unfolding free_at
-    free_here h f e = rw (le-leb x.start i (omega arith), lt-ltb i x.end (omega arith)) e
 
 -- a record as a list of its words
 next : (l : List ℕ) (k m : ℕ) → suc k ≡ m → k < length l → drop k l ≡ get_or l k 0 ∷ drop m l
@@ -328,10 +314,10 @@ module _ (s words : List ℕ) (x : Raw) (i n : ℕ) (g : GivesState 16 s words x
           called (took o (from_raw x)) (λ is t k. rw (lt-ltb i (length is) (omega (arith, below)), d is t k))
           ∙ rw (same_state x (g.good e).good long)
 
-      pub get_absent : length x.marks ≡ 256 → (b : Bool) → b ≡ free_at x i → not b ≡ true → Gets s words x i (nothing_got 0)
+      pub get_absent : length x.marks ≡ 256 → (b : Bool) → b ≡ free_at x i → b ≡ false → Gets s words x i (nothing_got 0)
       unfolding got_of got_words place_of item_from
       get_absent long b eb h = record {
-        same = found long none (λ is t k. free_get x is i (g.good e).good below ∙ rw (← eb, not-true b h));
+        same = found long none (λ is t k. free_get x is i (g.good e).good below ∙ rw (← eb, h));
         item = refl;
       }
 
@@ -340,7 +326,7 @@ module _ (s words : List ℕ) (x : Raw) (i n : ℕ) (g : GivesState 16 s words x
           let t = (g.good e).table.holds in
           omega (arith, below, t.table.room, t.count)
 
-      pub get_found : length x.marks ≡ 256 → (b : Bool) → b ≡ free_at x i → not b ≡ false → (r : List ℕ) → r ≡ record_at words i
+      pub get_found : length x.marks ≡ 256 → (b : Bool) → b ≡ free_at x i → b ≡ true → (r : List ℕ) → r ≡ record_at words i
           → Gets s words x i (record { number = 0; place = 0; item = r })
       unfolding got_of got_words place_of
       get_found long b eb h r er =
@@ -349,6 +335,6 @@ module _ (s words : List ℕ) (x : Raw) (i n : ℕ) (g : GivesState 16 s words x
           let here : item_from (sheet_area s) (record_at words i) ≡ some y.0 = t.table.at i y.0 y.1 in
           rw er (record {
             same = found long (item_from (sheet_area s) (record_at words i)) (λ is v k.
-                free_get x is i (g.good e).good below ∙ rw (← eb, not-false b h) (sym (item_at (sheet_area s) words is v i (omega (arith, below)))));
+                free_get x is i (g.good e).good below ∙ rw (← eb, h) (sym (item_at (sheet_area s) words is v i (omega (arith, below)))));
             item = rw here;
           })

@@ -15,8 +15,6 @@ use call_answers::{
 use rules::State;
 use state_marks::{MOST_FIELDS, field_mark, is_present, joined, numbers_of};
 use state_value::ConflictOption;
-use take::Operand;
-use wire::wide;
 
 // The record of the item that was found, or all 0.
 #[repr(C)]
@@ -55,14 +53,13 @@ pub fn take_positional_word(sheet: &[u8], items: &[u32], s: State, field: usize)
     }
     let mut marks = s.marks;
     let taken = take::take_positional_word(items, &mut marks, numbers_of(s), field_mark(field));
-    let operand = taken.operand;
-    let Operand::Taken(place, strict, _) = operand else {
+    let Some(word) = taken.operand else {
         return unchanged(MISSING, 0, s);
     };
     changed(
         1,
-        place as u32,
-        yes_no(strict),
+        word.place as u32,
+        yes_no(word.strict),
         joined(marks, taken.numbers),
     )
 }
@@ -75,10 +72,7 @@ pub fn only_once(sheet: &[u8], items: &[u32], place: usize) -> Answer
     if g.number != 0 {
         return refused(g.number, 0);
     }
-    if g.count <= place {
-        return refused(NOT_THERE, 0);
-    }
-    if 0xffff_ffff < place {
+    if g.count <= place || 0xffff_ffff < place {
         return refused(NOT_THERE, 0);
     }
     let found = take_once::earlier(sheet, items, place);
@@ -117,17 +111,12 @@ fn record_words(items: &[u32], i: usize) -> [u32; 7]
 }
 
 // Whether a place is in scope and present.
+#[tactic(auto, unfolding(crate::specs::Calls::free_at))]
 fn is_free(s: State, i: usize) -> bool
     requires { s.end ≤ 256 }
     ensures { result ≡ free_at s i }
 {
-    if i < wide(s.start) {
-        return false;
-    }
-    if wide(s.end) <= i {
-        return false;
-    }
-    is_present(s.marks[i])
+    s.start as usize <= i && i < s.end as usize && is_present(s.marks[i])
 }
 
 // The item at a place that is in scope and present.
@@ -138,16 +127,15 @@ pub fn get(sheet: &[u8], items: &[u32], s: State, place: usize) -> Got
     if number != 0 {
         return nothing(number);
     }
-    if wide(s.count) <= place {
+    if s.count as usize <= place {
         return nothing(28);
     }
     if !is_free(s, place) {
         return nothing(0);
     }
-    let item = record_words(items, place);
     Got {
         number: 0,
         place: 0,
-        item,
+        item: record_words(items, place),
     }
 }

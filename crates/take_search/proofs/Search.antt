@@ -50,6 +50,11 @@ module _ (area words : List ℕ) (test : Item → Bool) (marks : List ℕ) (from
         let e : i ≡ end = omega (arith, z.within) in
         e ∙ sym (rw (from_none marks end i h)) ∙ z.same is t l
 
+    pub seeking_end : end ≤ i → Sought area words test marks from end end
+    seeking_end h is t l =
+        let e : end ≡ i = omega (arith, z.within) in
+        e ∙ seeking_last h is t l
+
     module _ (h : i < end) (long : end ≤ length marks) where
       pub seeking_used : (x : Bool) → x ≡ present (get_or marks i 0) → x ≡ false → Seeking area words test marks from end (i + 1)
       seeking_used x e g = record {

@@ -72,14 +72,6 @@ module _ (x : layout.Node) (n count : ℕ) (t : List ℕ) where
 -- ---- adjacent arguments
 
 module _ (x : layout.Node) where
-  pub other_kind : (x.kind ≡ 2 → ⊥) → false ≡ is_adjacent (node_of x)
-  unfolding is_adjacent
-  other_kind h = rw (ne_eqb x.kind 2 h)
-
-  pub odd_argument : x.kind ≡ 2 → eqb (x.r % 2) 1 ≡ is_adjacent (node_of x)
-  unfolding is_adjacent
-  odd_argument h = rw (eq-eqb x.kind 2 h)
-
   module _ (set n : ℕ) (a : Bool) (e : a ≡ is_adjacent (node_of x)) where
     pub stays_out : a ≡ true → (m : ℕ) → bit_at set m ≡ (bit_at set m || (eqb m n && is_loose (node_of x)))
     unfolding is_loose

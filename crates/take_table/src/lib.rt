@@ -1,7 +1,7 @@
 // Which flags and arguments each item matches, worked out once: bit n of an item's word is set if node n matches the item.
 #![tactic(auto)]
 
-ghost use Rattle.std.specs.Prelude.{◌≡◌, Bool, true, not, ◌&&◌, ◌||◌, List, ℕ, ◌≤◌, ◌<◌, eqb, length, get_or, replicate};
+ghost use Rattle.std.specs.Prelude.{◌≡◌, Bool, true, not, ◌&&◌, ◌||◌, List, ℕ, ◌≤◌, ◌<◌, eqb, length, get_or};
 ghost use Rattle.rules.specs.Accept.{length_good};
 ghost use Rattle.rules.specs.Form.{name_count};
 ghost use Rattle.rules.specs.Sheet.{sheet_area};
@@ -15,7 +15,6 @@ ghost use Rattle.take_table.specs.Owners.{NoOwners, Owners, Added, is_loose, Loo
 
 use split_arg::Item;
 use state_marks::is_present;
-use take_search::wide64;
 
 // The words of the longest table: one of all items, then one for each item that a line can have. A shorter line needs no more than
 // one word for each of its own items.
@@ -54,27 +53,14 @@ const MOST_NAMES: usize = 128;
 
 const FEW_NAMES: usize = 16;
 
-fn no_owners() -> [u64; MOST_NAMES]
-    ensures { result ≡ replicate 128 0 }
-{
-    [0u64; MOST_NAMES]
-}
-
-fn no_few_owners() -> [u64; FEW_NAMES]
-    ensures { result ≡ replicate 16 0 }
-{
-    [0u64; FEW_NAMES]
-}
-
-// The records from `first` on, below `end`, get the nodes of a set as owners.
+// The records from `first` on, below `end`, get the nodes of a set as owners. By places: `first` may lie behind `end`, where a part of
+// the slice would be out of bounds.
 fn mark(owners: &mut [u64], set: u64, first: usize, end: usize)
     requires { end ≤ length owners.old }
     ensures { MarkedBits set first end owners.old owners.new }
 {
-    let mut k = first;
-    while k < end {
+    for k in first..end {
         owners[k] |= set;
-        k += 1;
     }
 }
 
@@ -83,10 +69,7 @@ fn mark_node(x: form_layout::Node, n: usize, count: usize, owners: &mut [u64])
     requires { (n < 64) × (count ≤ length owners.old) }
     ensures { Added (node_of x) n count owners.old owners.new }
 {
-    if x.kind == 0 {
-        return;
-    }
-    if 2 < x.kind {
+    if x.kind == 0 || 2 < x.kind {
         return;
     }
     mark(
@@ -97,13 +80,11 @@ fn mark_node(x: form_layout::Node, n: usize, count: usize, owners: &mut [u64])
     );
 }
 
+#[tactic(auto, unfolding(crate::specs::Known::is_adjacent))]
 fn is_adjacent(x: form_layout::Node) -> bool
     ensures { result ≡ is_adjacent (node_of x) }
 {
-    if x.kind != 2 {
-        return false;
-    }
-    x.r % 2 == 1
+    x.kind == 2 && x.r % 2 == 1
 }
 
 // Node n goes to the set unless it is an adjacent argument.
@@ -124,12 +105,10 @@ fn mark_nodes(form: &[u8], count: usize, owners: &mut [u64]) -> u64
 {
     let end = form_layout::node_count(form);
     let mut loose: u64 = 0;
-    let mut n = 0;
-    while n < end {
+    for n in 0..end {
         let x = form_layout::node_at(form, n);
         mark_node(x, n, count, owners);
         loose = add_loose(loose, x, n);
-        n += 1;
     }
     loose
 }
@@ -141,14 +120,12 @@ fn short_owners(codes: &[u32], count: usize, owners: &[u64], character: u32) -> 
     requires { (count ≤ length codes.now) × (count ≤ length owners.now) }
     ensures { (form : List ℕ) (loose : ℕ) → Lookup form codes.now count owners.now loose → SetOf form (has_short form character) result }
 {
-    let want = wide64(character) + 1;
+    let want = u64::from(character) + 1;
     let mut set: u64 = 0;
-    let mut k = 0;
-    while k < count {
-        if wide64(codes[k]) == want {
+    for k in 0..count {
+        if u64::from(codes[k]) == want {
             set = union(set, owners[k]);
         }
-        k += 1;
     }
     set
 }
@@ -159,12 +136,10 @@ fn long_owners(form: &[u8], count: usize, owners: &[u64], name: &[u8]) -> u64
     ensures { SetOf form.now (has_long form.now name.now) result }
 {
     let mut set: u64 = 0;
-    let mut k = 0;
-    while k < count {
+    for k in 0..count {
         if take_search::is_long(form, k, name) {
             set = union(set, owners[k]);
         }
-        k += 1;
     }
     set
 }
@@ -223,12 +198,10 @@ fn known_by(
 {
     let loose = mark_nodes(form, names, owners);
     let mut all: u64 = 0;
-    let mut i = 0;
-    while i < count {
+    for i in 0..count {
         let set = matching(form, codes, sheet, items, i, names, owners, loose);
         table[i + 1] = set;
         all = union(all, set);
-        i += 1;
     }
     table[ALL_ITEMS] = all;
 }
@@ -248,10 +221,10 @@ pub fn known(
 {
     let names = form_layout::name_count(form);
     if names <= FEW_NAMES {
-        let mut few = no_few_owners();
+        let mut few = [0u64; FEW_NAMES];
         known_by(form, codes, sheet, items, count, names, &mut few, table);
     } else {
-        let mut owners = no_owners();
+        let mut owners = [0u64; MOST_NAMES];
         known_by(form, codes, sheet, items, count, names, &mut owners, table);
     }
 }
@@ -272,14 +245,10 @@ pub fn find(table: &[u64], marks: &[u16], node: usize, from: usize, end: usize) 
     if is_absent(table, node) {
         return end;
     }
-    let mut i = from;
-    while i < end {
-        if is_present(marks[i]) {
-            if has(table[i + 1], node) {
-                return i;
-            }
+    for i in from..end {
+        if is_present(marks[i]) && has(table[i + 1], node) {
+            return i;
         }
-        i += 1;
     }
-    i
+    end
 }

@@ -1,5 +1,5 @@
 -- A turn keeps the bound, and goes one place on in the scan; the end of the scan is what `call_find` finds. Assumes nothing.
-use Rattle.std.proofs.Common.{◌+◌, ◌≤◌, drop, sym, ◌∙◌, ap, subst, arith}
+use Rattle.std.proofs.Common.{◌+◌, ◌≤◌, drop, sym, ◌∙◌, ap, subst}
 use Rattle.call_find.specs.declared.Seen.{Seen}
 use Rattle.call_find.specs.Scan.{scan}
 use Rattle.call_find.proofs.Scan.{turned_most, scan_end, scan_step}
@@ -13,7 +13,6 @@ loop-i-preserved c =
     let u = c.loop-i.invariant in
     let e = c.turn-seen.ensures in
     record {
-      most = omega (arith, c.loop-i-test.true);
       small = subst (λ (d : Seen). d.found ≤ d.count + 1) (sym e) (turned_most a.form.now a.sheet.now a.s g _ c.loop-i.i c.loop-i.seen u.small);
       same =
           u.same ∙ scan_step a.form.now a.sheet.now a.s g a.items.now c.loop-i.i c.loop-i.seen _ c.loop-i-test.true

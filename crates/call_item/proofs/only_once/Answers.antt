@@ -4,17 +4,20 @@ use mathlib.Core.Option.{some}
 use native.Mathlib.Omega.{arith}
 use Rattle.call_item.proofs.Laws.{once_refused, once_beyond, once_place, once_wide, once_none, once_told}
 use Rattle.call_item.proofs.only_once.Goals as goal
+use Rattle.call_item.proofs.only_once.Goals.{then-g-place-via-then-g-place, then-g-place-via-else-g-place+then-place-gt4294967295}
 
 pub returns-then-g-ne0 : goal.returns-then-g-ne0
 returns-then-g-ne0 c = once_refused _ _ _ _ c.given-g.ensures c.if-g-ne0.true ∙ ap some (sym c.refused.ensures)
 
 pub returns-then-g-place : goal.returns-then-g-place
-returns-then-g-place c = once_beyond _ _ _ _ c.given-g.ensures c.if-g-ne0.false c.if-g-place.true ∙ ap some (sym c.refused-then-g-place.ensures)
-
-pub returns-then-place-gt4294967295 : goal.returns-then-place-gt4294967295
-returns-then-place-gt4294967295 c =
-    once_wide _ _ _ _ c.given-g.ensures
-    c.if-g-ne0.false c.if-g-place.false c.if-place-gt4294967295.true ∙ ap some (sym c.refused-then-place-gt4294967295.ensures)
+returns-then-g-place c =
+    elim c.then-g-place.branch [
+      | then-g-place-via-then-g-place w ↦
+          once_beyond _ _ _ _ c.given-g.ensures c.if-g-ne0.false w.if-g-place.true ∙ ap some (sym c.refused-then-g-place.ensures)
+      | then-g-place-via-else-g-place+then-place-gt4294967295 w ↦
+          once_wide _ _ _ _ c.given-g.ensures
+          c.if-g-ne0.false w.if-g-place.false w.if-place-gt4294967295.true ∙ ap some (sym c.refused-then-g-place.ensures)
+    ]
 
 pub earlier-found-requires : goal.earlier-found-requires
 earlier-found-requires c = once_place _ _ _ _ c.given-g.ensures c.if-g-ne0.false c.if-g-place.false

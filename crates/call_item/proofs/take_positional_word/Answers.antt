@@ -26,17 +26,17 @@ returns-in_default c =
     positional_missing _ _ _ _ _ c.given_state-number.ensures c.if-number-ne0.false (omega (arith, c.if-field-ge-MOST_FIELDS.false)) _ c.field_mark.ensures _ c.numbers_of.ensures _ _
     (c.take_positional_word-taken.ensures _) c.in_default.is ∙ ap some (sym c.unchanged-in_default.ensures)
 
-pub overflow_cast-place : goal.overflow_cast-place
-overflow_cast-place c =
+pub overflow_cast-word : goal.overflow_cast-word
+overflow_cast-word c =
     omega (
       arith,
       positional_below _ _ _ _ _ c.given_state-number.ensures c.if-number-ne0.false (omega (arith, c.if-field-ge-MOST_FIELDS.false)) _ c.field_mark.ensures _
-          c.numbers_of.ensures _ _ (c.take_positional_word-taken.ensures _) _ _ _ c.in-Taken.is,
+          c.numbers_of.ensures _ _ (c.take_positional_word-taken.ensures _) _ c.in-Some.is,
     )
 
 pub returns : goal.returns
 returns c =
     let long : length c.args.s.marks ≡ 256 = search (rules, c.well_formed) in
     positional_taken _ _ _ _ _ c.given_state-number.ensures c.if-number-ne0.false (omega (arith, c.if-field-ge-MOST_FIELDS.false)) _ c.field_mark.ensures _ c.numbers_of.ensures _ _
-    (c.take_positional_word-taken.ensures _) _ _ _ c.in-Taken.is long _ c.joined.ensures _ c.yes_no.ensures
+    (c.take_positional_word-taken.ensures _) _ c.in-Some.is long _ c.joined.ensures _ c.yes_no.ensures
     ∙ ap some (sym c.changed.ensures)

@@ -1,7 +1,6 @@
-use Prim.Native.Nat.{◌-◌}
-use Rattle.take_search.proofs.Search.{item_there, seeking_first, seeking_used, seeking_other, seeking_hit, seeking_last}
+use Rattle.take_search.proofs.Search.{item_there, seeking_first, seeking_used, seeking_other, seeking_hit, seeking_end}
 use Rattle.take_search.proofs.find_named.Goals as goal
-use Rattle.take_search.proofs.find_named.Goals.{then-is_present+else-matches, else-is_present}
+use Rattle.take_search.proofs.find_named.Goals.{else-is_present-via-then-is_present+else-matches, else-is_present-via-else-is_present}
 
 pub loop-i-init : goal.loop-i-init
 loop-i-init c = search seeking_first
@@ -16,14 +15,14 @@ returns-then-matches c =
 
 pub loop-i-preserved : goal.loop-i-preserved
 loop-i-preserved c =
-    elim c.if-is_present.branch [
-      | then-is_present+else-matches w ↦
+    elim c.else-is_present.branch [
+      | else-is_present-via-then-is_present+else-matches w ↦
           seeking_other _ _ _ _ _ _ _ c.loop-i.invariant c.loop-i-test.true c.requires.1.marked
           _ c.is_present.ensures w.if-is_present.true _ w.matches.ensures w.if-matches.false
-      | else-is_present w ↦
+      | else-is_present-via-else-is_present w ↦
           seeking_used _ _ _ _ _ _ _ c.loop-i.invariant c.loop-i-test.true c.requires.1.marked
           _ c.is_present.ensures w.if-is_present.false
     ]
 
 pub returns : goal.returns
-returns c = seeking_last _ _ _ _ _ _ _ c.loop-i.invariant c.loop-i-test.false
+returns c = seeking_end _ _ _ _ _ _ _ c.loop-i.invariant c.loop-i-test.false

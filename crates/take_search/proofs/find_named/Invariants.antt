@@ -1,5 +1,4 @@
 -- Invariant: what is left to search finds what the whole does. Assumes nothing.
-use Prim.Native.Nat.{◌-◌}
 use Rattle.rules.specs.Take.{matches_arg}
 use Rattle.rules.specs.Sheet.{sheet_area}
 use Rattle.take_search.proofs.Search.{Seeking}
@@ -8,6 +7,3 @@ use Rattle.take_search.proofs.find_named.Given as goal
 
 abbrev pub invariant-loop-i : goal.invariant-loop-i
 invariant-loop-i l = Seeking (sheet_area l.sheet) l.items (matches_arg (named_at l.form l.names.first l.names.count) l.names.adjacent) l.marks l.from l.end l.i
-
-abbrev pub decreases-loop-i : goal.decreases-loop-i
-decreases-loop-i l = l.end - l.i

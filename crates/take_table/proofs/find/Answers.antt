@@ -1,8 +1,7 @@
 use mathlib.Core.Path.{◌∙◌}
-use Prim.Native.Nat.{◌-◌}
-use Rattle.take_search.proofs.Search.{seeking_first, seeking_used, seeking_other, seeking_hit, seeking_last}
+use Rattle.take_search.proofs.Search.{seeking_first, seeking_used, seeking_other, seeking_hit, seeking_end}
 use Rattle.take_table.proofs.Absent.{absent_sought}
-use Rattle.take_table.proofs.find.Goals.{then-is_present+else-has, else-is_present}
+use Rattle.take_table.proofs.find.Goals.{else-is_present-via-then-is_present+else-has, else-is_present-via-else-is_present}
 use Rattle.take_table.proofs.find.Goals as goal
 
 pub returns-then-is_absent : goal.returns-then-is_absent
@@ -21,12 +20,12 @@ pub loop-i-preserved : goal.loop-i-preserved
 loop-i-preserved c =
     λ area words test s.
     let z = c.loop-i.invariant area words test s in
-    elim c.if-is_present.branch [
-      | then-is_present+else-has w ↦
+    elim c.else-is_present.branch [
+      | else-is_present-via-then-is_present+else-has w ↦
           seeking_other area words test _ _ _ _ z c.loop-i-test.true c.requires.4 _ c.is_present.ensures w.if-is_present.true _
           (λ x h. w.has.ensures ∙ s.at _ x c.loop-i-test.true h) w.if-has.false
-      | else-is_present w ↦ seeking_used area words test _ _ _ _ z c.loop-i-test.true c.requires.4 _ c.is_present.ensures w.if-is_present.false
+      | else-is_present-via-else-is_present w ↦ seeking_used area words test _ _ _ _ z c.loop-i-test.true c.requires.4 _ c.is_present.ensures w.if-is_present.false
     ]
 
 pub returns : goal.returns
-returns c = λ area words test s. seeking_last area words test _ _ _ _ (c.loop-i.invariant area words test s) c.loop-i-test.false
+returns c = λ area words test s. seeking_end area words test _ _ _ _ (c.loop-i.invariant area words test s) c.loop-i-test.false
