@@ -9,6 +9,7 @@ use lib.ListN.{length, get_or, take, drop, get_elem?}
 use lib.Seq.{length-take-le, drop-cons, get_or-take}
 use borrow.Author.Tests.{le-ltb, lt-ltb, ne_eqb}
 use Rattle.std.specs.Prelude.{if◌then◌else◌}
+use Rattle.std.specs.Prelude.{Option as Optional}
 use Rattle.rules.specs.Outcome.{Outcome, ok, refused, fault, refuse, ◌>>=◌}
 use Rattle.rules.specs.Sheet.{sheet_area}
 use Rattle.rules.specs.Split.{Item}
@@ -29,7 +30,7 @@ use Rattle.state_marks.specs.Lent.{raw_of, numbers_of, state_of, FineState}
 use Rattle.state_marks.proofs.Laws.{raw_back, fine_long}
 use Rattle.state_marks.proofs.Marks.{present_at_lem}
 use Rattle.state_value.specs.Options.{conflict_of}
-use Rattle.state_value.specs.declared.ConflictOption.{ConflictOption}
+use Rattle.state_value.specs.declared.ConflictAt.{ConflictAt}
 use Rattle.state_value.proofs.Given.{given_fine}
 use Rattle.take_search.specs.Items.{Table, part_bytes}
 use Rattle.take_search.specs.States.{CanTake}
@@ -83,7 +84,7 @@ module _ (s words : List ℕ) (x : Raw) (n : ℕ) (g : GivesState 16 s words x n
   pub conflict_ready : n ≡ 0 → FineState x
   conflict_ready e = given_fine 16 x.count x (g.good e).good
 
-  pub conflict_told : n ≡ 0 → (c : ConflictOption)
+  pub conflict_told : n ≡ 0 → (c : Optional ConflictAt)
       → ((items : List Item) → length items ≡ x.count → conflict items (from_raw x) ≡ ok (conflict_of c))
       → answer_of conflict_code (call_conflict s words x) ≡ some (answer_with 0 0 (conflict_code (conflict_of c)))
   unfolding call_conflict handed took answer_of coded_or0 ◌>>=◌

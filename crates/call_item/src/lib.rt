@@ -14,7 +14,6 @@ use call_answers::{
 };
 use rules::State;
 use state_marks::{MOST_FIELDS, field_mark, is_present, joined, numbers_of};
-use state_value::ConflictOption;
 
 // The record of the item that was found, or all 0.
 #[repr(C)]
@@ -33,10 +32,9 @@ pub fn conflict(sheet: &[u8], items: &[u32], s: State) -> Answer
     if number != 0 {
         return refused(number, 0);
     }
-    let c = state_value::conflict(s);
-    match c {
-        ConflictOption::Some(place, winner) => answered(1, place, winner),
-        ConflictOption::None => answered(0, 0, 0),
+    match state_value::conflict(s) {
+        Some(c) => answered(1, c.place, c.winner),
+        None => answered(0, 0, 0),
     }
 }
 

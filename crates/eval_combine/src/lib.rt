@@ -12,7 +12,6 @@ ghost use Rattle.eval_combine.specs.Unchanged.{optional_made, fallback_made, fir
 use eval_structs::{Counting, Fallback, Pick};
 use eval_told::{Ran, refusal, value};
 use state_marks::Numbers;
-use wire::wide;
 
 #[derive(Clone, Copy)]
 pub struct Optioned {
@@ -144,15 +143,14 @@ pub fn guard(ran: Ran, lo: u32, hi: u32) -> Ran
     refusal(number, left.current, ran.tries, left)
 }
 
-// What the loser used is in conflict with the place that decided, which is plus 1, or 0 for none.
-fn mark_conflicts(marks: &mut [u16; 256], loser: &[u16; 256], count: u32, place: u32)
+// What the loser used is in conflict with the place that decided, if one did.
+fn mark_conflicts(marks: &mut [u16; 256], loser: &[u16; 256], count: u32, place: Option<usize>)
     requires { Decided place count marks.old loser.now }
     ensures { marks.new ≡ won_marks place count marks.old loser.now }
 {
-    if place == 0 {
-        return;
+    if let Some(w) = place {
+        state_marks::save_conflicts(marks, loser, count as usize, w);
     }
-    state_marks::save_conflicts(marks, loser, wide(count), wide(place) - 1);
 }
 
 // How a side ended, for the decision.
@@ -185,7 +183,7 @@ fn winner(
     requires { Marked count first.now marks.old }
     ensures { WinnerOf tries count first.now x marks.old y marks.new result }
 {
-    let picked = state_marks::pick_winner(first, marks, wide(count));
+    let picked = state_marks::pick_winner(first, marks, count as usize);
     if picked.first {
         let second = *marks;
         *marks = *first;

@@ -1,10 +1,11 @@
 -- A state whose marks are lent and whose numbers go by value.
 use Rattle.std.specs.Prelude.{◌≡◌, true, ◌&&◌, List, [], ◌∷◌, ℕ, ◌+◌, ◌≤◌, ◌<◌, length, drop, get_or}
-use Rattle.std.specs.Prelude.{if◌then◌else◌}
+use Rattle.std.specs.Prelude.{if◌then◌else◌, Some, None}
+use Rattle.std.specs.Prelude.{Option as Coded}
+use Rattle.std.proofs.Math.Option.{Option, some, none}
 use Rattle.rules.specs.Outcome.{ok}
 use Rattle.rules.specs.Tree.{zeros}
 use Rattle.rules.specs.State.{State, parsed, present, remove, Picked as Pick}
-use Rattle.rules.specs.Codes.{place_of}
 use Rattle.rules.specs.Calls.{from_raw}
 use Rattle.rules.specs.Sound.{Good}
 use Rattle.rules.specs.declared.State.{State as Raw}
@@ -58,8 +59,13 @@ unfoldable pub first_or : ℕ → List ℕ → ℕ
 first_or d [] = d
 first_or d (x ∷ xs) = x
 
+-- an `Option` of the code, as the rules have it
+abbrev pub option_of : {A : Type 0} → Coded A → Option A
+option_of (Some x) = some x
+option_of None = none
+
 unfoldable pub pick_of : Picked → Pick
-pick_of r = record { first = r.first; place = place_of r.place }
+pick_of r = record { first = r.first; place = option_of r.place }
 
 -- one mark of `conflicts`
 unfoldable pub conflict_mark : ℕ → ℕ → ℕ → ℕ

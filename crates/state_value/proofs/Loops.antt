@@ -47,9 +47,9 @@ module _ (a b : List ℕ) (from count i : ℕ) (s : Going a b from count i) (la 
       → (y : Bool) → y ≡ present (get_or b i 0) → y ≡ false → Going a b from count (i + 1)
   going_theirs h x e p y f q = record { within = omega arith; same = sym (until_step h ∙ rw (← e, p, ← f, q)) }
 
-  pub going_last : count ≤ i → Until a b from count i
+  pub going_last : count ≤ i → Until a b from count count
   unfolding until_present place_below
-  going_last h = record { within = s.within; place = rw (le-ltb i count h) (sym (sym s.same ∙ rw (part_none a count i h la))) }
+  going_last h = record { within = omega arith; place = rw (le-ltb count count (omega arith)) (sym (sym s.same ∙ rw (part_none a count i h la))) }
 
 -- ---- the present places from one on
 
@@ -74,8 +74,8 @@ module _ (m : List ℕ) (from count i : ℕ) (s : Spanning m from count i) (l : 
       let z : span (drop i (take count m)) ≡ 0 = rw (part_cons m count i h l, used_of (get_or m i 0) x e g) in
       record { within = omega arith; place = omega (arith, s.same) }
 
-  pub spanning_last : count ≤ i → SpanEnd m from count i
+  pub spanning_last : count ≤ i → SpanEnd m from count count
   unfolding span
   spanning_last h =
       let z : span (drop i (take count m)) ≡ 0 = rw (part_none m count i h l) in
-      record { within = s.within; place = omega (arith, s.same) }
+      record { within = omega arith; place = omega (arith, s.same, s.within) }

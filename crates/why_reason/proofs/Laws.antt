@@ -5,12 +5,14 @@ use mathlib.Core.Logic.{◌⊎◌, ⊎_elim}
 use mathlib.Core.Option.{Option, some, none}
 use mathlib.Core.Path.{◌≡◌, refl, sym, ap, ◌∙◌}
 use Prim.Native.Nat.{ℕ, suc, ◌+◌, ◌-◌, ◌*◌, ◌≤◌, ◌<◌}
+use native.Mathlib.Numerals.{add-one}
 use native.Mathlib.Omega.{arith}
 use lib.ListN.{length, get_or, get_elem?}
 use types.Run.{OneOf}
 use denote.Enum.Declared.{tag_of}
 use borrow.Author.Tests.{not-true, not-false}
-use Rattle.std.specs.Prelude.{if◌then◌else◌}
+use Rattle.std.specs.Prelude.{if◌then◌else◌, Some, None}
+use Rattle.std.specs.Prelude.{Option as Optional}
 use Rattle.rules.specs.Base.{all, ◌>>?◌}
 use Rattle.rules.specs.Outcome.{ok, ◌>>=◌}
 use Rattle.rules.specs.Sheet.{sheet_area}
@@ -33,6 +35,7 @@ use Rattle.split_arg.specs.declared.Item.{Item}
 use Rattle.split_arg.specs.declared.Item.TheVariants.{Short, Long, ArgWord, Word, PosWord}
 use Rattle.split_arg.specs.contracts.Item as T
 use Rattle.split_arg.specs.Items.{record_at, item_of}
+use Rattle.state_marks.specs.Lent.{option_of}
 use Rattle.take_search.proofs.Items.{is_short_lem, is_long_lem, is_arg_word_lem, is_word, is_pos_word_lem}
 use Rattle.take_once.specs.Once.{HasPlace, Earlier}
 use Rattle.why_names.specs.Naming.{CanName, FormNames}
@@ -224,8 +227,8 @@ module _ (b s words m : List ℕ) (i : ℕ) (item : Item) (q : item ≡ item_of 
       operand y f (PosWord t) e k = rw (is_pos_word_lem _ _ y f item q t e).0
 
 -- ---- the first two, and then the item
-module _ (b s words m : List ℕ) (i : ℕ) (w : ℕ) (won : place_of w ≡ winner (get_or m i 0)) (q : Reason) where
-  winner_is : (x : LeftPlace) → MarkedUp x m i → winner_of x ≡ place_of w
+module _ (b s words m : List ℕ) (i : ℕ) (w : Optional ℕ) (won : option_of w ≡ winner (get_or m i 0)) (q : Reason) where
+  winner_is : (x : LeftPlace) → MarkedUp x m i → winner_of x ≡ option_of w
   unfolding winner_of ◌>>?◌
   winner_is x p = rw (p.place, p.same i (omega arith)) (sym won)
 
@@ -238,21 +241,19 @@ module _ (b s words m : List ℕ) (i : ℕ) (w : ℕ) (won : place_of w ≡ winn
       let once = ap (only_once (line_items x)) p.place ∙ d in
       rw (here, reason_at, once)
 
-  pub found_winner : (w ≡ 0 → ⊥) → q ≡ told 1 w → FindsReason b s words m i q
+  pub found_winner : (k : ℕ) → w ≡ Some k → q ≡ told 1 (k + 1) → FindsReason b s words m i q
   unfolding first_reason reason_code reason_detail
-  found_winner n d = record {
-    same = λ x p k.
+  found_winner k n d = record {
+    same = λ x p h.
         let y = lookup_some (line_items x) i p.below in
         let e = earlier_ok (line_items x) i p.below in
-        let lost : winner_of x ≡ some (w - 1) = winner_is x k ∙ place_some w n in
-        let back : suc (w - 1) ≡ w = omega arith in
-        (lost_choice (w - 1), given x p e.0 e.1 y.0 y.1 ∙ rw (lost, first_reason), rw d (record { code = refl; detail = back }));
+        let lost : winner_of x ≡ some k = winner_is x h ∙ ap option_of n in
+        (lost_choice k, given x p e.0 e.1 y.0 y.1 ∙ rw (lost, first_reason), rw (d, add-one k) (record { code = refl; detail = refl }));
   }
 
-  module _ (none-won : w ≡ 0) (r : ℕ) (h : Earlier (sheet_area s) words i r) where
+  module _ (none-won : w ≡ None) (r : ℕ) (h : Earlier (sheet_area s) words i r) where
     lost_none : (x : LeftPlace) → MarkedUp x m i → winner_of x ≡ none
-    unfolding place_of
-    lost_none x k = winner_is x k ∙ rw none-won
+    lost_none x k = winner_is x k ∙ ap option_of none-won
 
     pub found_earlier : (r ≡ 0 → ⊥) → q ≡ told 2 r → FindsReason b s words m i q
     unfolding first_reason reason_code reason_detail

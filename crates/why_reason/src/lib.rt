@@ -104,8 +104,8 @@ pub fn find_reason(form: &[u8], sheet: &[u8], items: &[u32], marks: &[u16], i: u
 {
     let winner = winner_of(marks[i]);
     let earlier = take_once::earlier(sheet, items, i);
-    if winner != 0 {
-        return tell(LOST_CHOICE, winner);
+    if let Some(w) = winner {
+        return tell(LOST_CHOICE, w + 1);
     }
     if earlier != 0 {
         return tell(GIVEN_EARLIER, earlier as u32);

@@ -1,4 +1,3 @@
-use Prim.Native.Nat.{◌-◌}
 use Rattle.state_marks.proofs.Marks.{searched_first, searched_next, searched_hit, searched_end}
 use Rattle.state_marks.proofs.first_present.Goals as goal
 

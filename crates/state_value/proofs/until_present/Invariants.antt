@@ -1,10 +1,6 @@
 -- Invariant: before i no place is present in both. Assumes nothing.
-use Prim.Native.Nat.{◌-◌}
 use Rattle.state_value.proofs.Loops.{Going}
 use Rattle.state_value.proofs.until_present.Given as goal
 
 abbrev pub invariant-loop-i : goal.invariant-loop-i
 invariant-loop-i l = Going l.a l.b l.from l.count l.i
-
-abbrev pub decreases-loop-i : goal.decreases-loop-i
-decreases-loop-i l = l.count - l.i
