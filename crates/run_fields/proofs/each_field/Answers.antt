@@ -37,9 +37,6 @@ returns-then-ran-ne0 c =
 pub overflow_add-at : goal.overflow_add-at
 overflow_add-at c = record { fits = search going_at }
 
-pub overflow_add-k : goal.overflow_add-k
-overflow_add-k c = record { fits = search going_step }
-
 pub loop-k-preserved : goal.loop-k-preserved
 loop-k-preserved c = search going_next
 
