@@ -1,6 +1,7 @@
 -- A choice, by what `this_or_that_picks_first` and `pick_winner` decide.
 use mathlib.Core.Bool.{Bool, true, false, ◌&&◌, false≢true}
-use mathlib.Core.List.{List, [], ◌++◌}
+use mathlib.Core.List.{List, [], ◌++◌, ◌∷◌}
+use mathlib.Core.Logic.{⊎_elim}
 use mathlib.Core.Option.{some, none, none-ne-some}
 use mathlib.Core.Path.{◌≡◌, refl, sym, ap, ap₂, ◌∙◌}
 use Prim.Native.Nat.{ℕ, ◌+◌, ◌-◌, ◌<◌}
@@ -12,7 +13,7 @@ use Rattle.std.specs.Prelude.{if◌then◌else◌, Option, Some, None, IfSome}
 use Rattle.rules.specs.Outcome.{Outcome, ok, refused, fault, at, or_else305, or_else307, Refusal, is_missing, can_catch, wrong_input, combine_with}
 use Rattle.rules.specs.Calls.{from_raw}
 use Rattle.rules.specs.Value.{Value, absent, words}
-use Rattle.rules.specs.State.{State, Picked, pick_from, pick_winner, conflicts}
+use Rattle.rules.specs.State.{State, Picked, pick_from, pick_winner, conflicts, present_at}
 use Rattle.rules.specs.Eval.{Ran as Run, Visit, ended, after, value_of, side, picks_first, picked, won, chosen, eval_choice}
 use Rattle.rules.specs.declared.Refused.{Refused}
 use Rattle.rules.proofs.Places.{if_elim}

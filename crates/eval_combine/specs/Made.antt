@@ -1,7 +1,6 @@
 -- What the functions of this crate make, by the rules.
-use Rattle.std.specs.Prelude.{Bool, true, false, List, [], ◌∷◌, ◌++◌, ◌≡◌, ℕ, ◌+◌, ◌^◌, ◌≤◌, ◌<◌, eqb, length, take, drop}
-use Rattle.std.proofs.Math.Option.{some}
-use Rattle.std.specs.Prelude.{if◌then◌else◌, Option, Some, None, IfSome}
+use Rattle.std.specs.Prelude.{Bool, true, false, List, [], ◌∷◌, ◌++◌, ◌≡◌, ℕ, ◌+◌, ◌^◌, ◌≤◌, ◌<◌, eqb, length, take, drop, if◌then◌else◌, Option, Some, None, IfSome, ◌-◌}
+use Rattle.std.proofs.Math.Option.{some, none}
 use Rattle.rules.specs.Outcome.{ok}
 use Rattle.rules.specs.Value as values
 use Rattle.rules.specs.Value.{BaseValue, Value, has_kind}
@@ -13,7 +12,7 @@ use Rattle.state_marks.specs.declared.Numbers.{Numbers}
 use Rattle.state_marks.specs.Lent.{state_of, Fine, pick_of}
 use Rattle.take_search.specs.States.{LeftState}
 use Rattle.eval_structs.specs.declared.Counting.TheVariants.{Absent}
-use Rattle.eval_structs.specs.Decisions.{counted_of, option_way}
+use Rattle.eval_structs.specs.Decisions.{option_way}
 use Rattle.eval_told.specs.declared.Ran.{Ran}
 use Rattle.eval_told.specs.Results.{value_ran, refusal_ran}
 use Rattle.eval_told.specs.Told.{told, Numbered, told_with, answered, scalar_words}
@@ -47,7 +46,7 @@ pub record OptionalOf (catch : Bool) (before : List ℕ) (p : Numbers) (ran : Ra
 -- an absent child left the marks as they were
 abbrev pub Undone : Bool → List ℕ → Numbers → List ℕ → Ran → Type 0
 Undone catch before p m ran =
-    option_way ran.number catch p.remaining ran.numbers.remaining (counted_of 4294967295) ≡ Absent → m ≡ before
+    option_way ran.number catch p.remaining ran.numbers.remaining none ≡ Absent → m ≡ before
 
 -- ---- fallback, whose own value is this word
 pub record Returned (before : List ℕ) (p : Numbers) (m : List ℕ) (ran : Ran) : Type 0 where

@@ -1,7 +1,7 @@
 // The run of a node whose value is a list or an optional list. Its words go to a lent slice, where all is 0 from the first of them on.
 #![tactic(auto)]
 
-ghost use Rattle.std.specs.Prelude.{◌≡◌, ◌∷◌, ◌+◌, ◌≤◌, ◌<◌, length, take, drop};
+ghost use Rattle.std.specs.Prelude.{◌≡◌, true, false, ◌∷◌, ◌+◌, ◌≤◌, ◌<◌, length, take, drop};
 ghost use Rattle.std.proofs.Math.Option.{some};
 ghost use Rattle.std.proofs.lemmas.List.Edits.{sets};
 ghost use Rattle.rules.specs.Sheet.{sheet_area};
@@ -12,7 +12,6 @@ ghost use Rattle.eval_list.specs.Lists.{Listed, Writes, WritesField, OverScalar,
 use eval_node::Repeat;
 use eval_told::Ran;
 use state_marks::Numbers;
-use wire::wide;
 
 // A node, and the word of the answer slice that its value begins at.
 #[derive(Clone, Copy)]
@@ -27,6 +26,21 @@ struct Child {
     node: usize,
     catch: bool,
     at: usize,
+}
+
+impl Child {
+    // The repeat of a list: every value is written.
+    fn repeat(self) -> Repeat
+        ensures { result ≡ record { child = self.node; catch = self.catch; stops = false; writes = true; at = self.at } }
+    {
+        Repeat {
+            child: self.node,
+            catch: self.catch,
+            stops: false,
+            writes: true,
+            at: self.at,
+        }
+    }
 }
 
 // The two sides of a choice, and where the value begins.
@@ -51,22 +65,15 @@ fn run_many(
     requires { OverScalar (Many child.catch) form.now known.now sheet.now items.now marks.old p (child_with_mark child mark) out.old }
     ensures { WritesOver (Many child.catch) form.now sheet.now items.now (child_with_mark child mark) marks.old p marks.new out.old out.new result }
 {
-    let how = Repeat {
-        child: child.node,
-        catch: child.catch,
-        stops: false,
-        writes: true,
-        at: child.at,
-    };
+    let how = child.repeat();
     let all = eval_node::run_repeat(form, known, sheet, items, marks, p, how, out, mark);
     if all.number != 0 {
-        let left = all.numbers;
-        return eval_told::refusal(all.number, all.place, all.tries, left);
+        return eval_words::refused_list(all);
     }
     eval_words::counted_list(all, child.at, out)
 }
 
-// A list of no values is refused.
+// A list of no values is refused. That is one test more than `run_many`; each is proved for its own node.
 fn run_some(
     form: &[u8],
     known: &[u64],
@@ -81,23 +88,15 @@ fn run_some(
     requires { OverScalar (Some child.catch) form.now known.now sheet.now items.now marks.old p (child_with_mark child mark) out.old }
     ensures { WritesOver (Some child.catch) form.now sheet.now items.now (child_with_mark child mark) marks.old p marks.new out.old out.new result }
 {
-    let how = Repeat {
-        child: child.node,
-        catch: child.catch,
-        stops: false,
-        writes: true,
-        at: child.at,
-    };
+    let how = child.repeat();
     let all = eval_node::run_repeat(form, known, sheet, items, marks, p, how, out, mark);
-    let left = all.numbers;
     if all.number != 0 {
-        return eval_told::refusal(all.number, all.place, all.tries, left);
+        return eval_words::refused_list(all);
     }
-    let number = eval_structs::parse_some(all.count);
-    if number != 0 {
-        return eval_told::refusal(number, 0, all.tries, left);
+    match eval_structs::parse_some(all.count) {
+        0 => eval_words::counted_list(all, child.at, out),
+        number => eval_told::refusal(number, 0, all.tries, all.numbers),
     }
-    eval_words::counted_list(all, child.at, out)
 }
 
 // A node whose value is a list or an optional list: its words go to `out` from `at` on, where all is 0.
@@ -117,7 +116,6 @@ pub fn run_list(
     ensures { WritesField form.now sheet.now items.now (with_mark field mark) marks.old p marks.new out.old out.new result }
 {
     let x = form_layout::node_at(form, field.node);
-    let kind = x.kind;
     let child = Child {
         node: x.p,
         catch: x.r == 1,
@@ -128,7 +126,7 @@ pub fn run_list(
         right: x.q,
         at: field.at,
     };
-    match kind {
+    match x.kind {
         4 => run_optional_list(form, known, sheet, items, marks, p, child, out, mark),
         5 => run_many(form, known, sheet, items, marks, p, child, out, mark),
         6 => run_some(form, known, sheet, items, marks, p, child, out, mark),
@@ -160,10 +158,9 @@ fn run_optional_list(
     let ran = run_list(form, known, sheet, items, marks, p, field, out, mark);
     let made = eval_combine::optional(ran, p, child.catch, &before, marks);
     if made.present {
-        eval_words::shift(out, child.at, wide(ran.len));
+        eval_words::shift(out, child.at, ran.len as usize);
     }
-    let answer = made.ran;
-    answer
+    made.ran
 }
 
 // Of two lists the one that wins. Both are run on the same marks and write to the same words.
@@ -189,7 +186,7 @@ fn run_either(
     };
     let x = run_list(form, known, sheet, items, marks, p, left, out, mark);
     let first = *marks;
-    let n = wide(x.len);
+    let n = x.len as usize;
     let kept = eval_words::set_aside(out, sides.at, n);
     *marks = before;
     let right = Field {
@@ -198,15 +195,14 @@ fn run_either(
     };
     let y = run_list(form, known, sheet, items, marks, p, right, out, mark);
     let made = eval_combine::choose(x, y, p, &before, &first, marks);
-    let answer = made.ran;
     eval_words::settle(
         out,
         sides.at,
-        answer.number,
+        made.ran.number,
         made.first,
         &kept,
         n,
-        wide(y.len),
+        y.len as usize,
     );
-    answer
+    made.ran
 }

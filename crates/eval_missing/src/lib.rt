@@ -76,11 +76,8 @@ fn list_node(
     ensures { ListsNode form.now sheet.now items.now (with_mark field mark) marks.now p list.old list.new result }
 {
     let x = form_layout::node_at(form, field.node);
-    let kind = x.kind;
-    if kind <= 3 {
-        return put_entry(list, field.at, field.node, p);
-    }
-    match kind {
+    match x.kind {
+        0..=3 => put_entry(list, field.at, field.node, p),
         8 | 11 => {
             let under = Field {
                 node: x.p,

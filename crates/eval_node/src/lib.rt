@@ -15,14 +15,13 @@ ghost use Rattle.eval_told.specs.Told.{Evaluates};
 ghost use Rattle.eval_told.specs.Nodes.{tree_at};
 ghost use Rattle.eval_shortcut.specs.Stands.{Scalar};
 ghost use Rattle.eval_shortcut.specs.Children.{Wraps, Wrapped, Falls, BothSides, Turns, Searched};
-ghost use Rattle.eval_node.specs.Cycle.{Repeating, Repeats};
+ghost use Rattle.eval_node.specs.Cycle.{Repeating, Repeats, counting};
 
 use eval_structs::Counting;
 use eval_told::Ran;
 use eval_words::{Repeated, write_value};
 use form_layout::Node;
 use state_marks::Numbers;
-use wire::wide;
 
 // A repeat: of which child, whether a refusal of the child is caught, whether a success that used nothing ends it, and whether
 // the values are written, from the word behind `at` on.
@@ -33,6 +32,21 @@ pub struct Repeat {
     pub stops: bool,
     pub writes: bool,
     pub at: usize,
+}
+
+impl Repeat {
+    // The repeat of `count` and `last`: no refusal is caught, and nothing is written.
+    fn counting(child: usize) -> Repeat
+        ensures { result ≡ counting child }
+    {
+        Repeat {
+            child,
+            catch: false,
+            stops: true,
+            writes: false,
+            at: 0,
+        }
+    }
 }
 
 // A repeat's child, and the node that a turn evaluates first: a leaf beneath the child, or the child itself. It is read once, not at
@@ -60,8 +74,7 @@ pub fn run_node(
     ensures { (t : Tree) → tree_at form.now node ≡ some t → Evaluates mark (sheet_area sheet.now) items.now t marks.old p marks.new result }
 {
     let x = form_layout::node_at(form, node);
-    let kind = x.kind;
-    match kind {
+    match x.kind {
         1 => eval_params::eval_flag(known, marks, p, node, x.r == 1, mark),
         2 => eval_params::eval_argument(known, sheet, items, marks, p, node, 2 <= x.r, mark),
         3 => eval_params::eval_positional(sheet, items, marks, p, x.p, x.r == 2, mark),
@@ -92,14 +105,10 @@ fn optional(
     if eval_shortcut::keeps_marks(form, child, catch) {
         let before = *marks;
         let ran = run_node(form, known, sheet, items, marks, p, child, mark);
-        let made = eval_combine::optional(ran, p, catch, &before, marks);
-        let answer = made.ran;
-        return answer;
+        return eval_combine::optional(ran, p, catch, &before, marks).ran;
     }
     let ran = run_node(form, known, sheet, items, marks, p, child, mark);
-    let made = eval_combine::optional_unchanged(ran, p, catch);
-    let answer = made.ran;
-    answer
+    eval_combine::optional_unchanged(ran, p, catch).ran
 }
 
 #[cycle(nodes)]
@@ -189,15 +198,11 @@ fn choice(
 {
     if eval_shortcut::alone(form, known, left, right) {
         let x = run_node(form, known, sheet, items, marks, p, left, mark);
-        let one = eval_combine::first_alone(x, p);
-        let answer = one.ran;
-        return answer;
+        return eval_combine::first_alone(x, p).ran;
     }
     if eval_shortcut::alone(form, known, right, left) {
         let y = run_node(form, known, sheet, items, marks, p, right, mark);
-        let other = eval_combine::second_alone(y, p);
-        let answer = other.ran;
-        return answer;
+        return eval_combine::second_alone(y, p).ran;
     }
     choice_copied(form, known, sheet, items, marks, p, left, right, mark)
 }
@@ -223,9 +228,7 @@ fn choice_copied(
     let first = *marks;
     *marks = before;
     let y = run_node(form, known, sheet, items, marks, p, right, mark);
-    let made = eval_combine::choose(x, y, p, &before, &first, marks);
-    let answer = made.ran;
-    answer
+    eval_combine::choose(x, y, p, &before, &first, marks).ran
 }
 
 // The number of values that a repeat counts. Nothing is written.
@@ -244,13 +247,7 @@ fn count(
     ensures { Wrapped Count mark form.now sheet.now items.now child marks.old p marks.new result }
 {
     let mut unwritten = [0u32; 1];
-    let how = Repeat {
-        child,
-        catch: false,
-        stops: true,
-        writes: false,
-        at: 0,
-    };
+    let how = Repeat::counting(child);
     let all = run_repeat(
         form,
         known,
@@ -284,13 +281,7 @@ fn last(
     ensures { Wrapped Last mark form.now sheet.now items.now child marks.old p marks.new result }
 {
     let mut unwritten = [0u32; 1];
-    let how = Repeat {
-        child,
-        catch: false,
-        stops: true,
-        writes: false,
-        at: 0,
-    };
+    let how = Repeat::counting(child);
     let all = run_repeat(
         form,
         known,
@@ -308,8 +299,7 @@ fn last(
     if all.count != 0 {
         return eval_words::last_value(all);
     }
-    let after = all.numbers;
-    let again = run_node(form, known, sheet, items, marks, after, child, mark);
+    let again = run_node(form, known, sheet, items, marks, all.numbers, child, mark);
     eval_told::more_tries(again, all.tries)
 }
 
@@ -330,8 +320,7 @@ fn leaf(
     ensures { (t : Tree) → tree_at form.now over.leaf ≡ some t → Evaluates mark (sheet_area sheet.now) items.now t marks.old p marks.new result }
 {
     let x = over.node;
-    let kind = x.kind;
-    match kind {
+    match x.kind {
         1 => eval_params::eval_flag_from(known, marks, p, from, over.leaf, x.r == 1, mark),
         2 => eval_params::eval_argument_from(
             known,
@@ -395,15 +384,15 @@ pub fn run_repeat(
     let keeps = eval_shortcut::keeps_marks(form, how.child, how.catch);
     let mut before = *marks;
     let mut s = p;
-    let mut from = wide(p.start);
-    let mut last: u32 = 4294967295;
+    let mut from = p.start as usize;
+    let mut last = None;
     let mut all = eval_words::nothing(p);
+    // A loop: it ends at what the child answers, and each counted turn leaves fewer places, which no range counts.
     loop {
         let given = s.remaining;
         let ran = turn(form, known, sheet, items, marks, s, over, from, mark);
         let after = ran.numbers;
-        let way = eval_structs::parse_option(ran.number, how.catch, given, after.remaining, last);
-        match way {
+        match eval_structs::parse_option(ran.number, how.catch, given, after.remaining, last) {
             Counting::Counted => {
                 let width = write_value(out, how.writes, how.at, all.size, ran.len, ran.word);
                 all = eval_words::one_more(all, ran, width);
@@ -413,7 +402,7 @@ pub fn run_repeat(
                 eval_words::copy_if(keeps, marks, &mut before);
                 s = after;
                 from = eval_words::next_from(from, given, after);
-                last = after.remaining;
+                last = Some(after.remaining);
             }
             Counting::Uncounted => return eval_words::ended(all, ran.tries, after),
             Counting::Absent => {

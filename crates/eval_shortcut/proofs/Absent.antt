@@ -29,7 +29,7 @@ use Rattle.rules.proofs.Places.{left}
 use Rattle.rules.proofs.StepLaws.{arg_takes, positional_takes}
 use Rattle.rules.proofs.Went.{if_holds}
 use Rattle.eval_structs.specs.declared.Counting.TheVariants.{Counted, Uncounted, Absent, PassedOn}
-use Rattle.eval_structs.specs.Decisions.{with_remaining, counted_of, option_way}
+use Rattle.eval_structs.specs.Decisions.{with_remaining, option_way}
 use Rattle.form_layout.specs.Layout.{node_of}
 use Rattle.form_layout.specs.declared.Node.{Node as LaidOut}
 use Rattle.state_marks.specs.declared.Numbers.{Numbers}
@@ -305,7 +305,7 @@ module _
     optional_unchanged o h =
         optional_ends catch b known s words m p mark n z m' ran said m' o
         (h m m' (optional_given catch b known s words m p mark n z m' ran said)
-        (absent_by b known s words m p mark n z.below m' ran said catch r f e (counted_of 4294967295)))
+        (absent_by b known s words m p mark n z.below m' ran said catch r f e none))
 
 -- ---- whose marks are kept, by the node as the code reads it
 leaf_place : (p : ℕ) → leb 2 p ≡ is_non_strict (position_of p)

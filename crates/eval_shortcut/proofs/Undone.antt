@@ -3,7 +3,9 @@ use mathlib.Core.Bool.{Bool, true, false, false≢true}
 use mathlib.Core.List.{List, [], ◌∷◌, ◌++◌}
 use mathlib.Core.Option.{Option, some, none, some-injective, none-ne-some}
 use mathlib.Core.Path.{◌≡◌, refl, sym, ◌∙◌, ap, ap₂, subst}
-use Prim.Native.Nat.{ℕ, suc, ◌-◌}
+use Prim.Native.Nat.{ℕ, suc, ◌-◌, ◌≤◌, ◌<◌}
+use native.Mathlib.Nat.{eq-or-lt_of_le}
+use mathlib.Core.Logic.{⊎_elim}
 use native.Mathlib.Omega.{arith}
 use lib.Dec.{leb, eqb, ltb}
 use lib.ListN.{length, take, drop, get_elem?, length-drop, take-append-drop}
@@ -251,13 +253,14 @@ module _ (b : List ℕ) (n : ℕ) (y : Node) (h : get_elem? (read_form b).nodes 
   unfolding undoes
   undoes_argument k t e = text_below y.r ∙ ap undoes (argument_tree b n t e (node_of y) h k).same
 
-  pub undoes_choice : y.kind ≡ 9 → (t : Tree) → tree_at b n ≡ some t → true ≡ undoes t
+  -- 9 or 10
+  pub undoes_choice_fallback : 9 ≤ y.kind → y.kind ≤ 10 → (t : Tree) → tree_at b n ≡ some t → true ≡ undoes t
   unfolding undoes
-  undoes_choice k t e = ap undoes (choice_tree b n t e (node_of y) h k).same
-
-  pub undoes_fallback : y.kind ≡ 10 → (t : Tree) → tree_at b n ≡ some t → true ≡ undoes t
-  unfolding undoes
-  undoes_fallback k t e = ap undoes (fallback_tree b n t e (node_of y) h k).single.same
+  undoes_choice_fallback l m t e =
+      ⊎_elim
+      (λ (k : 9 ≡ y.kind). ap undoes (choice_tree b n t e (node_of y) h (sym k)).same)
+      (λ (k : 9 < y.kind). ap undoes (fallback_tree b n t e (node_of y) h (omega arith)).single.same)
+      (eq-or-lt_of_le l)
 
   pub undoes_other : (y.kind ≡ 1 → ⊥) → (y.kind ≡ 2 → ⊥) → (y.kind ≡ 9 → ⊥) → (y.kind ≡ 10 → ⊥)
       → (t : Tree) → tree_at b n ≡ some t → false ≡ undoes t

@@ -51,14 +51,9 @@ pub fn more_tries(ran: Ran, tries: u32) -> Ran
     requires { tries + ran.tries < 4294967296 }
     ensures { result ≡ more_tries ran tries }
 {
-    let left = ran.numbers;
     Ran {
-        number: ran.number,
-        place: ran.place,
         tries: tries + ran.tries,
-        len: ran.len,
-        word: ran.word,
-        numbers: left,
+        ..ran
     }
 }
 
@@ -66,13 +61,9 @@ pub fn more_tries(ran: Ran, tries: u32) -> Ran
 pub fn wrote(ran: Ran, len: u32) -> Ran
     ensures { result ≡ written ran len }
 {
-    let left = ran.numbers;
     Ran {
-        number: ran.number,
-        place: ran.place,
-        tries: ran.tries,
         len,
         word: 0,
-        numbers: left,
+        ..ran
     }
 }

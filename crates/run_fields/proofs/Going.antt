@@ -215,9 +215,6 @@ module _ (b known s words m₀ : List ℕ) (p₀ : Numbers) (first : ℕ) (o₀ 
     pub field_inside : k < n → k < field_count b
     field_inside l = omega (arith, g.count)
 
-    pub going_step : k < n → k + 1 < 18446744073709551616
-    going_step l = omega (arith, few_fields b a e)
-
     -- the number of field k
     -- the mark of a field fits in 16 bits
     pub going_number : k < n → 512 + (first + k) < 65536

@@ -12,7 +12,6 @@ use eval_told::Ran;
 use rules::State;
 use state_marks::Numbers;
 use take_table::TABLE_WORDS;
-use wire::wide;
 
 // The most answer words that a run writes.
 pub const ANSWER_WORDS: usize = 8240;
@@ -148,23 +147,20 @@ fn each_field(
 {
     let n = form_layout::field_count(form);
     let mut s = p;
-    let mut tries: u32 = 0;
+    let mut tries = 0;
     let mut at = 0;
-    let mut k = 0;
-    while k < n {
+    for k in 0..n {
         let node = form_layout::field_at(form, k);
         let mark = state_marks::field_mark(first + k);
         let field = Field { node, at };
         let ran = run_field(form, known, sheet, items, marks, s, field, out, mark);
-        let left = ran.numbers;
-        tries = tries + ran.tries;
+        tries += ran.tries;
         if ran.number != 0 {
             wire::fill(out, 0, at, 0);
-            return refused(ran.number, ran.place, tries, k, left);
+            return refused(ran.number, ran.place, tries, k, ran.numbers);
         }
-        s = left;
-        at = at + wide(ran.len);
-        k += 1;
+        s = ran.numbers;
+        at += ran.len as usize;
     }
     answered(tries, at, s)
 }
@@ -189,11 +185,11 @@ pub fn run_fields(
         return all;
     }
     let s = all.numbers;
-    let end = wide(s.end);
-    let place = state_marks::first_present(marks, wide(s.start), end);
+    let end = s.end as usize;
+    let place = state_marks::first_present(marks, s.start as usize, end);
     if end <= place {
         return all;
     }
-    wire::fill(out, 0, wide(all.words), 0);
+    wire::fill(out, 0, all.words as usize, 0);
     refused(27, place as u32 + 1, all.tries, 0, s)
 }

@@ -1,6 +1,6 @@
 use borrow.Author.Rules.{rules}
 use native.Mathlib.Omega.{arith}
-use mathlib.Core.Path.{◌≡◌, sym}
+use mathlib.Core.Path.{◌≡◌, refl, sym}
 use lib.ListN.{length}
 use Rattle.eval_list.proofs.Sides.{aside_ready, second_ready, sides_ready, choice_ends}
 use Rattle.eval_list.proofs.Nodes.{there, done, optional_is, optional_less, optional_ready, many_is, many_ready, some_is, some_ready, choice_less, choice_ready, choice_done}
@@ -15,13 +15,13 @@ pub run_either-run_list-x-requires : goal.run_either-run_list-x-requires
 run_either-run_list-x-requires t c = (omega arith, c.requires.first)
 
 pub run_either-set_aside-kept-requires : goal.run_either-set_aside-kept-requires
-run_either-set_aside-kept-requires t c = aside_ready c.requires c.run_list-x.ensures c.wide-n.ensures
+run_either-set_aside-kept-requires t c = aside_ready c.requires c.run_list-x.ensures refl
 
 pub run_either-run_list-y-requires : goal.run_either-run_list-y-requires
-run_either-run_list-y-requires t c = (omega arith, second_ready c.requires c.run_list-x.ensures c.wide-n.ensures c.set_aside-kept.ensures)
+run_either-run_list-y-requires t c = (omega arith, second_ready c.requires c.run_list-x.ensures refl c.set_aside-kept.ensures)
 
 pub run_either-choose-made-requires : goal.run_either-choose-made-requires
-run_either-choose-made-requires t c = sides_ready c.requires c.run_list-x.ensures c.wide-n.ensures c.set_aside-kept.ensures c.run_list-y.ensures
+run_either-choose-made-requires t c = sides_ready c.requires c.run_list-x.ensures refl c.set_aside-kept.ensures c.run_list-y.ensures
 
 pub run_either-slice_bounds-settle-end : goal.run_either-slice_bounds-settle-end
 run_either-slice_bounds-settle-end t c =
@@ -31,11 +31,11 @@ run_either-slice_bounds-settle-end t c =
 pub run_either-settle-requires : goal.run_either-settle-requires
 run_either-settle-requires t c =
     let long : length c.set_aside-kept.result ≡ 515 = search (rules, c.set_aside-kept.type_inv) in
-    omega (arith, long, (aside_ready c.requires c.run_list-x.ensures c.wide-n.ensures).0)
+    omega (arith, long, (aside_ready c.requires c.run_list-x.ensures refl).0)
 
 pub run_either-returns : goal.run_either-returns
 run_either-returns t c =
-    choice_ends c.requires c.run_list-x.ensures c.wide-n.ensures c.set_aside-kept.ensures c.run_list-y.ensures c.choose-made.ensures c.wide.ensures
+    choice_ends c.requires c.run_list-x.ensures refl c.set_aside-kept.ensures c.run_list-y.ensures c.choose-made.ensures refl
     c.settle.ensures
 
 -- run_list
@@ -79,13 +79,13 @@ pub run_optional_list-optional-made-requires : goal.run_optional_list-optional-m
 run_optional_list-optional-made-requires t c = given c.requires c.run_list-ran.ensures
 
 pub run_optional_list-shift-requires : goal.run_optional_list-shift-requires
-run_optional_list-shift-requires t c = shift_ready c.requires c.run_list-ran.ensures c.optional-made.ensures c.if-made.true _ c.wide.ensures
+run_optional_list-shift-requires t c = shift_ready c.requires c.run_list-ran.ensures c.optional-made.ensures c.if-made.true _ refl
 
 pub run_optional_list-returns : goal.run_optional_list-returns
 run_optional_list-returns t c =
     elim c.if-made.branch [
       | run_optional_list-then-made w ↦
-          λ u g. present_ends c.requires c.run_list-ran.ensures c.optional-made.ensures u g w.if-made.true _ w.wide.ensures
+          λ u g. present_ends c.requires c.run_list-ran.ensures c.optional-made.ensures u g w.if-made.true _ refl
           _ (w.out-is ∙ w.shift.ensures)
       | run_optional_list-else-made w ↦
           λ u g. absent_ends c.requires c.run_list-ran.ensures c.optional-made.ensures u g w.if-made.false _ w.out-is

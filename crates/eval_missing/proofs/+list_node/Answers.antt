@@ -9,10 +9,10 @@ pub node_at-x-requires : goal.node_at-x-requires
 node_at-x-requires t c = there c.requires
 
 pub put_entry-requires : goal.put_entry-requires
-put_entry-requires t c = leaf_room c.requires c.node_at-x.ensures c.if-kind-le3.true
+put_entry-requires t c = leaf_room c.requires c.node_at-x.ensures (omega arith)
 
-pub returns-then-kind-le3 : goal.returns-then-kind-le3
-returns-then-kind-le3 t c = leaf_lists c.requires c.node_at-x.ensures c.if-kind-le3.true c.put_entry.ensures
+pub returns-in-0-to-3 : goal.returns-in-0-to-3
+returns-in-0-to-3 t c = leaf_lists c.requires c.node_at-x.ensures (omega arith) c.put_entry.ensures
 
 pub list_node-requires : goal.list_node-requires
 list_node-requires t c = (omega (arith, under_less c.requires c.node_at-x.ensures c.in-8.is), under_ready c.requires c.node_at-x.ensures c.in-8.is)
@@ -59,4 +59,4 @@ returns-after-ends_missing t c =
     choice_lists c.requires c.node_at-x.ensures c.in-9.is begun c.list_node-in-9.ensures
 
 pub returns-in_default : goal.returns-in_default
-returns-in_default t c = other_lists c.requires c.node_at-x.ensures c.if-kind-le3.false (λ e. omega arith) (λ e. omega arith)
+returns-in_default t c = other_lists c.requires c.node_at-x.ensures (omega arith) (λ e. omega arith) (λ e. omega arith)

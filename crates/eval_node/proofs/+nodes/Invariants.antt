@@ -1,7 +1,7 @@
 use Prim.Native.Nat.{max, ◌+◌, ◌*◌}
 use mathlib.Core.Bool.{true}
 use mathlib.Core.Path.{◌≡◌}
-use Rattle.eval_node.proofs.Turns.{Turning}
+use Rattle.eval_node.proofs.Turns.{Turning, left_of}
 use Rattle.eval_node.proofs.+nodes.Given as goal
 
 -- The members' measures: the node, times five, and a rank among the functions of one node.
@@ -50,4 +50,4 @@ invariant-run_repeat-loop-out l =
     × (l.keeps ≡ true → l.before ≡ l.marks)
 
 abbrev pub decreases-run_repeat-loop-out : goal.decreases-run_repeat-loop-out
-decreases-run_repeat-loop-out l = l.last
+decreases-run_repeat-loop-out l = left_of l.last

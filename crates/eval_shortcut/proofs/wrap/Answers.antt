@@ -12,8 +12,8 @@ node_at-x-requires c = (form_good_lem _ _ c.requires.tree c.requires.node, node_
 pub returns-then-x-eq11 : goal.returns-then-x-eq11
 returns-then-x-eq11 c = guard_hands _ _ _ _ _ c.requires c.if-leaf-child.false _ c.node_at-x.ensures c.if-x-eq11.true _ c.guard.ensures
 
-pub optional_unchanged-made-requires : goal.optional_unchanged-made-requires
-optional_unchanged-made-requires c = c.requires.short c.if-leaf-child.false
+pub optional_unchanged-requires : goal.optional_unchanged-requires
+optional_unchanged-requires c = c.requires.short c.if-leaf-child.false
 
 pub returns : goal.returns
-returns c = optional_hands _ _ _ _ _ c.requires c.if-leaf-child.false _ c.node_at-x.ensures c.if-x-eq11.false _ c.optional_unchanged-made.ensures.by_index
+returns c = optional_hands _ _ _ _ _ c.requires c.if-leaf-child.false _ c.node_at-x.ensures c.if-x-eq11.false _ c.optional_unchanged.ensures.by_index
