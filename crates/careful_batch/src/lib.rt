@@ -86,12 +86,9 @@ fn look_sheets(batch: &[u8], records: &mut [u32], items: &[u32], answers: &mut [
     requires { HasBatch batch.now records.old items.now answers.old }
     ensures { LookedBatch batch.now records.old records.new items.now answers.old answers.new }
 {
-    let n = batch_check::sheet_count(batch);
-    let mut k = 0;
-    while k < n {
+    for k in 0..batch_check::sheet_count(batch) {
         let sheet = batch_check::sheet_at(batch, k);
         look_part(sheet, k, records, items, answers);
-        k += 1;
     }
 }
 
