@@ -19,7 +19,7 @@ use wire::wide;
 const ITEMS: usize = 256;
 
 // How many items a part holds. A record does not say so: a kind of 0 ends them. By halves, since a loop over all of them would cost a
-// third of what looking at them does.
+// third of what looking at them does; and by hand, since partition_point wants a slice of records, and this is one of words.
 fn item_count(items: &[u32]) -> usize
     requires { KindsFirst items.now }
     ensures { CountsItems items.now result }
