@@ -9,4 +9,3 @@ returns-then-batch-lt-COUNT_BYTES c = search batch_short
 
 pub table_good-requires : goal.table_good-requires
 table_good-requires c = (inr refl, omega arith)
-
