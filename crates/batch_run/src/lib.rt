@@ -86,15 +86,12 @@ fn run_sheets(
     requires { FormKnown form.now codes.now flags.now arguments.now × BatchFits batch.now records.old items.old answers.old list.old }
     ensures { SheetsRan form.now batch.now (sheet_count batch.now) records.old records.new items.old items.new answers.old answers.new list.old list.new }
 {
-    let n = batch_check::sheet_count(batch);
-    let mut k = 0;
-    while k < n {
+    for k in 0..batch_check::sheet_count(batch) {
         let sheet = batch_check::sheet_at(batch, k);
         let r = run_part(
             form, codes, flags, arguments, sheet, k, items, answers, list,
         );
         batch_parts::write_record(records, k, r);
-        k += 1;
     }
 }
 
@@ -110,12 +107,9 @@ fn refuse_sheets(
     requires { BatchFits batch.now records.old items.old answers.old list.old }
     ensures { (form : List ℕ) → fault ≡ check_code (check_form form) → (fault.number ≡ 0 → ⊥) → SheetsRan form batch.now (sheet_count batch.now) records.old records.new items.old items.new answers.old answers.new list.old list.new }
 {
-    let n = batch_check::sheet_count(batch);
-    let mut k = 0;
-    while k < n {
+    for k in 0..batch_check::sheet_count(batch) {
         let r = refuse_part(fault, k, items, answers, list);
         batch_parts::write_record(records, k, r);
-        k += 1;
     }
 }
 

@@ -19,7 +19,7 @@ use wire::wide;
 const ITEMS: usize = 256;
 
 // How many items a part holds. A record does not say so: a kind of 0 ends them. By halves, since a loop over all of them would cost a
-// third of what looking at them does.
+// third of what looking at them does; and by hand, since partition_point wants a slice of records, and this is one of words.
 fn item_count(items: &[u32]) -> usize
     requires { KindsFirst items.now }
     ensures { CountsItems items.now result }
@@ -86,12 +86,9 @@ fn look_sheets(batch: &[u8], records: &mut [u32], items: &[u32], answers: &mut [
     requires { HasBatch batch.now records.old items.now answers.old }
     ensures { LookedBatch batch.now records.old records.new items.now answers.old answers.new }
 {
-    let n = batch_check::sheet_count(batch);
-    let mut k = 0;
-    while k < n {
+    for k in 0..batch_check::sheet_count(batch) {
         let sheet = batch_check::sheet_at(batch, k);
         look_part(sheet, k, records, items, answers);
-        k += 1;
     }
 }
 

@@ -8,7 +8,6 @@ ghost use Rattle.why.specs.Explained.{left_in, unexplained, why_answer};
 
 use rules::State;
 use state_marks::is_present;
-use wire::wide;
 
 // A run that has a place left over, and the refusal of a place that is not one.
 const LEFT_OVER: u32 = 27;
@@ -26,16 +25,11 @@ pub struct WhyAnswer {
 }
 
 // Refused as the run: 1 to 9, and 14.
+#[tactic(auto, unfolding(rules::specs::Why::refused_before))]
 fn refused_before(number: u32) -> bool
     ensures { result ≡ refused_before number }
 {
-    if number == 14 {
-        return true;
-    }
-    if number == 0 {
-        return false;
-    }
-    number <= 9
+    matches!(number, 1..=9 | 14)
 }
 
 fn refused(number: u32, place: u32) -> WhyAnswer
@@ -50,19 +44,14 @@ fn refused(number: u32, place: u32) -> WhyAnswer
 }
 
 // Whether a run that ended under this number left the place over.
+#[tactic(auto, unfolding(crate::specs::Explained::left_in))]
 fn is_left(number: u32, s: State, place: usize) -> bool
     ensures { result ≡ left_in number s place }
 {
-    if number != LEFT_OVER {
-        return false;
-    }
-    if wide(s.count) <= place {
-        return false;
-    }
-    if 256 <= place {
-        return false;
-    }
-    is_present(s.marks[place])
+    number == LEFT_OVER
+        && place < s.count as usize
+        && place < s.marks.len()
+        && is_present(s.marks[place])
 }
 
 // A form, a sheet and a place: the run, with what it leaves in the slices, and the reason. 28 where there is no such place, it is used,

@@ -80,14 +80,14 @@ module _ (b codes s words : List ℕ) (i n : ℕ) (g : CanName b codes s words i
         let trees = trees_made (read_form b) [] (read_form b).nodes g.result.trees (accepted_passed b g.result g.accepts).trees in
         trees_named b g.result.trees 0 (read_form b).nodes trees n (node_of x) at
 
-    either : 1 ≤ x.kind → x.kind ≤ 2 → (x.kind ≡ 1) ⊎ (x.kind ≡ 2)
+    either : 1 ≤ x.kind → x.kind < 3 → (x.kind ≡ 1) ⊎ (x.kind ≡ 2)
     either l h = go (eqb x.kind 1) refl
       where
         go : (t : Bool) → eqb x.kind 1 ≡ t → (x.kind ≡ 1) ⊎ (x.kind ≡ 2)
         go true e = inl (eqb-true x.kind 1 e)
         go false e = inr (let d = eqb-false x.kind 1 e in omega arith)
 
-    pub names_there : 1 ≤ x.kind → x.kind ≤ 2 → HasNames b codes x.p x.q
+    pub names_there : 1 ≤ x.kind → x.kind < 3 → HasNames b codes x.p x.q
     names_there l h = let w = either l h in record { checked = accepted_names b g.result g.accepts; coded = g.coded; inside = (named_here w).inside }
 
     -- what is told of this node holds of the one that stands there
@@ -102,10 +102,10 @@ module _ (b codes s words : List ℕ) (i n : ℕ) (g : CanName b codes s words i
     pub below_names : (area : List ℕ) → x.kind < 1 → NodeNames b area words i n false
     below_names area h = nameless area (λ e. omega arith) (λ e. omega arith)
 
-    pub above_names : (area : List ℕ) → 2 < x.kind → NodeNames b area words i n false
+    pub above_names : (area : List ℕ) → 3 ≤ x.kind → NodeNames b area words i n false
     above_names area h = nameless area (λ e. omega arith) (λ e. omega arith)
 
-    pub node_names : (area : List ℕ) → 1 ≤ x.kind → x.kind ≤ 2 → (r : Bool)
+    pub node_names : (area : List ℕ) → 1 ≤ x.kind → x.kind < 3 → (r : Bool)
         → ((y : Item) → item_from area (record_at words i) ≡ some y → r ≡ matches_arg (named_at b x.p x.q) false y)
         → NodeNames b area words i n r
     unfolding names_item contains

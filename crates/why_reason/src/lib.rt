@@ -53,10 +53,7 @@ fn for_value(marks: &[u16], i: usize) -> Reason
     requires { i < length marks.now }
     ensures { ValueTold marks.now i result }
 {
-    if i == 0 {
-        return tell(NONE_OF_THESE, 0);
-    }
-    if is_parsed(marks[i - 1]) {
+    if i > 0 && is_parsed(marks[i - 1]) {
         return tell(KEY_USED, 0);
     }
     tell(NONE_OF_THESE, 0)

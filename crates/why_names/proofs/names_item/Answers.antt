@@ -6,14 +6,14 @@ use Rattle.why_names.proofs.names_item.Goals as goal
 pub node_at-x-requires : goal.node_at-x-requires
 node_at-x-requires c = (search form_long, search rules)
 
-pub returns-then-x-lt-FLAG : goal.returns-then-x-lt-FLAG
-returns-then-x-lt-FLAG c = search below_names
-
-pub returns-then-x-gt-ARGUMENT : goal.returns-then-x-gt-ARGUMENT
-returns-then-x-gt-ARGUMENT c = search above_names
-
 pub matches-requires : goal.matches-requires
 matches-requires c = (search names_there, search rules)
 
-pub returns : goal.returns
-returns c = search (node_names, c.matches.ensures)
+pub returns-in-1 : goal.returns-in-1
+returns-in-1 c = search (node_names, c.matches.ensures)
+
+pub returns-in_default : goal.returns-in_default
+returns-in_default c = search below_names
+
+pub returns-in_default-2 : goal.returns-in_default-2
+returns-in_default-2 c = search above_names
