@@ -42,20 +42,13 @@ pub fn bytes(area: &[u8], x: Name) -> &[u8]
 pub fn character(s: &[u8]) -> u32
     ensures { result ≡ place_code (one_character s.now) }
 {
-    if s.len() == 1 {
-        let b = s[0];
-        if b < 0x80 {
-            return b as u32 + 1;
-        }
+    if s.len() == 1 && s[0] < 0x80 {
+        return u32::from(s[0]) + 1;
     }
-    let d = utf8::decode_at(s, 0);
-    let utf8::Decoded::Char(value, size) = d else {
-        return 0;
-    };
-    if size == s.len() {
-        return value + 1;
+    match utf8::decode_at(s, 0) {
+        Some(c) if c.size == s.len() => c.value + 1,
+        _ => 0,
     }
-    0
 }
 
 fn type_good(kind: u32, s: &[u8]) -> bool

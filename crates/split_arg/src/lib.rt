@@ -12,7 +12,7 @@ ghost use Rattle.split_arg.specs.Clusters.{letters, LooksUp, Disambiguates};
 ghost use Rattle.split_arg.specs.Order.{Ascending, Searchable, CanLookUp, Parted};
 ghost use Rattle.split_arg.specs.Items.{bit_of, part_of, record_of, record_at, item_of};
 
-use utf8::Decoded;
+use utf8::Char;
 
 // The most items that a line has, and the words of their records.
 pub const ITEMS: usize = 256;
@@ -173,14 +173,12 @@ fn search(s: &[u32], letter: u32) -> bool
 }
 
 // The letter at a place. Most letters are ASCII, and are not decoded.
-pub fn letter_at(name: &[u8], at: usize) -> Decoded
+pub fn letter_at(name: &[u8], at: usize) -> Option<Char>
     ensures { result ≡ decode_at name.now at }
 {
-    if at < name.len() {
-        let b = name[at];
-        if b < 0x80 {
-            return Decoded::Char(b as u32, 1);
-        }
+    if at < name.len() && name[at] < 0x80 {
+        let value = u32::from(name[at]);
+        return Some(Char { value, size: 1 });
     }
     utf8::decode_at(name, at)
 }
@@ -193,11 +191,11 @@ fn look_up(name: &[u8], flags: &[u32], arguments: &[u32]) -> Outcome
     let mut at = 0;
     let mut before = 0;
     let outcome = loop {
-        let Decoded::Char(letter, size) = letter_at(name, at) else {
+        let Some(letter) = letter_at(name, at) else {
             break Outcome::AllFlags { before };
         };
-        let flag = scan(flags, letter);
-        let argument = scan(arguments, letter);
+        let flag = scan(flags, letter.value);
+        let argument = scan(arguments, letter.value);
         if flag {
             if argument {
                 break Outcome::Ambiguous { before };
@@ -206,13 +204,13 @@ fn look_up(name: &[u8], flags: &[u32], arguments: &[u32]) -> Outcome
             if argument {
                 break Outcome::Argument {
                     before,
-                    letter,
-                    rest: at + size,
+                    letter: letter.value,
+                    rest: at + letter.size,
                 };
             }
             break Outcome::Withdrawn { place: at };
         }
-        at += size;
+        at += letter.size;
         before += 1;
     };
     outcome
@@ -237,11 +235,11 @@ fn look_up_long(name: &[u8], flags: &[u32], arguments: &[u32]) -> Outcome
     let mut at = 0;
     let mut before = 0;
     let outcome = loop {
-        let Decoded::Char(letter, size) = letter_at(name, at) else {
+        let Some(letter) = letter_at(name, at) else {
             break Outcome::AllFlags { before };
         };
-        let flag = contains(flags, letter);
-        let argument = contains(arguments, letter);
+        let flag = contains(flags, letter.value);
+        let argument = contains(arguments, letter.value);
         if flag {
             if argument {
                 break Outcome::Ambiguous { before };
@@ -250,13 +248,13 @@ fn look_up_long(name: &[u8], flags: &[u32], arguments: &[u32]) -> Outcome
             if argument {
                 break Outcome::Argument {
                     before,
-                    letter,
-                    rest: at + size,
+                    letter: letter.value,
+                    rest: at + letter.size,
                 };
             }
             break Outcome::Withdrawn { place: at };
         }
-        at += size;
+        at += letter.size;
         before += 1;
     };
     outcome
@@ -266,11 +264,13 @@ pub fn disambiguate_short(name: &[u8], flags: &[u32], arguments: &[u32]) -> Outc
     requires { (well_formed name.now ≡ true) × CanLookUp flags.now arguments.now }
     ensures { Disambiguates (letters flags.now arguments.now) name.now result }
 {
-    let Decoded::Char(letter, size) = utf8::decode_at(name, 0) else {
+    let Some(first) = utf8::decode_at(name, 0) else {
         return Outcome::AllFlags { before: 0 };
     };
-    if size == name.len() {
-        return Outcome::Single { letter };
+    if first.size == name.len() {
+        return Outcome::Single {
+            letter: first.value,
+        };
     }
     if flags.len() <= SCANNED {
         if arguments.len() <= SCANNED {

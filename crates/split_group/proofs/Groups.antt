@@ -11,8 +11,8 @@ use lib.Seq.{length-take-le, take_all, drop-drop}
 use borrow.Author.Tests.{eq-eqb, ne_eqb}
 use Rattle.utf8.specs.Utf8.{decode, decode_at, well_formed}
 use Rattle.utf8.specs.Laws.{well_formed_bad}
-use Rattle.utf8.specs.declared.Decoded.{Decoded}
-use Rattle.utf8.specs.declared.Decoded.TheVariants.{Char, Bad}
+use Rattle.std.specs.Prelude.{Option as CodeOption, Some, None}
+use Rattle.utf8.specs.declared.Char.{Char}
 use Rattle.rules.specs.Base.{same, concat_map}
 use Rattle.rules.specs.Outcome.{Outcome, ok, refused, fault, ◌>>=◌, at}
 use Rattle.rules.specs.Accept.{Letters}
@@ -151,18 +151,18 @@ module _ (os : List ℕ) (begin at : ℕ) (o p : List ℕ) (g : Group) (whole : 
 
   -- ---- a letter with a value
   pub a_value :
-      (body : ℕ) (value : Part) (c k : ℕ)
+      (body : ℕ) (value : Part) (c : Char)
       → value ≡ part_of (begin + body) (length os - body)
       → body ≤ length os
-      → decode_at (take 1 (drop 1 os)) 0 ≡ Char c k
-      → Puts o at p g 2 0 (record_of (Short c true whole) ++ record_of (ArgWord value))
+      → decode_at (take 1 (drop 1 os)) 0 ≡ Some c
+      → Puts o at p g 2 0 (record_of (Short c.value true whole) ++ record_of (ArgWord value))
       → (l : Letters)
       → Makes os begin at o p g (short_group l os (take 1 (drop 1 os)) (some (drop body os)))
   unfolding short_group decode_at
-  a_value body value c k f h d z l =
-      makes_two os begin at o p g _ (rules.Short c true os) (rules.ArgWord (drop body os)) (Short c true whole) (ArgWord value) z
+  a_value body value c f h d z l =
+      makes_two os begin at o p g _ (rules.Short c.value true os) (rules.ArgWord (drop body os)) (Short c.value true whole) (ArgWord value) z
       (rw (d, short_group))
-      (short_record begin (begin + length os) os whole text c true)
+      (short_record begin (begin + length os) os whole text c.value true)
       (arg_word_record begin (begin + length os) (drop body os) value (text_from os begin body value h f))
 
   -- ---- a long name
@@ -264,7 +264,7 @@ module _ (os : List ℕ) (begin at : ℕ) (q : Parts) (t : TellsParts os q (spli
 
 -- a letter that is UTF-8 is there
 pub letter_known :
-    {A : Type 0} (os : List ℕ) (begin body at : ℕ) → ValueIn os begin body at → decode_at (take 1 (drop 1 os)) 0 ≡ Bad → A
+    {A : Type 0} (os : List ℕ) (begin body at : ℕ) → ValueIn os begin body at → decode_at (take 1 (drop 1 os)) 0 ≡ None → A
 letter_known os begin body at v e =
     let two = v.two in
     let l : length (take 1 (drop 1 os)) ≡ 1 = length-take-le 1 (drop 1 os) (omega (arith, length-drop 1 os)) in
@@ -291,16 +291,16 @@ letters_few (suc skip) k (b ∷ s) ls e = omega (arith, letters_few skip (suc k)
 letters_few zero k (b ∷ s) ls e = go (decode (b ∷ s)) refl (λ m xs. letters_few m (suc k) s xs)
   where
     go :
-        (d : Decoded)
+        (d : CodeOption Char)
         → decode (b ∷ s) ≡ d
         → ((m : ℕ) (xs : List Letter) → cluster_from m (suc k) s ≡ ok xs → length xs ≤ length s)
         → length ls ≤ suc (length s)
-    go Bad f r = absurd (let z = rw (f, cluster_from) at e in let y : ◌≡◌ {A = ℕ} 0 1 = cc in omega arith)
-    go (Char c n) f r =
+    go None f r = absurd (let z = rw (f, cluster_from) at e in let y : ◌≡◌ {A = ℕ} 0 1 = cc in omega arith)
+    go (Some c) f r =
         let x = bind_ok _ _ ls (rw (f, cluster_from) at e) in
         let y = bind_ok _ _ ls x.2 in
         let more = ap length (ok_same y.2) in
-        omega (arith, r (n - 1) y.0 y.1)
+        omega (arith, r (c.size - 1) y.0 y.1)
 
 module _
     (fl ar os : List ℕ)

@@ -13,7 +13,6 @@ ghost use Rattle.split_arg.specs.Order.{CanLookUp};
 ghost use Rattle.split_group.specs.Groups.{first_letters, flag_words, ArgumentFits, ClusterIn, ValueIn, Flags, Puts, Makes, MakesValue};
 
 use split_arg::{ITEMS, Item, Outcome, Part, Parts};
-use utf8::Decoded;
 
 // What one argument gave: how many items, which of them is the Word of an ambiguous letter (plus 1, or 0 for none), and
 // whether it is the first `--`. More items than there is room for are not written.
@@ -41,15 +40,15 @@ fn write_flags(name: &[u8], count: usize, whole: Part, items: &mut [u32], at: us
     let mut place = 0;
     let mut k = 0;
     while k < count {
-        let Decoded::Char(letter, size) = split_arg::letter_at(name, place) else {
+        let Some(letter) = split_arg::letter_at(name, place) else {
             return;
         };
-        split_arg::store_item(items, at + k, Item::Short(letter, false, text));
+        split_arg::store_item(items, at + k, Item::Short(letter.value, false, text));
         text = Part {
             offset: 0,
             length: 0,
         };
-        place += size;
+        place += letter.size;
         k += 1;
     }
 }
@@ -241,13 +240,13 @@ fn split_value(os: &[u8], begin: usize, body: usize, items: &mut [u32], at: usiz
     let len = os.len();
     let whole = text(begin, len, 0);
     let value = text(begin, len, body);
-    let Decoded::Char(letter, _) = utf8::decode_at(&os[1..2], 0) else {
+    let Some(letter) = utf8::decode_at(&os[1..2], 0) else {
         return put_one(items, at, Item::Word(whole));
     };
     put_two(
         items,
         at,
-        Item::Short(letter, true, whole),
+        Item::Short(letter.value, true, whole),
         Item::ArgWord(value),
     )
 }
