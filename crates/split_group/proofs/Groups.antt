@@ -6,6 +6,7 @@ use mathlib.Core.Option.{some, none}
 use Prim.Native.Nat.{ℕ, zero, suc, ◌+◌, ◌-◌, ◌^◌, ◌≤◌, ◌<◌, zero-le}
 use native.Mathlib.Omega.{arith}
 use lib.Dec.{eqb}
+use lib.Pointwise.{pointwise}
 use lib.ListN.{length, get_or, take, drop, length-drop, length-append, length-map}
 use lib.Seq.{length-take-le, take_all, drop-drop}
 use borrow.Author.Tests.{eq-eqb, ne_eqb}
@@ -84,41 +85,16 @@ module _ (os : List ℕ) (begin at : ℕ) (o p : List ℕ) (r : Group) (x : Outc
       (sym (ap₂ (λ (v w : List ℕ). v ++ w) q (append-nil _ ∙ s)))
 
 -- ---- `--`
-pub not_two : (os : List ℕ) → (length os ≡ 2 → ⊥) → false ≡ same os (dash ∷ dash ∷ [])
-unfolding same dash
-not_two [] h = refl
-not_two (a ∷ []) h = go (eqb a 45)
-  where
-    go : (t : Bool) → false ≡ (t && false)
-    go true = refl
-    go false = refl
-not_two (a ∷ b ∷ []) h = absurd (h refl)
-not_two (a ∷ b ∷ c ∷ os) h = go (eqb a 45) (eqb b 45)
-  where
-    go : (t u : Bool) → false ≡ (t && (u && false))
-    go true true = refl
-    go true false = refl
-    go false u = refl
-
-pub not_dash : (os : List ℕ) → length os ≡ 2 → (get_or os 0 0 ≡ 45 → ⊥) → false ≡ same os (dash ∷ dash ∷ [])
-unfolding same dash
-not_dash [] h e = absurd (omega arith)
-not_dash (a ∷ os) h e = rw (ne_eqb a 45 e)
-
-pub second_dash : (os : List ℕ) → length os ≡ 2 → get_or os 0 0 ≡ 45 → eqb (get_or os 1 0) 45 ≡ same os (dash ∷ dash ∷ [])
-unfolding same dash
-second_dash [] h e = absurd (omega arith)
-second_dash (a ∷ []) h e = absurd (omega arith)
-second_dash (a ∷ b ∷ []) h e = rw (eq-eqb a 45 e) (go (eqb b 45))
-  where
-    go : (t : Bool) → t ≡ (t && true)
-    go true = refl
-    go false = refl
-second_dash (a ∷ b ∷ c ∷ os) h e = absurd (omega arith)
+pub pointwise_same : (xs ys : List ℕ) → pointwise eqb xs ys ≡ same xs ys
+unfolding same
+pointwise_same [] [] = refl
+pointwise_same [] (y ∷ ys) = refl
+pointwise_same (x ∷ xs) [] = refl
+pointwise_same (x ∷ xs) (y ∷ ys) = ap (λ (t : Bool). eqb x y && t) (pointwise_same xs ys)
 
 -- what the code found is what splitting gives
-found : (os : List ℕ) (q : Parts) → TellsParts os q (split_os_argument os) → (u : Parts) → q ≡ u → split_os_argument os ≡ ok (parts_of os u)
-found os q t u f = sym t.same ∙ ap (λ (v : Parts). ok (parts_of os v)) f
+found : (os : List ℕ) (q : CodeOption Parts) → TellsParts os q (split_os_argument os) → (u : CodeOption Parts) → q ≡ u → split_os_argument os ≡ ok (parts_of os u)
+found os q t u f = sym t.same ∙ ap (λ (v : CodeOption Parts). ok (parts_of os v)) f
 
 module _ (os : List ℕ) (begin at : ℕ) (o p : List ℕ) (g : Group) (whole : Part) (e : whole ≡ part_of (begin + 0) (length os - 0)) where
   text : TextIs (begin + length os) os whole
@@ -166,82 +142,82 @@ module _ (os : List ℕ) (begin at : ℕ) (o p : List ℕ) (g : Group) (whole : 
       (arg_word_record begin (begin + length os) (drop body os) value (text_from os begin body value h f))
 
   -- ---- a long name
-  module _ (l : Letters) (q : Parts) (t : TellsParts os q (split_os_argument os)) where
+  module _ (l : Letters) (q : CodeOption Parts) (t : TellsParts os q (split_os_argument os)) where
     pub a_long :
         (n : ℕ) (name : Part)
-        → q ≡ P.Long n
+        → q ≡ Some (P.Long n)
         → name ≡ part_of (begin + 2) (n + 2 - 2)
         → Puts o at p g 1 0 (record_of (Long name false whole))
         → Makes os begin at o p g (split_argument l os)
     unfolding split_argument parts_group long_group ◌>>=◌
     a_long n name f m z =
-        let s : Sized os (P.Long n) = subst (Sized os) f t.sized in
+        let s : Sized os (Some (P.Long n)) = subst (Sized os) f t.sized in
         makes_one os begin at o p g (split_argument l os) (rules.Long (take n (drop 2 os)) false os) (Long name false whole) z
-        (rw (found os q t (P.Long n) f, split_argument))
+        (rw (found os q t (Some (P.Long n)) f, split_argument))
         (long_record begin (begin + length os) os whole text (take n (drop 2 os)) name false (name_from os begin n name (omega (arith, s.1)) m))
 
     pub a_long_value :
         (n body : ℕ) (name value : Part)
-        → q ≡ P.LongBody n body
+        → q ≡ Some (P.LongBody n body)
         → name ≡ part_of (begin + 2) (n + 2 - 2)
         → value ≡ part_of (begin + body) (length os - body)
         → Puts o at p g 2 0 (record_of (Long name true whole) ++ record_of (ArgWord value))
         → Makes os begin at o p g (split_argument l os)
     unfolding split_argument parts_group long_group ◌>>=◌
     a_long_value n body name value f m v z =
-        let s : Sized os (P.LongBody n body) = subst (Sized os) f t.sized in
+        let s : Sized os (Some (P.LongBody n body)) = subst (Sized os) f t.sized in
         makes_two os begin at o p g (split_argument l os)
         (rules.Long (take n (drop 2 os)) true os) (rules.ArgWord (drop body os)) (Long name true whole) (ArgWord value) z
-        (rw (found os q t (P.LongBody n body) f, split_argument))
+        (rw (found os q t (Some (P.LongBody n body)) f, split_argument))
         (long_record begin (begin + length os) os whole text (take n (drop 2 os)) name true (name_from os begin n name (omega (arith, s.0, s.1)) m))
         (arg_word_record begin (begin + length os) (drop body os) value (text_from os begin body value s.1 v))
 
 -- ---- the other kinds of argument, from the functions that split them
-module _ (os : List ℕ) (begin at : ℕ) (o p : List ℕ) (g : Group) (l : Letters) (q : Parts) (t : TellsParts os q (split_os_argument os)) where
-  pub no_name : q ≡ P.None → Makes os begin at o p g (ok (word_group os)) → Makes os begin at o p g (split_argument l os)
+module _ (os : List ℕ) (begin at : ℕ) (o p : List ℕ) (g : Group) (l : Letters) (q : CodeOption Parts) (t : TellsParts os q (split_os_argument os)) where
+  pub no_name : q ≡ None → Makes os begin at o p g (ok (word_group os)) → Makes os begin at o p g (split_argument l os)
   unfolding split_argument ◌>>=◌
-  no_name f z = makes_same os begin at o p g _ _ z (rw (found os q t P.None f, split_argument))
+  no_name f z = makes_same os begin at o p g _ _ z (rw (found os q t None f, split_argument))
 
   pub short_name_lem :
       (n : ℕ)
-      → q ≡ P.Short n
+      → q ≡ Some (P.Short n)
       → Makes os begin at o p g (short_group l os (drop 1 os) none)
       → Makes os begin at o p g (split_argument l os)
   unfolding split_argument parts_group ◌>>=◌
   short_name_lem n f z =
-      let s : Sized os (P.Short n) = subst (Sized os) f t.sized in
+      let s : Sized os (Some (P.Short n)) = subst (Sized os) f t.sized in
       let all : take n (drop 1 os) ≡ drop 1 os = take_all n (drop 1 os) (omega (arith, s.1, length-drop 1 os)) in
-      makes_same os begin at o p g _ _ z (rw (found os q t (P.Short n) f, split_argument, all))
+      makes_same os begin at o p g _ _ z (rw (found os q t (Some (P.Short n)) f, split_argument, all))
 
   pub short_value_name :
       (n body : ℕ)
-      → q ≡ P.ShortBody n body
+      → q ≡ Some (P.ShortBody n body)
       → ((l : Letters) → Makes os begin at o p g (short_group l os (take 1 (drop 1 os)) (some (drop body os))))
       → Makes os begin at o p g (split_argument l os)
   unfolding split_argument parts_group ◌>>=◌
   short_value_name n body f z =
-      let s : Sized os (P.ShortBody n body) = subst (Sized os) f t.sized in
-      makes_same os begin at o p g _ _ (z l) (rw (found os q t (P.ShortBody n body) f, split_argument, s.0))
+      let s : Sized os (Some (P.ShortBody n body)) = subst (Sized os) f t.sized in
+      makes_same os begin at o p g _ _ (z l) (rw (found os q t (Some (P.ShortBody n body)) f, split_argument, s.0))
 
-module _ (os : List ℕ) (begin at : ℕ) (q : Parts) (t : TellsParts os q (split_os_argument os)) (h : ArgumentFits os begin at) where
-  pub cluster_in : (n : ℕ) → q ≡ P.Short n → ClusterIn os begin at
+module _ (os : List ℕ) (begin at : ℕ) (q : CodeOption Parts) (t : TellsParts os q (split_os_argument os)) (h : ArgumentFits os begin at) where
+  pub cluster_in : (n : ℕ) → q ≡ Some (P.Short n) → ClusterIn os begin at
   cluster_in n f =
-      let s : Sized os (P.Short n) = subst (Sized os) f t.sized in
+      let s : Sized os (Some (P.Short n)) = subst (Sized os) f t.sized in
       let all : take n (drop 1 os) ≡ drop 1 os = take_all n (drop 1 os) (omega (arith, s.1, length-drop 1 os)) in
-      let good : well_formed (take n (drop 1 os)) ≡ true = subst (λ (u : Parts). well_formed (name_of os u) ≡ true) f t.good in
+      let good : well_formed (take n (drop 1 os)) ≡ true = subst (λ (u : CodeOption Parts). well_formed (name_of os u) ≡ true) f t.good in
       record { fits = h; some = omega (arith, s.1); good = rw all at good }
 
-  pub value_in : (n body : ℕ) → q ≡ P.ShortBody n body → ValueIn os begin body at
+  pub value_in : (n body : ℕ) → q ≡ Some (P.ShortBody n body) → ValueIn os begin body at
   value_in n body f =
-      let s : Sized os (P.ShortBody n body) = subst (Sized os) f t.sized in
-      let good : well_formed (take n (drop 1 os)) ≡ true = subst (λ (u : Parts). well_formed (name_of os u) ≡ true) f t.good in
+      let s : Sized os (Some (P.ShortBody n body)) = subst (Sized os) f t.sized in
+      let good : well_formed (take n (drop 1 os)) ≡ true = subst (λ (u : CodeOption Parts). well_formed (name_of os u) ≡ true) f t.good in
       record { fits = h; two = omega (arith, s.1, s.2); within = s.2; good = rw s.0 at good }
 
   -- where a long name ends, and where its value begins
   module _ (n : ℕ) where
-    module _ (f : q ≡ P.Long n) where
+    module _ (f : q ≡ Some (P.Long n)) where
       long_end : n + 2 ≤ length os
-      long_end = let s : Sized os (P.Long n) = subst (Sized os) f t.sized in omega (arith, s.1)
+      long_end = let s : Sized os (Some (P.Long n)) = subst (Sized os) f t.sized in omega (arith, s.1)
 
       pub long_fits : n + 2 < 2 ^ 64
       long_fits = omega (arith, long_end, h.small)
@@ -249,9 +225,9 @@ module _ (os : List ℕ) (begin at : ℕ) (q : Parts) (t : TellsParts os q (spli
       pub long_inside : begin + (n + 2) < 2 ^ 32
       long_inside = omega (arith, long_end, h.small)
 
-    module _ (body : ℕ) (f : q ≡ P.LongBody n body) where
+    module _ (body : ℕ) (f : q ≡ Some (P.LongBody n body)) where
       ends : (n + 2 ≤ length os) × (body ≤ length os)
-      ends = let s : Sized os (P.LongBody n body) = subst (Sized os) f t.sized in (omega (arith, s.0, s.1), s.1)
+      ends = let s : Sized os (Some (P.LongBody n body)) = subst (Sized os) f t.sized in (omega (arith, s.0, s.1), s.1)
 
       pub named_fits : n + 2 < 2 ^ 64
       named_fits = omega (arith, ends.0, h.small)

@@ -1,12 +1,12 @@
 // From one argument to its items, which are written once the outcome of the argument and their number are known.
 #![tactic(auto)]
 
-ghost use Rattle.std.specs.Prelude.{◌≡◌, [], ◌∷◌, ◌++◌, ◌+◌, ◌-◌, ◌*◌, ◌^◌, ◌≤◌, ◌<◌, drop};
+ghost use Rattle.std.specs.Prelude.{◌≡◌, false, [], ◌∷◌, ◌++◌, ◌+◌, ◌-◌, ◌*◌, ◌^◌, ◌≤◌, ◌<◌, drop};
 ghost use Rattle.std.proofs.Math.Option.{none};
 ghost use Rattle.std.proofs.lemmas.List.Edits.{sets};
 ghost use Rattle.rules.specs.Base.{same};
 ghost use Rattle.rules.specs.Outcome.{ok};
-ghost use Rattle.rules.specs.Split.{PosWord, plain, dash, word_group, short_group, split_argument};
+ghost use Rattle.rules.specs.Split.{PosWord, plain as plain_group, dash, word_group, short_group, split_argument};
 ghost use Rattle.split_arg.specs.Items.{part_of, record_of};
 ghost use Rattle.split_arg.specs.Clusters.{letters};
 ghost use Rattle.split_arg.specs.Order.{CanLookUp};
@@ -38,8 +38,7 @@ fn write_flags(name: &[u8], count: usize, whole: Part, items: &mut [u32], at: us
 {
     let mut text = whole;
     let mut place = 0;
-    let mut k = 0;
-    while k < count {
+    for k in 0..count {
         let Some(letter) = split_arg::letter_at(name, place) else {
             return;
         };
@@ -49,7 +48,17 @@ fn write_flags(name: &[u8], count: usize, whole: Part, items: &mut [u32], at: us
             length: 0,
         };
         place += letter.size;
-        k += 1;
+    }
+}
+
+// Items of which none stands for an ambiguous letter or is the first `--`.
+fn plain(count: usize) -> Group
+    ensures { result ≡ record { count = count; ambiguous = 0; marker = false } }
+{
+    Group {
+        count,
+        ambiguous: 0,
+        marker: false,
     }
 }
 
@@ -57,11 +66,7 @@ fn put_one(items: &mut [u32], at: usize, item: Item) -> Group
     requires { at ≤ 256 }
     ensures { Puts items.old at items.new result 1 0 (record_of item) }
 {
-    let group = Group {
-        count: 1,
-        ambiguous: 0,
-        marker: false,
-    };
+    let group = plain(1);
     if at == ITEMS {
         return group;
     }
@@ -73,11 +78,7 @@ fn put_two(items: &mut [u32], at: usize, first: Item, second: Item) -> Group
     requires { at ≤ 256 }
     ensures { Puts items.old at items.new result 2 0 (record_of first ++ record_of second) }
 {
-    let group = Group {
-        count: 2,
-        ambiguous: 0,
-        marker: false,
-    };
+    let group = plain(2);
     if 255 <= at {
         return group;
     }
@@ -90,11 +91,7 @@ fn put_flags(name: &[u8], before: usize, whole: Part, items: &mut [u32], at: usi
     requires { Flags name.now before at }
     ensures { Puts items.old at items.new result before 0 (flag_words whole (first_letters name.now before)) }
 {
-    let group = Group {
-        count: before,
-        ambiguous: 0,
-        marker: false,
-    };
+    let group = plain(before);
     if ITEMS - at < before {
         return group;
     }
@@ -141,11 +138,7 @@ fn put_flags_two(
     requires { Flags name.now before at }
     ensures { Puts items.old at items.new result (before + 2) 0 (flag_words whole (first_letters name.now before) ++ (record_of letter ++ record_of rest)) }
 {
-    let group = Group {
-        count: before + 2,
-        ambiguous: 0,
-        marker: false,
-    };
+    let group = plain(before + 2);
     if ITEMS - at <= before + 1 {
         return group;
     }
@@ -197,13 +190,7 @@ fn split_cluster(
 fn is_marker(os: &[u8]) -> bool
     ensures { result ≡ same os.now (dash ∷ dash ∷ []) }
 {
-    if os.len() != 2 {
-        return false;
-    }
-    if os[0] != b'-' {
-        return false;
-    }
-    os[1] == b'-'
+    os == b"--".as_slice()
 }
 
 // What has no name: a Word, or the first `--`.
@@ -226,7 +213,7 @@ fn split_word(os: &[u8], begin: usize, items: &mut [u32], at: usize) -> Group
 // An argument behind the first `--`.
 pub fn split_positional(os: &[u8], begin: usize, items: &mut [u32], at: usize) -> Group
     requires { ArgumentFits os.now begin at }
-    ensures { Makes os.now begin at items.old items.new result (ok (plain (PosWord os.now ∷ []))) }
+    ensures { Makes os.now begin at items.old items.new result (ok (plain_group (PosWord os.now ∷ []))) }
 {
     let whole = text(begin, os.len(), 0);
     put_one(items, at, Item::PosWord(whole))
@@ -264,14 +251,14 @@ pub fn split_argument(
 {
     let len = os.len();
     match split_arg::split_os_argument(os) {
-        Parts::None => split_word(os, begin, items, at),
-        Parts::Short { name: _ } => split_cluster(os, begin, flags, arguments, items, at),
-        Parts::ShortBody { name: _, body } => split_value(os, begin, body, items, at),
-        Parts::Long { name } => {
+        None => split_word(os, begin, items, at),
+        Some(Parts::Short { .. }) => split_cluster(os, begin, flags, arguments, items, at),
+        Some(Parts::ShortBody { body, .. }) => split_value(os, begin, body, items, at),
+        Some(Parts::Long { name }) => {
             let long = text(begin, name + 2, 2);
             put_one(items, at, Item::Long(long, false, text(begin, len, 0)))
         }
-        Parts::LongBody { name, body } => {
+        Some(Parts::LongBody { name, body }) => {
             let long = text(begin, name + 2, 2);
             let value = text(begin, len, body);
             put_two(
