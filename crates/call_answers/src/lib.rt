@@ -6,7 +6,6 @@ ghost use Rattle.utf8.specs.Utf8.{decode_at};
 ghost use Rattle.call_answers.specs.Answers.{coded, yes_no, answer_with, state_with, decoding};
 
 use rules::State;
-use utf8::Decoded;
 
 // The refusals of single calls: a slice, or the list, is too short; no word is left for a positional, a key has no value; there is no such
 // node, name, place or scope; a state, or an item record, breaks its rule.
@@ -133,12 +132,12 @@ pub fn decode(s: &[u8], at: usize) -> Decoding
 {
     let d = utf8::decode_at(s, at);
     match d {
-        Decoded::Char(value, size) => Decoding {
+        Some(c) => Decoding {
             found: true,
-            character: value,
-            size: size as u32,
+            character: c.value,
+            size: c.size as u32,
         },
-        Decoded::Bad => Decoding {
+        None => Decoding {
             found: false,
             character: 0,
             size: 0,

@@ -9,7 +9,6 @@ ghost use Rattle.careful.specs.Looked.{letter_code, as_run, CanLook, LooksAtRun,
 
 use rules::State;
 use run_fields::Reached;
-use why_letter::LetterOption;
 use wire::wide;
 
 // An argument that looks like options is a word.
@@ -28,11 +27,11 @@ pub struct CarefulAnswer {
 }
 
 // The letter plus 1, or 0 for none.
-pub fn letter_code(letter: LetterOption) -> u32
+pub fn letter_code(letter: Option<u32>) -> u32
     requires { SmallLetter letter }
     ensures { result ≡ letter_code letter }
 {
-    let LetterOption::Some(c) = letter else {
+    let Some(c) = letter else {
         return 0;
     };
     c + 1

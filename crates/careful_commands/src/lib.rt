@@ -13,7 +13,6 @@ use form_letters::Counts;
 use rules::State;
 use run_fields::Reached;
 use split_arg::Item;
-use why_letter::LetterOption;
 use wire::wide;
 
 // The command word stands at place 0, and is not looked at.
@@ -35,13 +34,13 @@ pub struct CarefulCommandAnswer {
 }
 
 // The letter of the word at a place. The letters of all forms are gathered again: only a line that is refused pays for it.
-fn word_letter(table: &[u8], sheet: &[u8], items: &[u32], place: usize) -> LetterOption
+fn word_letter(table: &[u8], sheet: &[u8], items: &[u32], place: usize) -> Option<u32>
     requires { MisreadPlace table.now sheet.now items.now place }
     ensures { MisreadTold table.now sheet.now items.now place result }
 {
     let item = split_arg::read_item(items, place);
     let Item::Word(text) = item else {
-        return LetterOption::None;
+        return None;
     };
     let mut flags = command_letters::no_letters();
     let mut arguments = command_letters::no_letters();

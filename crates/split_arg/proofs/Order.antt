@@ -10,6 +10,7 @@ use lib.Dec.{eqb, ltb}
 use lib.ListN.{length, get_or, take, drop, length-take, length-append, length-drop, get_or-append}
 use lib.Seq.{get_or-take, get_or-drop, get_or-append-add}
 use borrow.Author.Tests.{eq-eqb, ne_eqb, eqb-true, eqb-false, ltb-true, ltb-false}
+use Rattle.std.specs.List.{list_any}
 use Rattle.rules.specs.Base.{contains}
 use Rattle.split_arg.specs.Order.{Ascending, Searchable, Parted}
 
@@ -30,7 +31,12 @@ part_searchable n s h = few_searchable (take n s) (omega (arith, length-take n s
 pub ordered_searchable : (s : List ℕ) → Ascending s → Searchable s
 ordered_searchable s a = record { order = λ more. a }
 
--- ---- `contains` by places
+-- ---- `contains`, by the library's search and by places
+pub any_contains : (s : List ℕ) (b : ℕ) → list_any (λ y. eqb y b) s ≡ contains s b
+unfolding contains
+any_contains [] b = refl
+any_contains (x ∷ s) b = ap (λ (t : Bool). eqb x b || t) (any_contains s b)
+
 pub contains_at : (s : List ℕ) (b i : ℕ) → i < length s → get_or s i 0 ≡ b → contains s b ≡ true
 unfolding contains
 contains_at [] b i h e = absurd (omega arith)

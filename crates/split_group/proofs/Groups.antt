@@ -6,13 +6,14 @@ use mathlib.Core.Option.{some, none}
 use Prim.Native.Nat.{ℕ, zero, suc, ◌+◌, ◌-◌, ◌^◌, ◌≤◌, ◌<◌, zero-le}
 use native.Mathlib.Omega.{arith}
 use lib.Dec.{eqb}
+use lib.Pointwise.{pointwise}
 use lib.ListN.{length, get_or, take, drop, length-drop, length-append, length-map}
 use lib.Seq.{length-take-le, take_all, drop-drop}
 use borrow.Author.Tests.{eq-eqb, ne_eqb}
 use Rattle.utf8.specs.Utf8.{decode, decode_at, well_formed}
 use Rattle.utf8.specs.Laws.{well_formed_bad}
-use Rattle.utf8.specs.declared.Decoded.{Decoded}
-use Rattle.utf8.specs.declared.Decoded.TheVariants.{Char, Bad}
+use Rattle.std.specs.Prelude.{Option as CodeOption, Some, None}
+use Rattle.utf8.specs.declared.Char.{Char}
 use Rattle.rules.specs.Base.{same, concat_map}
 use Rattle.rules.specs.Outcome.{Outcome, ok, refused, fault, ◌>>=◌, at}
 use Rattle.rules.specs.Accept.{Letters}
@@ -84,41 +85,16 @@ module _ (os : List ℕ) (begin at : ℕ) (o p : List ℕ) (r : Group) (x : Outc
       (sym (ap₂ (λ (v w : List ℕ). v ++ w) q (append-nil _ ∙ s)))
 
 -- ---- `--`
-pub not_two : (os : List ℕ) → (length os ≡ 2 → ⊥) → false ≡ same os (dash ∷ dash ∷ [])
-unfolding same dash
-not_two [] h = refl
-not_two (a ∷ []) h = go (eqb a 45)
-  where
-    go : (t : Bool) → false ≡ (t && false)
-    go true = refl
-    go false = refl
-not_two (a ∷ b ∷ []) h = absurd (h refl)
-not_two (a ∷ b ∷ c ∷ os) h = go (eqb a 45) (eqb b 45)
-  where
-    go : (t u : Bool) → false ≡ (t && (u && false))
-    go true true = refl
-    go true false = refl
-    go false u = refl
-
-pub not_dash : (os : List ℕ) → length os ≡ 2 → (get_or os 0 0 ≡ 45 → ⊥) → false ≡ same os (dash ∷ dash ∷ [])
-unfolding same dash
-not_dash [] h e = absurd (omega arith)
-not_dash (a ∷ os) h e = rw (ne_eqb a 45 e)
-
-pub second_dash : (os : List ℕ) → length os ≡ 2 → get_or os 0 0 ≡ 45 → eqb (get_or os 1 0) 45 ≡ same os (dash ∷ dash ∷ [])
-unfolding same dash
-second_dash [] h e = absurd (omega arith)
-second_dash (a ∷ []) h e = absurd (omega arith)
-second_dash (a ∷ b ∷ []) h e = rw (eq-eqb a 45 e) (go (eqb b 45))
-  where
-    go : (t : Bool) → t ≡ (t && true)
-    go true = refl
-    go false = refl
-second_dash (a ∷ b ∷ c ∷ os) h e = absurd (omega arith)
+pub pointwise_same : (xs ys : List ℕ) → pointwise eqb xs ys ≡ same xs ys
+unfolding same
+pointwise_same [] [] = refl
+pointwise_same [] (y ∷ ys) = refl
+pointwise_same (x ∷ xs) [] = refl
+pointwise_same (x ∷ xs) (y ∷ ys) = ap (λ (t : Bool). eqb x y && t) (pointwise_same xs ys)
 
 -- what the code found is what splitting gives
-found : (os : List ℕ) (q : Parts) → TellsParts os q (split_os_argument os) → (u : Parts) → q ≡ u → split_os_argument os ≡ ok (parts_of os u)
-found os q t u f = sym t.same ∙ ap (λ (v : Parts). ok (parts_of os v)) f
+found : (os : List ℕ) (q : CodeOption Parts) → TellsParts os q (split_os_argument os) → (u : CodeOption Parts) → q ≡ u → split_os_argument os ≡ ok (parts_of os u)
+found os q t u f = sym t.same ∙ ap (λ (v : CodeOption Parts). ok (parts_of os v)) f
 
 module _ (os : List ℕ) (begin at : ℕ) (o p : List ℕ) (g : Group) (whole : Part) (e : whole ≡ part_of (begin + 0) (length os - 0)) where
   text : TextIs (begin + length os) os whole
@@ -151,97 +127,97 @@ module _ (os : List ℕ) (begin at : ℕ) (o p : List ℕ) (g : Group) (whole : 
 
   -- ---- a letter with a value
   pub a_value :
-      (body : ℕ) (value : Part) (c k : ℕ)
+      (body : ℕ) (value : Part) (c : Char)
       → value ≡ part_of (begin + body) (length os - body)
       → body ≤ length os
-      → decode_at (take 1 (drop 1 os)) 0 ≡ Char c k
-      → Puts o at p g 2 0 (record_of (Short c true whole) ++ record_of (ArgWord value))
+      → decode_at (take 1 (drop 1 os)) 0 ≡ Some c
+      → Puts o at p g 2 0 (record_of (Short c.value true whole) ++ record_of (ArgWord value))
       → (l : Letters)
       → Makes os begin at o p g (short_group l os (take 1 (drop 1 os)) (some (drop body os)))
   unfolding short_group decode_at
-  a_value body value c k f h d z l =
-      makes_two os begin at o p g _ (rules.Short c true os) (rules.ArgWord (drop body os)) (Short c true whole) (ArgWord value) z
+  a_value body value c f h d z l =
+      makes_two os begin at o p g _ (rules.Short c.value true os) (rules.ArgWord (drop body os)) (Short c.value true whole) (ArgWord value) z
       (rw (d, short_group))
-      (short_record begin (begin + length os) os whole text c true)
+      (short_record begin (begin + length os) os whole text c.value true)
       (arg_word_record begin (begin + length os) (drop body os) value (text_from os begin body value h f))
 
   -- ---- a long name
-  module _ (l : Letters) (q : Parts) (t : TellsParts os q (split_os_argument os)) where
+  module _ (l : Letters) (q : CodeOption Parts) (t : TellsParts os q (split_os_argument os)) where
     pub a_long :
         (n : ℕ) (name : Part)
-        → q ≡ P.Long n
+        → q ≡ Some (P.Long n)
         → name ≡ part_of (begin + 2) (n + 2 - 2)
         → Puts o at p g 1 0 (record_of (Long name false whole))
         → Makes os begin at o p g (split_argument l os)
     unfolding split_argument parts_group long_group ◌>>=◌
     a_long n name f m z =
-        let s : Sized os (P.Long n) = subst (Sized os) f t.sized in
+        let s : Sized os (Some (P.Long n)) = subst (Sized os) f t.sized in
         makes_one os begin at o p g (split_argument l os) (rules.Long (take n (drop 2 os)) false os) (Long name false whole) z
-        (rw (found os q t (P.Long n) f, split_argument))
+        (rw (found os q t (Some (P.Long n)) f, split_argument))
         (long_record begin (begin + length os) os whole text (take n (drop 2 os)) name false (name_from os begin n name (omega (arith, s.1)) m))
 
     pub a_long_value :
         (n body : ℕ) (name value : Part)
-        → q ≡ P.LongBody n body
+        → q ≡ Some (P.LongBody n body)
         → name ≡ part_of (begin + 2) (n + 2 - 2)
         → value ≡ part_of (begin + body) (length os - body)
         → Puts o at p g 2 0 (record_of (Long name true whole) ++ record_of (ArgWord value))
         → Makes os begin at o p g (split_argument l os)
     unfolding split_argument parts_group long_group ◌>>=◌
     a_long_value n body name value f m v z =
-        let s : Sized os (P.LongBody n body) = subst (Sized os) f t.sized in
+        let s : Sized os (Some (P.LongBody n body)) = subst (Sized os) f t.sized in
         makes_two os begin at o p g (split_argument l os)
         (rules.Long (take n (drop 2 os)) true os) (rules.ArgWord (drop body os)) (Long name true whole) (ArgWord value) z
-        (rw (found os q t (P.LongBody n body) f, split_argument))
+        (rw (found os q t (Some (P.LongBody n body)) f, split_argument))
         (long_record begin (begin + length os) os whole text (take n (drop 2 os)) name true (name_from os begin n name (omega (arith, s.0, s.1)) m))
         (arg_word_record begin (begin + length os) (drop body os) value (text_from os begin body value s.1 v))
 
 -- ---- the other kinds of argument, from the functions that split them
-module _ (os : List ℕ) (begin at : ℕ) (o p : List ℕ) (g : Group) (l : Letters) (q : Parts) (t : TellsParts os q (split_os_argument os)) where
-  pub no_name : q ≡ P.None → Makes os begin at o p g (ok (word_group os)) → Makes os begin at o p g (split_argument l os)
+module _ (os : List ℕ) (begin at : ℕ) (o p : List ℕ) (g : Group) (l : Letters) (q : CodeOption Parts) (t : TellsParts os q (split_os_argument os)) where
+  pub no_name : q ≡ None → Makes os begin at o p g (ok (word_group os)) → Makes os begin at o p g (split_argument l os)
   unfolding split_argument ◌>>=◌
-  no_name f z = makes_same os begin at o p g _ _ z (rw (found os q t P.None f, split_argument))
+  no_name f z = makes_same os begin at o p g _ _ z (rw (found os q t None f, split_argument))
 
   pub short_name_lem :
       (n : ℕ)
-      → q ≡ P.Short n
+      → q ≡ Some (P.Short n)
       → Makes os begin at o p g (short_group l os (drop 1 os) none)
       → Makes os begin at o p g (split_argument l os)
   unfolding split_argument parts_group ◌>>=◌
   short_name_lem n f z =
-      let s : Sized os (P.Short n) = subst (Sized os) f t.sized in
+      let s : Sized os (Some (P.Short n)) = subst (Sized os) f t.sized in
       let all : take n (drop 1 os) ≡ drop 1 os = take_all n (drop 1 os) (omega (arith, s.1, length-drop 1 os)) in
-      makes_same os begin at o p g _ _ z (rw (found os q t (P.Short n) f, split_argument, all))
+      makes_same os begin at o p g _ _ z (rw (found os q t (Some (P.Short n)) f, split_argument, all))
 
   pub short_value_name :
       (n body : ℕ)
-      → q ≡ P.ShortBody n body
+      → q ≡ Some (P.ShortBody n body)
       → ((l : Letters) → Makes os begin at o p g (short_group l os (take 1 (drop 1 os)) (some (drop body os))))
       → Makes os begin at o p g (split_argument l os)
   unfolding split_argument parts_group ◌>>=◌
   short_value_name n body f z =
-      let s : Sized os (P.ShortBody n body) = subst (Sized os) f t.sized in
-      makes_same os begin at o p g _ _ (z l) (rw (found os q t (P.ShortBody n body) f, split_argument, s.0))
+      let s : Sized os (Some (P.ShortBody n body)) = subst (Sized os) f t.sized in
+      makes_same os begin at o p g _ _ (z l) (rw (found os q t (Some (P.ShortBody n body)) f, split_argument, s.0))
 
-module _ (os : List ℕ) (begin at : ℕ) (q : Parts) (t : TellsParts os q (split_os_argument os)) (h : ArgumentFits os begin at) where
-  pub cluster_in : (n : ℕ) → q ≡ P.Short n → ClusterIn os begin at
+module _ (os : List ℕ) (begin at : ℕ) (q : CodeOption Parts) (t : TellsParts os q (split_os_argument os)) (h : ArgumentFits os begin at) where
+  pub cluster_in : (n : ℕ) → q ≡ Some (P.Short n) → ClusterIn os begin at
   cluster_in n f =
-      let s : Sized os (P.Short n) = subst (Sized os) f t.sized in
+      let s : Sized os (Some (P.Short n)) = subst (Sized os) f t.sized in
       let all : take n (drop 1 os) ≡ drop 1 os = take_all n (drop 1 os) (omega (arith, s.1, length-drop 1 os)) in
-      let good : well_formed (take n (drop 1 os)) ≡ true = subst (λ (u : Parts). well_formed (name_of os u) ≡ true) f t.good in
+      let good : well_formed (take n (drop 1 os)) ≡ true = subst (λ (u : CodeOption Parts). well_formed (name_of os u) ≡ true) f t.good in
       record { fits = h; some = omega (arith, s.1); good = rw all at good }
 
-  pub value_in : (n body : ℕ) → q ≡ P.ShortBody n body → ValueIn os begin body at
+  pub value_in : (n body : ℕ) → q ≡ Some (P.ShortBody n body) → ValueIn os begin body at
   value_in n body f =
-      let s : Sized os (P.ShortBody n body) = subst (Sized os) f t.sized in
-      let good : well_formed (take n (drop 1 os)) ≡ true = subst (λ (u : Parts). well_formed (name_of os u) ≡ true) f t.good in
+      let s : Sized os (Some (P.ShortBody n body)) = subst (Sized os) f t.sized in
+      let good : well_formed (take n (drop 1 os)) ≡ true = subst (λ (u : CodeOption Parts). well_formed (name_of os u) ≡ true) f t.good in
       record { fits = h; two = omega (arith, s.1, s.2); within = s.2; good = rw s.0 at good }
 
   -- where a long name ends, and where its value begins
   module _ (n : ℕ) where
-    module _ (f : q ≡ P.Long n) where
+    module _ (f : q ≡ Some (P.Long n)) where
       long_end : n + 2 ≤ length os
-      long_end = let s : Sized os (P.Long n) = subst (Sized os) f t.sized in omega (arith, s.1)
+      long_end = let s : Sized os (Some (P.Long n)) = subst (Sized os) f t.sized in omega (arith, s.1)
 
       pub long_fits : n + 2 < 2 ^ 64
       long_fits = omega (arith, long_end, h.small)
@@ -249,9 +225,9 @@ module _ (os : List ℕ) (begin at : ℕ) (q : Parts) (t : TellsParts os q (spli
       pub long_inside : begin + (n + 2) < 2 ^ 32
       long_inside = omega (arith, long_end, h.small)
 
-    module _ (body : ℕ) (f : q ≡ P.LongBody n body) where
+    module _ (body : ℕ) (f : q ≡ Some (P.LongBody n body)) where
       ends : (n + 2 ≤ length os) × (body ≤ length os)
-      ends = let s : Sized os (P.LongBody n body) = subst (Sized os) f t.sized in (omega (arith, s.0, s.1), s.1)
+      ends = let s : Sized os (Some (P.LongBody n body)) = subst (Sized os) f t.sized in (omega (arith, s.0, s.1), s.1)
 
       pub named_fits : n + 2 < 2 ^ 64
       named_fits = omega (arith, ends.0, h.small)
@@ -264,7 +240,7 @@ module _ (os : List ℕ) (begin at : ℕ) (q : Parts) (t : TellsParts os q (spli
 
 -- a letter that is UTF-8 is there
 pub letter_known :
-    {A : Type 0} (os : List ℕ) (begin body at : ℕ) → ValueIn os begin body at → decode_at (take 1 (drop 1 os)) 0 ≡ Bad → A
+    {A : Type 0} (os : List ℕ) (begin body at : ℕ) → ValueIn os begin body at → decode_at (take 1 (drop 1 os)) 0 ≡ None → A
 letter_known os begin body at v e =
     let two = v.two in
     let l : length (take 1 (drop 1 os)) ≡ 1 = length-take-le 1 (drop 1 os) (omega (arith, length-drop 1 os)) in
@@ -291,16 +267,16 @@ letters_few (suc skip) k (b ∷ s) ls e = omega (arith, letters_few skip (suc k)
 letters_few zero k (b ∷ s) ls e = go (decode (b ∷ s)) refl (λ m xs. letters_few m (suc k) s xs)
   where
     go :
-        (d : Decoded)
+        (d : CodeOption Char)
         → decode (b ∷ s) ≡ d
         → ((m : ℕ) (xs : List Letter) → cluster_from m (suc k) s ≡ ok xs → length xs ≤ length s)
         → length ls ≤ suc (length s)
-    go Bad f r = absurd (let z = rw (f, cluster_from) at e in let y : ◌≡◌ {A = ℕ} 0 1 = cc in omega arith)
-    go (Char c n) f r =
+    go None f r = absurd (let z = rw (f, cluster_from) at e in let y : ◌≡◌ {A = ℕ} 0 1 = cc in omega arith)
+    go (Some c) f r =
         let x = bind_ok _ _ ls (rw (f, cluster_from) at e) in
         let y = bind_ok _ _ ls x.2 in
         let more = ap length (ok_same y.2) in
-        omega (arith, r (n - 1) y.0 y.1)
+        omega (arith, r (c.size - 1) y.0 y.1)
 
 module _
     (fl ar os : List ℕ)

@@ -1,19 +1,18 @@
 // From one argument to its items, which are written once the outcome of the argument and their number are known.
 #![tactic(auto)]
 
-ghost use Rattle.std.specs.Prelude.{◌≡◌, [], ◌∷◌, ◌++◌, ◌+◌, ◌-◌, ◌*◌, ◌^◌, ◌≤◌, ◌<◌, drop};
+ghost use Rattle.std.specs.Prelude.{◌≡◌, false, [], ◌∷◌, ◌++◌, ◌+◌, ◌-◌, ◌*◌, ◌^◌, ◌≤◌, ◌<◌, drop};
 ghost use Rattle.std.proofs.Math.Option.{none};
 ghost use Rattle.std.proofs.lemmas.List.Edits.{sets};
 ghost use Rattle.rules.specs.Base.{same};
 ghost use Rattle.rules.specs.Outcome.{ok};
-ghost use Rattle.rules.specs.Split.{PosWord, plain, dash, word_group, short_group, split_argument};
+ghost use Rattle.rules.specs.Split.{PosWord, plain as plain_group, dash, word_group, short_group, split_argument};
 ghost use Rattle.split_arg.specs.Items.{part_of, record_of};
 ghost use Rattle.split_arg.specs.Clusters.{letters};
 ghost use Rattle.split_arg.specs.Order.{CanLookUp};
 ghost use Rattle.split_group.specs.Groups.{first_letters, flag_words, ArgumentFits, ClusterIn, ValueIn, Flags, Puts, Makes, MakesValue};
 
 use split_arg::{ITEMS, Item, Outcome, Part, Parts};
-use utf8::Decoded;
 
 // What one argument gave: how many items, which of them is the Word of an ambiguous letter (plus 1, or 0 for none), and
 // whether it is the first `--`. More items than there is room for are not written.
@@ -39,18 +38,27 @@ fn write_flags(name: &[u8], count: usize, whole: Part, items: &mut [u32], at: us
 {
     let mut text = whole;
     let mut place = 0;
-    let mut k = 0;
-    while k < count {
-        let Decoded::Char(letter, size) = split_arg::letter_at(name, place) else {
+    for k in 0..count {
+        let Some(letter) = split_arg::letter_at(name, place) else {
             return;
         };
-        split_arg::store_item(items, at + k, Item::Short(letter, false, text));
+        split_arg::store_item(items, at + k, Item::Short(letter.value, false, text));
         text = Part {
             offset: 0,
             length: 0,
         };
-        place += size;
-        k += 1;
+        place += letter.size;
+    }
+}
+
+// Items of which none stands for an ambiguous letter or is the first `--`.
+fn plain(count: usize) -> Group
+    ensures { result ≡ record { count = count; ambiguous = 0; marker = false } }
+{
+    Group {
+        count,
+        ambiguous: 0,
+        marker: false,
     }
 }
 
@@ -58,11 +66,7 @@ fn put_one(items: &mut [u32], at: usize, item: Item) -> Group
     requires { at ≤ 256 }
     ensures { Puts items.old at items.new result 1 0 (record_of item) }
 {
-    let group = Group {
-        count: 1,
-        ambiguous: 0,
-        marker: false,
-    };
+    let group = plain(1);
     if at == ITEMS {
         return group;
     }
@@ -74,11 +78,7 @@ fn put_two(items: &mut [u32], at: usize, first: Item, second: Item) -> Group
     requires { at ≤ 256 }
     ensures { Puts items.old at items.new result 2 0 (record_of first ++ record_of second) }
 {
-    let group = Group {
-        count: 2,
-        ambiguous: 0,
-        marker: false,
-    };
+    let group = plain(2);
     if 255 <= at {
         return group;
     }
@@ -91,11 +91,7 @@ fn put_flags(name: &[u8], before: usize, whole: Part, items: &mut [u32], at: usi
     requires { Flags name.now before at }
     ensures { Puts items.old at items.new result before 0 (flag_words whole (first_letters name.now before)) }
 {
-    let group = Group {
-        count: before,
-        ambiguous: 0,
-        marker: false,
-    };
+    let group = plain(before);
     if ITEMS - at < before {
         return group;
     }
@@ -142,11 +138,7 @@ fn put_flags_two(
     requires { Flags name.now before at }
     ensures { Puts items.old at items.new result (before + 2) 0 (flag_words whole (first_letters name.now before) ++ (record_of letter ++ record_of rest)) }
 {
-    let group = Group {
-        count: before + 2,
-        ambiguous: 0,
-        marker: false,
-    };
+    let group = plain(before + 2);
     if ITEMS - at <= before + 1 {
         return group;
     }
@@ -198,13 +190,7 @@ fn split_cluster(
 fn is_marker(os: &[u8]) -> bool
     ensures { result ≡ same os.now (dash ∷ dash ∷ []) }
 {
-    if os.len() != 2 {
-        return false;
-    }
-    if os[0] != b'-' {
-        return false;
-    }
-    os[1] == b'-'
+    os == b"--".as_slice()
 }
 
 // What has no name: a Word, or the first `--`.
@@ -227,7 +213,7 @@ fn split_word(os: &[u8], begin: usize, items: &mut [u32], at: usize) -> Group
 // An argument behind the first `--`.
 pub fn split_positional(os: &[u8], begin: usize, items: &mut [u32], at: usize) -> Group
     requires { ArgumentFits os.now begin at }
-    ensures { Makes os.now begin at items.old items.new result (ok (plain (PosWord os.now ∷ []))) }
+    ensures { Makes os.now begin at items.old items.new result (ok (plain_group (PosWord os.now ∷ []))) }
 {
     let whole = text(begin, os.len(), 0);
     put_one(items, at, Item::PosWord(whole))
@@ -241,13 +227,13 @@ fn split_value(os: &[u8], begin: usize, body: usize, items: &mut [u32], at: usiz
     let len = os.len();
     let whole = text(begin, len, 0);
     let value = text(begin, len, body);
-    let Decoded::Char(letter, _) = utf8::decode_at(&os[1..2], 0) else {
+    let Some(letter) = utf8::decode_at(&os[1..2], 0) else {
         return put_one(items, at, Item::Word(whole));
     };
     put_two(
         items,
         at,
-        Item::Short(letter, true, whole),
+        Item::Short(letter.value, true, whole),
         Item::ArgWord(value),
     )
 }
@@ -265,14 +251,14 @@ pub fn split_argument(
 {
     let len = os.len();
     match split_arg::split_os_argument(os) {
-        Parts::None => split_word(os, begin, items, at),
-        Parts::Short { name: _ } => split_cluster(os, begin, flags, arguments, items, at),
-        Parts::ShortBody { name: _, body } => split_value(os, begin, body, items, at),
-        Parts::Long { name } => {
+        None => split_word(os, begin, items, at),
+        Some(Parts::Short { .. }) => split_cluster(os, begin, flags, arguments, items, at),
+        Some(Parts::ShortBody { body, .. }) => split_value(os, begin, body, items, at),
+        Some(Parts::Long { name }) => {
             let long = text(begin, name + 2, 2);
             put_one(items, at, Item::Long(long, false, text(begin, len, 0)))
         }
-        Parts::LongBody { name, body } => {
+        Some(Parts::LongBody { name, body }) => {
             let long = text(begin, name + 2, 2);
             let value = text(begin, len, body);
             put_two(

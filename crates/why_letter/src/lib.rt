@@ -10,13 +10,6 @@ ghost use Rattle.split_arg.specs.Clusters.{letters};
 ghost use Rattle.why_letter.specs.Withdrawn.{CanExplain, RestTold, LetterTold, ClusterTold, UnknownTold};
 
 use split_arg::Item;
-use utf8::Decoded;
-
-#[derive(Clone, Copy)]
-pub enum LetterOption {
-    None,
-    Some(u32),
-}
 
 // Whether the item before place i is a Short that has its value in its own argument: a Word behind it is the rest of that argument.
 pub fn is_rest(items: &[u32], i: usize) -> bool
@@ -57,19 +50,19 @@ fn is_known(flags: &[u32], arguments: &[u32], letter: u32) -> bool
 }
 
 // The first letter of a name that is not.
-fn first_unknown(name: &[u8], flags: &[u32], arguments: &[u32]) -> LetterOption
+fn first_unknown(name: &[u8], flags: &[u32], arguments: &[u32]) -> Option<u32>
     requires { well_formed name.now ≡ true }
     ensures { LetterTold (letters flags.now arguments.now) name.now result }
 {
     let mut at = 0;
     loop {
-        let Decoded::Char(letter, size) = split_arg::letter_at(name, at) else {
-            return LetterOption::None;
+        let Some(letter) = split_arg::letter_at(name, at) else {
+            return None;
         };
-        if !is_known(flags, arguments, letter) {
-            return LetterOption::Some(letter);
+        if !is_known(flags, arguments, letter.value) {
+            return Some(letter.value);
         }
-        at += size;
+        at += letter.size;
     }
 }
 
@@ -109,11 +102,11 @@ fn has_name(os: &[u8]) -> bool
 }
 
 // Of an argument that became one Word, the first unknown letter, if it looks like a cluster.
-pub fn cluster_letter(os: &[u8], flags: &[u32], arguments: &[u32]) -> LetterOption
+pub fn cluster_letter(os: &[u8], flags: &[u32], arguments: &[u32]) -> Option<u32>
     ensures { ClusterTold (letters flags.now arguments.now) os.now result }
 {
     if !has_name(os) {
-        return LetterOption::None;
+        return None;
     }
     first_unknown(&os[1..], flags, arguments)
 }
@@ -131,16 +124,16 @@ pub fn unknown_letter(
     sheet: &[u8],
     items: &[u32],
     i: usize,
-) -> LetterOption
+) -> Option<u32>
     requires { CanExplain form.now codes.now sheet.now items.now i }
     ensures { UnknownTold form.now sheet.now items.now i result }
 {
     let item = split_arg::read_item(items, i);
     let Item::Word(text) = item else {
-        return LetterOption::None;
+        return None;
     };
     if is_rest(items, i) {
-        return LetterOption::None;
+        return None;
     }
     let mut flags = no_letters();
     let mut arguments = no_letters();

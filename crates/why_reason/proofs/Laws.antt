@@ -39,8 +39,7 @@ use Rattle.state_marks.specs.Lent.{option_of}
 use Rattle.take_search.proofs.Items.{is_short_lem, is_long_lem, is_arg_word_lem, is_word, is_pos_word_lem}
 use Rattle.take_once.specs.Once.{HasPlace, Earlier}
 use Rattle.why_names.specs.Naming.{CanName, FormNames}
-use Rattle.why_letter.specs.declared.LetterOption.{LetterOption}
-use Rattle.why_letter.specs.declared.LetterOption.TheVariants as letter
+use Rattle.std.specs.Prelude.{Option as CodeOption, Some, None}
 use Rattle.why_letter.specs.Withdrawn.{letter_of, LinePlace, CanExplain, UnknownTold}
 use Rattle.why_letter.proofs.Clusters.{not_whole, explain_item, explain_room}
 use Rattle.why_reason.specs.declared.Reason.{Reason}
@@ -142,11 +141,11 @@ module _ (b s words : List ℕ) (i : ℕ) (r : Bool) (h : r ≡ not (no_position
         rw d (rw (p.form, untaken) (record { code = refl; detail = refl }));
   }
 
-  module _ (f : not r ≡ false) (u : LetterOption) (k : UnknownTold b s words i u) where
+  module _ (f : not r ≡ false) (u : CodeOption ℕ) (k : UnknownTold b s words i u) where
     taker : no_positionals (read_form b) ≡ false
     taker = not-true (no_positionals (read_form b)) (sym h ∙ not-false r f)
 
-    pub operand_letter : (c : ℕ) → u ≡ letter.Some c → (q : Reason) → q ≡ told 6 c → OperandTold b s words i q
+    pub operand_letter : (c : ℕ) → u ≡ Some c → (q : Reason) → q ≡ told 6 c → OperandTold b s words i q
     unfolding by_operand reason_code reason_detail
     operand_letter c e q d = record {
       same = λ x y p g.
@@ -154,7 +153,7 @@ module _ (b s words : List ℕ) (i : ℕ) (r : Bool) (h : r ≡ not (no_position
           rw d (rw (known, p.form, taker) (record { code = refl; detail = refl }));
     }
 
-    pub operand_none : u ≡ letter.None → (q : Reason) → q ≡ told 7 0 → OperandTold b s words i q
+    pub operand_none : u ≡ None → (q : Reason) → q ≡ told 7 0 → OperandTold b s words i q
     unfolding by_operand reason_code reason_detail
     operand_none e q d = record {
       same = λ x y p g.

@@ -7,7 +7,6 @@ ghost use Rattle.why_reason.specs.Reasons.{CanReason, LeftAt, NameTold, ValueTol
 
 use split_arg::Item;
 use state_marks::{is_parsed, winner_of};
-use why_letter::LetterOption;
 
 // The reasons, by their codes.
 const LOST_CHOICE: u32 = 1;
@@ -68,7 +67,7 @@ fn for_operand(form: &[u8], codes: &[u32], sheet: &[u8], items: &[u32], i: usize
         return tell(NO_POSITIONAL, 0);
     }
     let unknown = why_letter::unknown_letter(form, codes, sheet, items, i);
-    let LetterOption::Some(letter) = unknown else {
+    let Some(letter) = unknown else {
         return tell(NONE_OF_THESE, 0);
     };
     tell(UNKNOWN_LETTER, letter)

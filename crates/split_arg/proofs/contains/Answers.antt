@@ -1,6 +1,7 @@
--- By the length of the list. Assumes nothing.
-use native.Mathlib.Omega.{arith}
+-- By halves, or one after the other. Assumes nothing.
+use mathlib.Core.Path.{◌∙◌}
+use Rattle.split_arg.proofs.Order.{any_contains}
 use Rattle.split_arg.proofs.contains.Goals as goal
 
-pub search-requires : goal.search-requires
-search-requires c = c.requires.order (omega arith)
+pub returns : goal.returns
+returns g c = c.contains.ensures.value ∙ any_contains _ _
