@@ -16,7 +16,7 @@ ghost use Rattle.call_node.specs.Node.{evaluated_answer, unchanged_by, answer_of
 use call_answers::{SHORT_LIST, SHORT_SLICE};
 use eval_list::Field;
 use eval_missing::{MISSING, MISSING_WORDS};
-use eval_told::Ran;
+use eval_told::{Line, Ran};
 use rules::{Refused, State};
 use run_fields::{ANSWER_WORDS, RunAnswer};
 use split_arg::ITEM_WORDS;
@@ -138,12 +138,16 @@ fn run_admitted(
     let p = state_marks::numbers_of(s);
     let field = Field { node, at: 0 };
     let mark = node_mark(form, node);
-    let ran = run_fields::run_value(
-        form, &known, sheet, items, &mut marks, p, field, answers, mark,
-    );
+    let line = Line {
+        form,
+        known: &known,
+        sheet,
+        items,
+    };
+    let ran = run_fields::run_value(&line, &mut marks, p, field, answers, mark);
     if ran.number == MISSING {
         let left = ran.numbers;
-        eval_missing::list_missing(form, &known, sheet, items, &marks, left, node, list, mark);
+        eval_missing::list_missing(&line, &marks, left, node, list, mark);
         return answered(ran, marks);
     }
     answered(ran, marks)

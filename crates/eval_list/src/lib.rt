@@ -10,7 +10,7 @@ ghost use Rattle.eval_told.specs.Nodes.{tree_at};
 ghost use Rattle.eval_list.specs.Lists.{Listed, Writes, WritesField, OverScalar, OverList, WritesOver, EitherList, with_mark, child_with_mark, side_with_mark};
 
 use eval_node::Repeat;
-use eval_told::Ran;
+use eval_told::{Line, Ran};
 use state_marks::Numbers;
 
 // A node, and the word of the answer slice that its value begins at.
@@ -52,21 +52,18 @@ struct Either {
 }
 
 fn run_many(
-    form: &[u8],
-    known: &[u64],
-    sheet: &[u8],
-    items: &[u32],
+    line: &Line,
     marks: &mut [u16; 256],
     p: Numbers,
     child: Child,
     out: &mut [u32],
     mark: u16,
 ) -> Ran
-    requires { OverScalar (Many child.catch) form.now known.now sheet.now items.now marks.old p (child_with_mark child mark) out.old }
-    ensures { WritesOver (Many child.catch) form.now sheet.now items.now (child_with_mark child mark) marks.old p marks.new out.old out.new result }
+    requires { OverScalar (Many child.catch) line.now.form.now line.now.known.now line.now.sheet.now line.now.items.now marks.old p (child_with_mark child mark) out.old }
+    ensures { WritesOver (Many child.catch) line.now.form.now line.now.sheet.now line.now.items.now (child_with_mark child mark) marks.old p marks.new out.old out.new result }
 {
     let how = child.repeat();
-    let all = eval_node::run_repeat(form, known, sheet, items, marks, p, how, out, mark);
+    let all = eval_node::run_repeat(line, marks, p, how, out, mark);
     if all.number != 0 {
         return eval_words::refused_list(all);
     }
@@ -75,21 +72,18 @@ fn run_many(
 
 // A list of no values is refused. That is one test more than `run_many`; each is proved for its own node.
 fn run_some(
-    form: &[u8],
-    known: &[u64],
-    sheet: &[u8],
-    items: &[u32],
+    line: &Line,
     marks: &mut [u16; 256],
     p: Numbers,
     child: Child,
     out: &mut [u32],
     mark: u16,
 ) -> Ran
-    requires { OverScalar (Some child.catch) form.now known.now sheet.now items.now marks.old p (child_with_mark child mark) out.old }
-    ensures { WritesOver (Some child.catch) form.now sheet.now items.now (child_with_mark child mark) marks.old p marks.new out.old out.new result }
+    requires { OverScalar (Some child.catch) line.now.form.now line.now.known.now line.now.sheet.now line.now.items.now marks.old p (child_with_mark child mark) out.old }
+    ensures { WritesOver (Some child.catch) line.now.form.now line.now.sheet.now line.now.items.now (child_with_mark child mark) marks.old p marks.new out.old out.new result }
 {
     let how = child.repeat();
-    let all = eval_node::run_repeat(form, known, sheet, items, marks, p, how, out, mark);
+    let all = eval_node::run_repeat(line, marks, p, how, out, mark);
     if all.number != 0 {
         return eval_words::refused_list(all);
     }
@@ -102,20 +96,17 @@ fn run_some(
 // A node whose value is a list or an optional list: its words go to `out` from `at` on, where all is 0.
 #[cycle(lists)]
 pub fn run_list(
-    form: &[u8],
-    known: &[u64],
-    sheet: &[u8],
-    items: &[u32],
+    line: &Line,
     marks: &mut [u16; 256],
     p: Numbers,
     field: Field,
     out: &mut [u32],
     mark: u16,
 ) -> Ran
-    requires { Listed form.now known.now sheet.now items.now marks.old p (with_mark field mark) out.old }
-    ensures { WritesField form.now sheet.now items.now (with_mark field mark) marks.old p marks.new out.old out.new result }
+    requires { Listed line.now.form.now line.now.known.now line.now.sheet.now line.now.items.now marks.old p (with_mark field mark) out.old }
+    ensures { WritesField line.now.form.now line.now.sheet.now line.now.items.now (with_mark field mark) marks.old p marks.new out.old out.new result }
 {
-    let x = form_layout::node_at(form, field.node);
+    let x = form_layout::node_at(line.form, field.node);
     let child = Child {
         node: x.p,
         catch: x.r == 1,
@@ -127,35 +118,32 @@ pub fn run_list(
         at: field.at,
     };
     match x.kind {
-        4 => run_optional_list(form, known, sheet, items, marks, p, child, out, mark),
-        5 => run_many(form, known, sheet, items, marks, p, child, out, mark),
-        6 => run_some(form, known, sheet, items, marks, p, child, out, mark),
-        _ => run_either(form, known, sheet, items, marks, p, sides, out, mark),
+        4 => run_optional_list(line, marks, p, child, out, mark),
+        5 => run_many(line, marks, p, child, out, mark),
+        6 => run_some(line, marks, p, child, out, mark),
+        _ => run_either(line, marks, p, sides, out, mark),
     }
 }
 
 // A list that is present has 1 before its words. Absent or refused, the child wrote nothing, and the word of an absent value is 0.
 #[cycle(lists)]
 fn run_optional_list(
-    form: &[u8],
-    known: &[u64],
-    sheet: &[u8],
-    items: &[u32],
+    line: &Line,
     marks: &mut [u16; 256],
     p: Numbers,
     child: Child,
     out: &mut [u32],
     mark: u16,
 ) -> Ran
-    requires { OverList (Optional child.catch) form.now known.now sheet.now items.now marks.old p (child_with_mark child mark) out.old }
-    ensures { WritesOver (Optional child.catch) form.now sheet.now items.now (child_with_mark child mark) marks.old p marks.new out.old out.new result }
+    requires { OverList (Optional child.catch) line.now.form.now line.now.known.now line.now.sheet.now line.now.items.now marks.old p (child_with_mark child mark) out.old }
+    ensures { WritesOver (Optional child.catch) line.now.form.now line.now.sheet.now line.now.items.now (child_with_mark child mark) marks.old p marks.new out.old out.new result }
 {
     let before = *marks;
     let field = Field {
         node: child.node,
         at: child.at,
     };
-    let ran = run_list(form, known, sheet, items, marks, p, field, out, mark);
+    let ran = run_list(line, marks, p, field, out, mark);
     let made = eval_combine::optional(ran, p, child.catch, &before, marks);
     if made.present {
         eval_words::shift(out, child.at, ran.len as usize);
@@ -166,25 +154,22 @@ fn run_optional_list(
 // Of two lists the one that wins. Both are run on the same marks and write to the same words.
 #[cycle(lists)]
 fn run_either(
-    form: &[u8],
-    known: &[u64],
-    sheet: &[u8],
-    items: &[u32],
+    line: &Line,
     marks: &mut [u16; 256],
     p: Numbers,
     sides: Either,
     out: &mut [u32],
     mark: u16,
 ) -> Ran
-    requires { EitherList form.now known.now sheet.now items.now marks.old p (side_with_mark sides mark) sides.right out.old }
-    ensures { (t u : Tree) → tree_at form.now sides.left ≡ some t → tree_at form.now sides.right ≡ some u → Writes mark (sheet_area sheet.now) items.now (Choice t u) marks.old p marks.new out.old sides.at out.new result }
+    requires { EitherList line.now.form.now line.now.known.now line.now.sheet.now line.now.items.now marks.old p (side_with_mark sides mark) sides.right out.old }
+    ensures { (t u : Tree) → tree_at line.now.form.now sides.left ≡ some t → tree_at line.now.form.now sides.right ≡ some u → Writes mark (sheet_area line.now.sheet.now) line.now.items.now (Choice t u) marks.old p marks.new out.old sides.at out.new result }
 {
     let before = *marks;
     let left = Field {
         node: sides.left,
         at: sides.at,
     };
-    let x = run_list(form, known, sheet, items, marks, p, left, out, mark);
+    let x = run_list(line, marks, p, left, out, mark);
     let first = *marks;
     let n = x.len as usize;
     let kept = eval_words::set_aside(out, sides.at, n);
@@ -193,7 +178,7 @@ fn run_either(
         node: sides.right,
         at: sides.at,
     };
-    let y = run_list(form, known, sheet, items, marks, p, right, out, mark);
+    let y = run_list(line, marks, p, right, out, mark);
     let made = eval_combine::choose(x, y, p, &before, &first, marks);
     eval_words::settle(
         out,

@@ -2,7 +2,10 @@
 use native.Mathlib.Omega.{arith}
 use Rattle.std.specs.Prelude.{◌≡◌}
 use Rattle.rules.specs.declared.Refusal.{Refusal}
-use Rattle.rules.specs.declared.Refusal.TheVariants.{BadCounts, BadName, BadNode, BadUse, BadSheet, TooManyArguments, ShortSlice, TooManyItems, Ambiguous, BadTable, ShortList, BadBatch, BadAlphabet, NotShort, TooLarge, ShortOutput, Missing, NothingCounted, NoArgument, NotStrict, Strict, NotNumber, OutOfBounds, LeftOver, NotThere, BadState, BadItem, NoCommand, Misread}
+use Rattle.rules.specs.declared.Refusal.TheVariants.{BadCounts, BadName, BadNode, BadUse, BadSheet, TooManyArguments, ShortSlice, TooManyItems}
+use Rattle.rules.specs.declared.Refusal.TheVariants.{Ambiguous, BadTable, ShortList, BadBatch, BadAlphabet, NotShort, TooLarge, ShortOutput}
+use Rattle.rules.specs.declared.Refusal.TheVariants.{Missing, NothingCounted, NoArgument, NotStrict, Strict, NotNumber, OutOfBounds, LeftOver}
+use Rattle.rules.specs.declared.Refusal.TheVariants.{NotThere, BadState, BadItem, NoCommand, Misread}
 use Rattle.rules.specs.Reported.{number_of}
 
 pub numbered : (e : Refusal) → number_of e ≡ 0 → ⊥

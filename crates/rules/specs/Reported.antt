@@ -3,7 +3,10 @@ use Rattle.std.specs.Prelude.{ℕ, ◌+◌, Option, Some, None, Result, Ok, Err}
 use Rattle.rules.specs.declared.Refused.{Refused}
 use Rattle.rules.specs.declared.RefusedAt.{RefusedAt}
 use Rattle.rules.specs.declared.Refusal.{Refusal}
-use Rattle.rules.specs.declared.Refusal.TheVariants.{BadCounts, BadName, BadNode, BadUse, BadSheet, TooManyArguments, ShortSlice, TooManyItems, Ambiguous, BadTable, ShortList, BadBatch, BadAlphabet, NotShort, TooLarge, ShortOutput, Missing, NothingCounted, NoArgument, NotStrict, Strict, NotNumber, OutOfBounds, LeftOver, NotThere, BadState, BadItem, NoCommand, Misread}
+use Rattle.rules.specs.declared.Refusal.TheVariants.{BadCounts, BadName, BadNode, BadUse, BadSheet, TooManyArguments, ShortSlice, TooManyItems}
+use Rattle.rules.specs.declared.Refusal.TheVariants.{Ambiguous, BadTable, ShortList, BadBatch, BadAlphabet, NotShort, TooLarge, ShortOutput}
+use Rattle.rules.specs.declared.Refusal.TheVariants.{Missing, NothingCounted, NoArgument, NotStrict, Strict, NotNumber, OutOfBounds, LeftOver}
+use Rattle.rules.specs.declared.Refusal.TheVariants.{NotThere, BadState, BadItem, NoCommand, Misread}
 
 -- the number of document 01
 abbrev pub number_of : Refusal → ℕ

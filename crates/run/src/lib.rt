@@ -14,6 +14,7 @@ ghost use Rattle.run_fields.specs.Line.{Starts};
 ghost use Rattle.run.specs.Runner.{run_answer, ended, answer_of, CheckedInput, AfterSplit, InputTested, LineTested, ItemsBegin, RunsListed};
 
 use eval_missing::{MISSING, MISSING_WORDS};
+use eval_told::Line;
 use rules::Refused;
 use run_fields::{ANSWER_WORDS, Reached, RunAnswer};
 use split_arg::ITEM_WORDS;
@@ -68,25 +69,22 @@ fn little_known() -> [u64; FEW_WORDS]
 
 // The fields over the table of which nodes each item matches. Refused with 20, the list tells what the refused field lacks.
 fn run_known(
-    form: &[u8],
-    known: &[u64],
-    sheet: &[u8],
-    items: &[u32],
+    line: &Line,
     marks: &mut [u16; 256],
     p: Numbers,
     first: usize,
     answers: &mut [u32],
     list: &mut [u32],
 ) -> Reached
-    requires { Starts form.now known.now sheet.now items.now marks.old p first answers.old × (192 ≤ length list.old) }
-    ensures { (a : Accepted) → check_form form.now ≡ accepted a → RunsListed (sheet_area sheet.now) items.now first a.fields marks.old p marks.new answers.old answers.new list.old list.new result }
+    requires { Starts line.now.form.now line.now.known.now line.now.sheet.now line.now.items.now marks.old p first answers.old × (192 ≤ length list.old) }
+    ensures { (a : Accepted) → check_form line.now.form.now ≡ accepted a → RunsListed (sheet_area line.now.sheet.now) line.now.items.now first a.fields marks.old p marks.new answers.old answers.new list.old list.new result }
 {
-    let all = run_fields::run_fields(form, known, sheet, items, marks, p, first, answers);
+    let all = run_fields::run_fields(line, marks, p, first, answers);
     if all.number == MISSING {
-        let node = form_layout::field_at(form, all.field);
+        let node = form_layout::field_at(line.form, all.field);
         let mark = state_marks::field_mark(first + all.field);
         let left = all.numbers;
-        eval_missing::list_missing(form, known, sheet, items, marks, left, node, list, mark);
+        eval_missing::list_missing(line, marks, left, node, list, mark);
     }
     all
 }
@@ -111,11 +109,23 @@ pub fn run_items(
     if count < FEW_WORDS {
         let mut few = little_known();
         take_table::known(form, codes, sheet, items, count, &mut few);
-        return run_known(form, &few, sheet, items, marks, p, first, answers, list);
+        let line = Line {
+            form,
+            known: &few,
+            sheet,
+            items,
+        };
+        return run_known(&line, marks, p, first, answers, list);
     }
     let mut known = run_fields::nothing_known();
     take_table::known(form, codes, sheet, items, count, &mut known);
-    run_known(form, &known, sheet, items, marks, p, first, answers, list)
+    let line = Line {
+        form,
+        known: &known,
+        sheet,
+        items,
+    };
+    run_known(&line, marks, p, first, answers, list)
 }
 
 // A line that was split, over marks, an answer slice and a list that are 0: splitting's refusal, or the fields on the state that the

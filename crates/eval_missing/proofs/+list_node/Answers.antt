@@ -27,7 +27,7 @@ list_node-at-requires t c =
 
 pub list_node-requires-in-9 : goal.list_node-requires-in-9
 list_node-requires-in-9 t c =
-    let begun : BegunNode c.args.form.now c.args.sheet.now c.args.items.now
+    let begun : BegunNode c.args.line.now.form.now c.args.line.now.sheet.now c.args.line.now.items.now
     (record { node = c.node_at-x.result.p; at = c.args.field.at; mark = c.args.mark })
     c.args.marks.now c.args.p c.args.list.now c.if-ends_missing.list c.if-ends_missing.at =
     elim c.if-ends_missing.branch [
@@ -46,7 +46,7 @@ returns-in-8 t c = under_lists c.requires c.node_at-x.ensures c.in-8.is c.list_n
 
 pub returns-after-ends_missing : goal.returns-after-ends_missing
 returns-after-ends_missing t c =
-    let begun : BegunNode c.args.form.now c.args.sheet.now c.args.items.now
+    let begun : BegunNode c.args.line.now.form.now c.args.line.now.sheet.now c.args.line.now.items.now
     (record { node = c.node_at-x.result.p; at = c.args.field.at; mark = c.args.mark })
     c.args.marks.now c.args.p c.args.list.now c.if-ends_missing.list c.if-ends_missing.at =
     elim c.if-ends_missing.branch [

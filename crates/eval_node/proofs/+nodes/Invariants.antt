@@ -46,7 +46,7 @@ decreases-turn l = l.over.child * 5 + 3
 
 abbrev pub invariant-run_repeat-loop-out : goal.invariant-run_repeat-loop-out
 invariant-run_repeat-loop-out l =
-    Turning l.form l.known l.sheet l.items l.initial.marks l.how l.initial.out l.mark l.initial.s l.marks l.out l.s l.from l.last l.all
+    Turning l.line.form.now l.line.known.now l.line.sheet.now l.line.items.now l.initial.marks l.how l.initial.out l.mark l.initial.s l.marks l.out l.s l.from l.last l.all
     × (l.keeps ≡ true → l.before ≡ l.marks)
 
 abbrev pub decreases-run_repeat-loop-out : goal.decreases-run_repeat-loop-out
