@@ -20,7 +20,6 @@ use run_fields::{ANSWER_WORDS, Reached, RunAnswer};
 use split_arg::ITEM_WORDS;
 use split_args::Ended;
 use state_marks::Numbers;
-use wire::wide;
 
 // The refusals of an item or answer slice that is too short, and of such a list.
 const SHORT_SLICE: u32 = 7;
@@ -29,13 +28,6 @@ const SHORT_LIST: u32 = 14;
 
 // The words of a table for a line with fewer items than this.
 const FEW_WORDS: usize = 32;
-
-// A refusal at no place.
-fn refusal(number: u32) -> Refused
-    ensures { result ≡ record { number = number; place = 0 } }
-{
-    Refused { number, place: 0 }
-}
 
 // Refused because of the input: all three slices all 0, an empty state.
 pub fn refused_input(
@@ -60,13 +52,6 @@ pub fn refused_input(
     run_fields::refused(number, place, 0, 0, none)
 }
 
-// A table of which nodes each item matches, as yet empty, for a line of at most 31 items: 256 bytes to clear, not 2,056.
-fn little_known() -> [u64; FEW_WORDS]
-    ensures { result ≡ replicate 32 0 }
-{
-    [0u64; FEW_WORDS]
-}
-
 // The fields over the table of which nodes each item matches. Refused with 20, the list tells what the refused field lacks.
 fn run_known(
     line: &Line,
@@ -83,8 +68,7 @@ fn run_known(
     if all.number == MISSING {
         let node = form_layout::field_at(line.form, all.field);
         let mark = state_marks::field_mark(first + all.field);
-        let left = all.numbers;
-        eval_missing::list_missing(line, marks, left, node, list, mark);
+        eval_missing::list_missing(line, marks, all.numbers, node, list, mark);
     }
     all
 }
@@ -105,9 +89,9 @@ pub fn run_items(
     requires { ItemsBegin form.now codes.now sheet.now items.now marks.old p first answers.old list.old }
     ensures { (a : Accepted) → check_form form.now ≡ accepted a → RunsListed (sheet_area sheet.now) items.now first a.fields marks.old p marks.new answers.old answers.new list.old list.new result }
 {
-    let count = wide(p.count);
+    let count = p.count as usize;
     if count < FEW_WORDS {
-        let mut few = little_known();
+        let mut few = [0u64; FEW_WORDS]; // 256 bytes to clear, not 2,056
         take_table::known(form, codes, sheet, items, count, &mut few);
         let line = Line {
             form,
@@ -178,16 +162,10 @@ pub fn line_fault(sheet: &[u8], items: usize, answers: usize, list: usize) -> u3
     if fault != 0 {
         return fault;
     }
-    if items < ITEM_WORDS {
+    if items < ITEM_WORDS || answers < ANSWER_WORDS {
         return SHORT_SLICE;
     }
-    if answers < ANSWER_WORDS {
-        return SHORT_SLICE;
-    }
-    if list < MISSING_WORDS {
-        return SHORT_LIST;
-    }
-    0
+    if list < MISSING_WORDS { SHORT_LIST } else { 0 }
 }
 
 // The form's refusals, 1 to 4, before those of the line; number 0 if there is none.
@@ -198,7 +176,10 @@ fn input_fault(form: &[u8], sheet: &[u8], items: usize, answers: usize, list: us
     if checked.number != 0 {
         return checked;
     }
-    refusal(line_fault(sheet, items, answers, list))
+    Refused {
+        number: line_fault(sheet, items, answers, list),
+        place: 0,
+    }
 }
 
 // The run over marks that are 0.
@@ -232,12 +213,11 @@ pub fn run(
 {
     let mut marks = split_args::unmarked();
     let all = run_input(form, sheet, items, answers, list, &mut marks);
-    let left = all.numbers;
     RunAnswer {
         number: all.number,
         place: all.place,
         tries: all.tries,
         words: all.words,
-        state: state_marks::joined(marks, left),
+        state: state_marks::joined(marks, all.numbers),
     }
 }
