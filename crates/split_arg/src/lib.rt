@@ -138,30 +138,12 @@ fn scan(s: &[u32], letter: u32) -> bool
     false
 }
 
-// By halves: how many letters of a list in rising order are below this one, which stands behind them or nowhere.
+// How many letters of a list in rising order are below this one, which stands behind them or nowhere.
 pub fn place(s: &[u32], letter: u32) -> usize
     requires { Ascending s.now }
     ensures { Parted s.now letter result }
 {
-    let mut low = 0;
-    let mut high = s.len();
-    while low < high {
-        let middle = low + (high - low) / 2;
-        if s[middle] < letter {
-            low = middle + 1;
-        } else {
-            high = middle;
-        }
-    }
-    low
-}
-
-fn search(s: &[u32], letter: u32) -> bool
-    requires { Ascending s.now }
-    ensures { result ≡ has s.now letter }
-{
-    let at = place(s, letter);
-    at < s.len() && s[at] == letter
+    s.partition_point(|other| *other < letter)
 }
 
 // The letter at a place. Most letters are ASCII, and are not decoded.
@@ -215,7 +197,7 @@ fn contains(s: &[u32], letter: u32) -> bool
     if s.len() <= SCANNED {
         return scan(s, letter);
     }
-    search(s, letter)
+    s.binary_search(&letter).is_ok()
 }
 
 // The same where a list may be long. It stands apart: one function for both, with the choice as a parameter of the code, takes longer
