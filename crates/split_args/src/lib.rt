@@ -71,11 +71,10 @@ fn split_arguments(sheet: &[u8], flags: &[u32], arguments: &[u32], items: &mut [
                 marker: 0,
             };
         }
-        let ambiguous = group.ambiguous;
-        if 0 < ambiguous {
+        if let Some(i) = group.ambiguous {
             return Ended {
                 number: AMBIGUOUS,
-                place: (at + ambiguous) as u32,
+                place: (at + i + 1) as u32,
                 count: (at + count) as u32,
                 marker: 0,
             };
