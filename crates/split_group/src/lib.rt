@@ -8,11 +8,11 @@ ghost use Rattle.rules.specs.Base.{same};
 ghost use Rattle.rules.specs.Outcome.{ok};
 ghost use Rattle.rules.specs.Split.{PosWord, plain as plain_group, dash, word_group, short_group, split_argument};
 ghost use Rattle.split_arg.specs.Items.{part_of, record_of};
-ghost use Rattle.split_arg.specs.Clusters.{letters};
+ghost use Rattle.split_arg.specs.Clusters.{meaning};
 ghost use Rattle.split_arg.specs.Order.{CanLookUp};
 ghost use Rattle.split_group.specs.Groups.{first_letters, flag_words, ArgumentFits, ClusterIn, ValueIn, Flags, Puts, Makes, MakesValue};
 
-use split_arg::{ITEMS, Item, Outcome, Part, Parts};
+use split_arg::{ITEMS, Item, Letters, Outcome, Part, Parts};
 
 // What one argument gave: how many items, which of them is the Word of an ambiguous letter, and whether it is the first `--`. More items than there is room for are not written.
 #[derive(Clone, Copy)]
@@ -148,21 +148,14 @@ fn put_flags_two(
 }
 
 // `-NAME` without `=`.
-fn split_cluster(
-    os: &[u8],
-    begin: usize,
-    flags: &[u32],
-    arguments: &[u32],
-    items: &mut [u32],
-    at: usize,
-) -> Group
-    requires { ClusterIn os.now begin at × CanLookUp flags.now arguments.now }
-    ensures { Makes os.now begin at items.old items.new result (short_group (letters flags.now arguments.now) os.now (drop 1 os.now) none) }
+fn split_cluster(os: &[u8], begin: usize, letters: &Letters, items: &mut [u32], at: usize) -> Group
+    requires { ClusterIn os.now begin at × CanLookUp letters.now.flags.now letters.now.arguments.now }
+    ensures { Makes os.now begin at items.old items.new result (short_group (meaning letters.now) os.now (drop 1 os.now) none) }
 {
     let len = os.len();
     let whole = text(begin, len, 0);
     let name = &os[1..];
-    match split_arg::disambiguate_short(name, flags, arguments) {
+    match split_arg::disambiguate_short(name, letters) {
         Outcome::Single { letter } => put_one(items, at, Item::Short(letter, false, whole)),
         Outcome::AllFlags { before } => put_flags(name, before, whole, items, at),
         Outcome::Argument {
@@ -238,18 +231,17 @@ fn split_value(os: &[u8], begin: usize, body: usize, items: &mut [u32], at: usiz
 pub fn split_argument(
     os: &[u8],
     begin: usize,
-    flags: &[u32],
-    arguments: &[u32],
+    letters: &Letters,
     items: &mut [u32],
     at: usize,
 ) -> Group
-    requires { ArgumentFits os.now begin at × CanLookUp flags.now arguments.now }
-    ensures { Makes os.now begin at items.old items.new result (split_argument (letters flags.now arguments.now) os.now) }
+    requires { ArgumentFits os.now begin at × CanLookUp letters.now.flags.now letters.now.arguments.now }
+    ensures { Makes os.now begin at items.old items.new result (split_argument (meaning letters.now) os.now) }
 {
     let len = os.len();
     match split_arg::split_os_argument(os) {
         None => split_word(os, begin, items, at),
-        Some(Parts::Short { .. }) => split_cluster(os, begin, flags, arguments, items, at),
+        Some(Parts::Short { .. }) => split_cluster(os, begin, letters, items, at),
         Some(Parts::ShortBody { body, .. }) => split_value(os, begin, body, items, at),
         Some(Parts::Long { name }) => {
             let long = text(begin, name + 2, 2);
