@@ -13,6 +13,7 @@ ghost use Rattle.batch_line.specs.Reported.{SheetReported};
 
 use rules::RefusedAt;
 use run_fields::Reached;
+use split_arg::Letters;
 
 // A checked sheet, and room in the slices: the items, by the letters that are given, then the fields.
 fn run_checked(
@@ -31,7 +32,7 @@ fn run_checked(
 {
     wire::fill(answers, 0, answers.len(), 0);
     wire::fill(list, 0, list.len(), 0);
-    let split = split_args::construct(sheet, flags, arguments, items);
+    let split = split_args::construct(sheet, &Letters { flags, arguments }, items);
     run::run_split(form, codes, sheet, items, answers, list, marks, split)
 }
 

@@ -13,6 +13,7 @@ ghost use Rattle.command_layout.specs.Tables.{HasForms};
 ghost use Rattle.command_letters.specs.Gather.{put_in, opened, HasRoom, Holds, Inserted, Gathered};
 
 use form_letters::Counts;
+use split_arg::Letters;
 use split_args::Ended;
 
 // Room for the letters of 32 forms with 128 names each, and for those of a table with few: 2 KB to clear, not 16.
@@ -104,12 +105,11 @@ fn split_within<const N: usize>(table: &[u8], sheet: &[u8], items: &mut [u32]) -
     let mut flags = [0u32; N];
     let mut arguments = [0u32; N];
     let counts = gather(table, &mut flags, &mut arguments);
-    split_args::construct(
-        sheet,
-        &flags[..counts.flags],
-        &arguments[..counts.arguments],
-        items,
-    )
+    let letters = Letters {
+        flags: &flags[..counts.flags],
+        arguments: &arguments[..counts.arguments],
+    };
+    split_args::construct(sheet, &letters, items)
 }
 
 // The letters are worked out only where one can be looked up.
@@ -118,7 +118,11 @@ pub fn split(table: &[u8], sheet: &[u8], items: &mut [u32]) -> Ended
     ensures { (cs : List Command) (fs : List Accepted) → table_in table.now ≡ ok cs → forms_in cs ≡ ok fs → SplitEnds (table_letters fs) sheet.now (length items.old) items.new result }
 {
     if split_args::all_plain(sheet) {
-        return split_args::construct(sheet, &[], &[], items);
+        let none = Letters {
+            flags: &[],
+            arguments: &[],
+        };
+        return split_args::construct(sheet, &none, items);
     }
     if command_layout::entry_count(table) <= FEW_FORMS {
         return split_within::<FEW_LETTERS>(table, sheet, items);

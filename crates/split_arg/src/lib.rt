@@ -8,7 +8,7 @@ ghost use Rattle.rules.specs.Base.{contains as has};
 ghost use Rattle.rules.specs.Outcome.{ok};
 ghost use Rattle.rules.specs.Split.{split_long, split_short, split_os_argument};
 ghost use Rattle.split_arg.specs.Parts.{equals_from, TellsParts};
-ghost use Rattle.split_arg.specs.Clusters.{letters, LooksUp, Disambiguates};
+ghost use Rattle.split_arg.specs.Clusters.{meaning, LooksUp, Disambiguates};
 ghost use Rattle.split_arg.specs.Order.{Ascending, Searchable, CanLookUp, Parted};
 ghost use Rattle.split_arg.specs.Items.{part_of, record_of, record_at, item_of};
 
@@ -95,6 +95,13 @@ pub fn split_os_argument(os: &[u8]) -> Option<Parts>
     split_short(os)
 }
 
+// The letters that are looked up: those of flags, and those of names that take an argument.
+#[derive(Clone, Copy)]
+pub struct Letters<'a> {
+    pub flags: &'a [u32],
+    pub arguments: &'a [u32],
+}
+
 // How the loop over a cluster's letters ends, known before anything is written. `before` counts the flags' letters passed.
 #[derive(Clone, Copy)]
 pub enum Outcome {
@@ -138,30 +145,12 @@ fn scan(s: &[u32], letter: u32) -> bool
     false
 }
 
-// By halves: how many letters of a list in rising order are below this one, which stands behind them or nowhere.
+// How many letters of a list in rising order are below this one, which stands behind them or nowhere.
 pub fn place(s: &[u32], letter: u32) -> usize
     requires { Ascending s.now }
     ensures { Parted s.now letter result }
 {
-    let mut low = 0;
-    let mut high = s.len();
-    while low < high {
-        let middle = low + (high - low) / 2;
-        if s[middle] < letter {
-            low = middle + 1;
-        } else {
-            high = middle;
-        }
-    }
-    low
-}
-
-fn search(s: &[u32], letter: u32) -> bool
-    requires { Ascending s.now }
-    ensures { result ≡ has s.now letter }
-{
-    let at = place(s, letter);
-    at < s.len() && s[at] == letter
+    s.partition_point(|other| *other < letter)
 }
 
 // The letter at a place. Most letters are ASCII, and are not decoded.
@@ -176,9 +165,9 @@ pub fn letter_at(name: &[u8], at: usize) -> Option<Char>
 }
 
 // Each letter of the name is looked up among those of flags and of arguments.
-fn look_up(name: &[u8], flags: &[u32], arguments: &[u32]) -> Outcome
+fn look_up(name: &[u8], letters: &Letters) -> Outcome
     requires { well_formed name.now ≡ true }
-    ensures { LooksUp (letters flags.now arguments.now) name.now result }
+    ensures { LooksUp (meaning letters.now) name.now result }
 {
     let mut at = 0;
     let mut before = 0;
@@ -186,8 +175,8 @@ fn look_up(name: &[u8], flags: &[u32], arguments: &[u32]) -> Outcome
         let Some(letter) = letter_at(name, at) else {
             break Outcome::AllFlags { before };
         };
-        let flag = scan(flags, letter.value);
-        let argument = scan(arguments, letter.value);
+        let flag = scan(letters.flags, letter.value);
+        let argument = scan(letters.arguments, letter.value);
         if flag {
             if argument {
                 break Outcome::Ambiguous { before };
@@ -215,14 +204,14 @@ fn contains(s: &[u32], letter: u32) -> bool
     if s.len() <= SCANNED {
         return scan(s, letter);
     }
-    search(s, letter)
+    s.binary_search(&letter).is_ok()
 }
 
 // The same where a list may be long. It stands apart: one function for both, with the choice as a parameter of the code, takes longer
 // on short lists (two letters of 8: 20 ns to 25 ns; eight of 16: 70 ns to 117 ns).
-fn look_up_long(name: &[u8], flags: &[u32], arguments: &[u32]) -> Outcome
-    requires { (well_formed name.now ≡ true) × CanLookUp flags.now arguments.now }
-    ensures { LooksUp (letters flags.now arguments.now) name.now result }
+fn look_up_long(name: &[u8], letters: &Letters) -> Outcome
+    requires { (well_formed name.now ≡ true) × CanLookUp letters.now.flags.now letters.now.arguments.now }
+    ensures { LooksUp (meaning letters.now) name.now result }
 {
     let mut at = 0;
     let mut before = 0;
@@ -230,8 +219,8 @@ fn look_up_long(name: &[u8], flags: &[u32], arguments: &[u32]) -> Outcome
         let Some(letter) = letter_at(name, at) else {
             break Outcome::AllFlags { before };
         };
-        let flag = contains(flags, letter.value);
-        let argument = contains(arguments, letter.value);
+        let flag = contains(letters.flags, letter.value);
+        let argument = contains(letters.arguments, letter.value);
         if flag {
             if argument {
                 break Outcome::Ambiguous { before };
@@ -252,9 +241,9 @@ fn look_up_long(name: &[u8], flags: &[u32], arguments: &[u32]) -> Outcome
     outcome
 }
 
-pub fn disambiguate_short(name: &[u8], flags: &[u32], arguments: &[u32]) -> Outcome
-    requires { (well_formed name.now ≡ true) × CanLookUp flags.now arguments.now }
-    ensures { Disambiguates (letters flags.now arguments.now) name.now result }
+pub fn disambiguate_short(name: &[u8], letters: &Letters) -> Outcome
+    requires { (well_formed name.now ≡ true) × CanLookUp letters.now.flags.now letters.now.arguments.now }
+    ensures { Disambiguates (meaning letters.now) name.now result }
 {
     let Some(first) = utf8::decode_at(name, 0) else {
         return Outcome::AllFlags { before: 0 };
@@ -264,10 +253,10 @@ pub fn disambiguate_short(name: &[u8], flags: &[u32], arguments: &[u32]) -> Outc
             letter: first.value,
         };
     }
-    if flags.len() <= SCANNED && arguments.len() <= SCANNED {
-        return look_up(name, flags, arguments);
+    if letters.flags.len() <= SCANNED && letters.arguments.len() <= SCANNED {
+        return look_up(name, letters);
     }
-    look_up_long(name, flags, arguments)
+    look_up_long(name, letters)
 }
 
 // A part of the sheet's area.

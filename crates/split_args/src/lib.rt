@@ -4,7 +4,7 @@
 ghost use Rattle.std.specs.Prelude.{◌≡◌, ◌≤◌, length};
 ghost use Rattle.rules.specs.Base.{all};
 ghost use Rattle.rules.specs.Sheet.{sheet_fault, arguments};
-ghost use Rattle.split_arg.specs.Clusters.{letters};
+ghost use Rattle.split_arg.specs.Clusters.{meaning};
 ghost use Rattle.split_arg.specs.Order.{CanLookUp};
 ghost use Rattle.split_group.specs.Groups.{ArgumentFits, Makes};
 ghost use Rattle.state_marks.specs.Lent.{raw_of};
@@ -12,7 +12,7 @@ ghost use Rattle.split_args.specs.Construct.{group_at, plain_argument, starting_
 ghost use Rattle.split_args.specs.Construct.{MarkerWithin, Unmarked, SheetAndRoom, SplitWrites, SplitEnds};
 
 use rules::State;
-use split_arg::ITEMS;
+use split_arg::{ITEMS, Letters};
 use split_group::Group;
 use state_marks::{MARKER, Numbers};
 
@@ -36,24 +36,23 @@ fn next_group(
     os: &[u8],
     begin: usize,
     marker: usize,
-    flags: &[u32],
-    arguments: &[u32],
+    letters: &Letters,
     items: &mut [u32],
     at: usize,
 ) -> Group
-    requires { ArgumentFits os.now begin at × CanLookUp flags.now arguments.now }
-    ensures { Makes os.now begin at items.old items.new result (group_at (letters flags.now arguments.now) marker os.now) }
+    requires { ArgumentFits os.now begin at × CanLookUp letters.now.flags.now letters.now.arguments.now }
+    ensures { Makes os.now begin at items.old items.new result (group_at (meaning letters.now) marker os.now) }
 {
     if marker == 0 {
-        return split_group::split_argument(os, begin, flags, arguments, items, at);
+        return split_group::split_argument(os, begin, letters, items, at);
     }
     split_group::split_positional(os, begin, items, at)
 }
 
 // The loop over the arguments. `at` is the place of the next item. What stands behind the records of the items is of no use.
-fn split_arguments(sheet: &[u8], flags: &[u32], arguments: &[u32], items: &mut [u32]) -> Ended
-    requires { SheetAndRoom sheet.now items.old × CanLookUp flags.now arguments.now }
-    ensures { SplitWrites (letters flags.now arguments.now) sheet.now items.new result }
+fn split_arguments(sheet: &[u8], letters: &Letters, items: &mut [u32]) -> Ended
+    requires { SheetAndRoom sheet.now items.old × CanLookUp letters.now.flags.now letters.now.arguments.now }
+    ensures { SplitWrites (meaning letters.now) sheet.now items.new result }
 {
     let n = wire::u16_at(sheet, 0) as usize;
     let mut at = 0;
@@ -61,7 +60,7 @@ fn split_arguments(sheet: &[u8], flags: &[u32], arguments: &[u32], items: &mut [
     for k in 0..n {
         let begin = wire::offset_at(sheet, 2, k);
         let os = wire::entry(sheet, 2, n, k);
-        let group = next_group(os, begin, marker, flags, arguments, items, at);
+        let group = next_group(os, begin, marker, letters, items, at);
         let count = group.count;
         if ITEMS - at < count {
             return Ended {
@@ -71,11 +70,10 @@ fn split_arguments(sheet: &[u8], flags: &[u32], arguments: &[u32], items: &mut [
                 marker: 0,
             };
         }
-        let ambiguous = group.ambiguous;
-        if 0 < ambiguous {
+        if let Some(i) = group.ambiguous {
             return Ended {
                 number: AMBIGUOUS,
-                place: (at + ambiguous) as u32,
+                place: (at + i + 1) as u32,
                 count: (at + count) as u32,
                 marker: 0,
             };
@@ -95,11 +93,11 @@ fn split_arguments(sheet: &[u8], flags: &[u32], arguments: &[u32], items: &mut [
 
 // The items of a sheet, and zeros behind them: no word is cleared that a record is written to. What the state starts as is told by
 // their count and by the place of the first `--`.
-pub fn construct(sheet: &[u8], flags: &[u32], arguments: &[u32], items: &mut [u32]) -> Ended
-    requires { SheetAndRoom sheet.now items.old × CanLookUp flags.now arguments.now }
-    ensures { SplitEnds (letters flags.now arguments.now) sheet.now (length items.old) items.new result }
+pub fn construct(sheet: &[u8], letters: &Letters, items: &mut [u32]) -> Ended
+    requires { SheetAndRoom sheet.now items.old × CanLookUp letters.now.flags.now letters.now.arguments.now }
+    ensures { SplitEnds (meaning letters.now) sheet.now (length items.old) items.new result }
 {
-    let split = split_arguments(sheet, flags, arguments, items);
+    let split = split_arguments(sheet, letters, items);
     let end = 7 * split.count as usize;
     wire::fill(items, end, items.len() - end, 0);
     split

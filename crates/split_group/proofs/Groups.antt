@@ -7,9 +7,8 @@ use Prim.Native.Nat.{ℕ, zero, suc, ◌+◌, ◌-◌, ◌^◌, ◌≤◌, ◌<�
 use native.Mathlib.Omega.{arith}
 use lib.Dec.{eqb}
 use lib.Pointwise.{pointwise}
-use lib.ListN.{length, get_or, take, drop, length-drop, length-append, length-map}
+use lib.ListN.{length, take, drop, length-drop, length-append, length-map}
 use lib.Seq.{length-take-le, take_all, drop-drop}
-use borrow.Author.Tests.{eq-eqb, ne_eqb}
 use Rattle.utf8.specs.Utf8.{decode, decode_at, well_formed}
 use Rattle.utf8.specs.Laws.{well_formed_bad}
 use Rattle.std.specs.Prelude.{Option as CodeOption, Some, None}
@@ -42,7 +41,7 @@ use Rattle.split_group.proofs.Records.{flags_count}
 
 -- ---- a group whose items are known
 pub makes :
-    (os : List ℕ) (begin at : ℕ) (o p : List ℕ) (r : Group) (n a : ℕ) (w : List ℕ) (x : Outcome Meaning) (g : Meaning)
+    (os : List ℕ) (begin at : ℕ) (o p : List ℕ) (r : Group) (n : ℕ) (a : CodeOption ℕ) (w : List ℕ) (x : Outcome Meaning) (g : Meaning)
     → Puts o at p r n a w
     → x ≡ ok g
     → record { count = n; ambiguous = a; marker = false } ≡ told g
@@ -65,23 +64,23 @@ makes_same os begin at o p r x y z e = record { group = z.group; same = e ∙ z.
 module _ (os : List ℕ) (begin at : ℕ) (o p : List ℕ) (r : Group) (x : Outcome Meaning) where
   pub makes_one :
       (i : rules.Item) (j : Item)
-      → Puts o at p r 1 0 (record_of j)
+      → Puts o at p r 1 None (record_of j)
       → x ≡ ok (plain (i ∷ []))
       → item_words begin (begin + length os) i ≡ record_of j
       → Makes os begin at o p r x
   unfolding plain concat_map
-  makes_one i j z e q = makes os begin at o p r 1 0 (record_of j) x (plain (i ∷ [])) z e refl (sym (append-nil _ ∙ q))
+  makes_one i j z e q = makes os begin at o p r 1 None (record_of j) x (plain (i ∷ [])) z e refl (sym (append-nil _ ∙ q))
 
   pub makes_two :
       (i k : rules.Item) (j l : Item)
-      → Puts o at p r 2 0 (record_of j ++ record_of l)
+      → Puts o at p r 2 None (record_of j ++ record_of l)
       → x ≡ ok (plain (i ∷ k ∷ []))
       → item_words begin (begin + length os) i ≡ record_of j
       → item_words begin (begin + length os) k ≡ record_of l
       → Makes os begin at o p r x
   unfolding plain concat_map
   makes_two i k j l z e q s =
-      makes os begin at o p r 2 0 (record_of j ++ record_of l) x (plain (i ∷ k ∷ [])) z e refl
+      makes os begin at o p r 2 None (record_of j ++ record_of l) x (plain (i ∷ k ∷ [])) z e refl
       (sym (ap₂ (λ (v w : List ℕ). v ++ w) q (append-nil _ ∙ s)))
 
 -- ---- `--`
@@ -102,25 +101,25 @@ module _ (os : List ℕ) (begin at : ℕ) (o p : List ℕ) (g : Group) (whole : 
 
   pub a_marker :
       same os (dash ∷ dash ∷ []) ≡ true
-      → Puts o at p g 1 0 (record_of (PosWord whole))
-      → Makes os begin at o p (record { count = g.count; ambiguous = 0; marker = true }) (ok (word_group os))
+      → Puts o at p g 1 None (record_of (PosWord whole))
+      → Makes os begin at o p (record { count = g.count; ambiguous = g.ambiguous; marker = true }) (ok (word_group os))
   unfolding word_group concat_map
   a_marker s z =
       rw (s, word_group)
       (record {
         group = record { items = rules.PosWord os ∷ []; ambiguous = none; marker = true };
         same = refl;
-        told≡ = ap (λ (n : ℕ). record { count = n; ambiguous = 0; marker = true }) (ap (λ (y : Group). y.count) z.group);
+        told≡ = ap (λ (y : Group). record { count = y.count; ambiguous = y.ambiguous; marker = true }) z.group;
         words = z.words≡ ∙ ap (λ (w : List ℕ). stored o at 1 w) (sym (append-nil _ ∙ pos_word_record begin (begin + length os) os whole text));
       })
 
-  pub a_word : same os (dash ∷ dash ∷ []) ≡ false → Puts o at p g 1 0 (record_of (Word whole)) → Makes os begin at o p g (ok (word_group os))
+  pub a_word : same os (dash ∷ dash ∷ []) ≡ false → Puts o at p g 1 None (record_of (Word whole)) → Makes os begin at o p g (ok (word_group os))
   unfolding word_group
   a_word s z =
       makes_one os begin at o p g (ok (word_group os)) (rules.Word os) (Word whole) z (rw (s, word_group))
       (word_record begin (begin + length os) os whole text)
 
-  pub a_positional : Puts o at p g 1 0 (record_of (PosWord whole)) → Makes os begin at o p g (ok (plain (rules.PosWord os ∷ [])))
+  pub a_positional : Puts o at p g 1 None (record_of (PosWord whole)) → Makes os begin at o p g (ok (plain (rules.PosWord os ∷ [])))
   a_positional z =
       makes_one os begin at o p g (ok (plain (rules.PosWord os ∷ []))) (rules.PosWord os) (PosWord whole) z refl
       (pos_word_record begin (begin + length os) os whole text)
@@ -131,7 +130,7 @@ module _ (os : List ℕ) (begin at : ℕ) (o p : List ℕ) (g : Group) (whole : 
       → value ≡ part_of (begin + body) (length os - body)
       → body ≤ length os
       → decode_at (take 1 (drop 1 os)) 0 ≡ Some c
-      → Puts o at p g 2 0 (record_of (Short c.value true whole) ++ record_of (ArgWord value))
+      → Puts o at p g 2 None (record_of (Short c.value true whole) ++ record_of (ArgWord value))
       → (l : Letters)
       → Makes os begin at o p g (short_group l os (take 1 (drop 1 os)) (some (drop body os)))
   unfolding short_group decode_at
@@ -147,7 +146,7 @@ module _ (os : List ℕ) (begin at : ℕ) (o p : List ℕ) (g : Group) (whole : 
         (n : ℕ) (name : Part)
         → q ≡ Some (P.Long n)
         → name ≡ part_of (begin + 2) (n + 2 - 2)
-        → Puts o at p g 1 0 (record_of (Long name false whole))
+        → Puts o at p g 1 None (record_of (Long name false whole))
         → Makes os begin at o p g (split_argument l os)
     unfolding split_argument parts_group long_group ◌>>=◌
     a_long n name f m z =
@@ -161,7 +160,7 @@ module _ (os : List ℕ) (begin at : ℕ) (o p : List ℕ) (g : Group) (whole : 
         → q ≡ Some (P.LongBody n body)
         → name ≡ part_of (begin + 2) (n + 2 - 2)
         → value ≡ part_of (begin + body) (length os - body)
-        → Puts o at p g 2 0 (record_of (Long name true whole) ++ record_of (ArgWord value))
+        → Puts o at p g 2 None (record_of (Long name true whole) ++ record_of (ArgWord value))
         → Makes os begin at o p g (split_argument l os)
     unfolding split_argument parts_group long_group ◌>>=◌
     a_long_value n body name value f m v z =
@@ -326,9 +325,6 @@ module _
     pub rest_fits : (n c k : ℕ) → r ≡ Argument n c k → k + 1 < 2 ^ 64
     rest_fits n c k e = omega (arith, rest_within n c k e, h.fits.small)
 
-    pub count_fits : (n : ℕ) → r ≡ Ambiguous n → n + 1 < 2 ^ 64
-    count_fits n e = omega (arith, (flags_ambiguous n e).short, bytes, h.fits.small)
-
     first_count : (n : ℕ) → n ≤ length d.all → length (take n (characters d.all)) ≡ n
     unfolding characters
     first_count n f = length-take-le n _ (omega (arith, length-map d.all (λ (x : Letter). x.character)))
@@ -346,31 +342,31 @@ module _
           ≡ concat_map (item_words begin (begin + length os)) (flag_items os (take n (characters d.all)))
       flags_are n = rw all_letters (sym (flag_records begin (begin + length os) os whole (take n (characters d.all)) all_text))
 
-      pub one_letter : (c : ℕ) → r ≡ Single c → Puts o at p g 1 0 (record_of (Short c false whole)) → Out
+      pub one_letter : (c : ℕ) → r ≡ Single c → Puts o at p g 1 None (record_of (Short c false whole)) → Out
       unfolding cluster_group cluster_items ambiguous_at concat_map
       one_letter c f z =
-          makes os begin at o p g 1 0 _ _ _ z (cluster_is (Single c) f) refl
+          makes os begin at o p g 1 None _ _ _ z (cluster_is (Single c) f) refl
           (sym (append-nil _ ∙ short_record begin (begin + length os) os whole all_text c false))
 
-      pub unknown_letter_lem : (k : ℕ) → r ≡ Withdrawn k → Puts o at p g 1 0 (record_of (Word whole)) → Out
+      pub unknown_letter_lem : (k : ℕ) → r ≡ Withdrawn k → Puts o at p g 1 None (record_of (Word whole)) → Out
       unfolding cluster_group cluster_items ambiguous_at concat_map
       unknown_letter_lem k f z =
-          makes os begin at o p g 1 0 _ _ _ z (cluster_is (Withdrawn k) f) refl
+          makes os begin at o p g 1 None _ _ _ z (cluster_is (Withdrawn k) f) refl
           (sym (append-nil _ ∙ word_record begin (begin + length os) os whole all_text))
 
-      pub all_flags_lem : (n : ℕ) → r ≡ AllFlags n → Puts o at p g n 0 (flag_words whole (first_letters name n)) → Out
+      pub all_flags_lem : (n : ℕ) → r ≡ AllFlags n → Puts o at p g n None (flag_words whole (first_letters name n)) → Out
       unfolding cluster_group cluster_items ambiguous_at
       all_flags_lem n f z =
           let cs = take n (characters d.all) in
           let size : length (flag_items os cs) ≡ n = flags_count os cs ∙ first_count n (omega (arith, counted (AllFlags n) f)) in
-          makes os begin at o p g n 0 _ _ _ z (cluster_is (AllFlags n) f)
-          (ap (λ (m : ℕ). record { count = m; ambiguous = 0; marker = false }) (sym size))
+          makes os begin at o p g n None _ _ _ z (cluster_is (AllFlags n) f)
+          (ap (λ (m : ℕ). record { count = m; ambiguous = None; marker = false }) (sym size))
           (flags_are n)
 
       pub ambiguous_letter_lem :
           (n : ℕ)
           → r ≡ Ambiguous n
-          → Puts o at p g (n + 1) (n + 1) (flag_words whole (first_letters name n) ++ record_of (Word whole))
+          → Puts o at p g (n + 1) (Some n) (flag_words whole (first_letters name n) ++ record_of (Word whole))
           → Out
       unfolding cluster_group cluster_items ambiguous_at concat_map
       ambiguous_letter_lem n f z =
@@ -378,9 +374,8 @@ module _
           let count = first_count n (omega (arith, counted (Ambiguous n) f)) in
           let size : n + 1 ≡ length (flag_items os cs ++ (rules.Word os ∷ [])) =
           omega (arith, length-append (flag_items os cs) (rules.Word os ∷ []), flags_count os cs) in
-          let place : n + 1 ≡ suc (length cs) = omega arith in
-          makes os begin at o p g (n + 1) (n + 1) _ _ _ z (cluster_is (Ambiguous n) f)
-          (ap₂ (λ (m a : ℕ). record { count = m; ambiguous = a; marker = false }) size place)
+          makes os begin at o p g (n + 1) (Some n) _ _ _ z (cluster_is (Ambiguous n) f)
+          (ap₂ (λ (m a : ℕ). record { count = m; ambiguous = Some a; marker = false }) size (sym count))
           (sym (concat_append (item_words begin (begin + length os)) (flag_items os cs) (rules.Word os ∷ [])
           ∙ ap₂ (λ (v w : List ℕ). v ++ w) (sym (flags_are n)) (append-nil _ ∙ word_record begin (begin + length os) os whole all_text)))
 
@@ -397,12 +392,12 @@ module _
             → argument_items os c (drop k name) ≡ is
             → m ≡ n + length is
             → w ≡ concat_map (item_words begin (begin + length os)) is
-            → Puts o at p g m 0 (flag_words whole (first_letters name n) ++ w)
+            → Puts o at p g m None (flag_words whole (first_letters name n) ++ w)
             → Out
         unfolding cluster_group cluster_items ambiguous_at cs
         makes_argument m w is i size q z =
-            makes os begin at o p g m 0 _ _ _ z (cluster_is (Argument n c k) f)
-            (ap (λ (j : ℕ). record { count = j; ambiguous = 0; marker = false })
+            makes os begin at o p g m None _ _ _ z (cluster_is (Argument n c k) f)
+            (ap (λ (j : ℕ). record { count = j; ambiguous = None; marker = false })
             (let j : m ≡ length (flag_items os cs ++ argument_items os c (drop k name)) =
             omega (arith, length-append (flag_items os cs) (argument_items os c (drop k name)), ap length i, flags_count os cs, argument_count_lem) in j))
             (sym (concat_append (item_words begin (begin + length os)) (flag_items os cs) (argument_items os c (drop k name))
@@ -411,7 +406,7 @@ module _
 
         pub argument_alone :
             k + 1 ≡ length os
-            → Puts o at p g (n + 1) 0 (flag_words whole (first_letters name n) ++ record_of (Short c false whole))
+            → Puts o at p g (n + 1) None (flag_words whole (first_letters name n) ++ record_of (Short c false whole))
             → Out
         unfolding argument_items concat_map
         argument_alone s z =
@@ -423,7 +418,7 @@ module _
             (value : Part)
             → (k + 1 ≡ length os → ⊥)
             → value ≡ part_of (begin + (k + 1)) (length os - (k + 1))
-            → Puts o at p g (n + 2) 0 (flag_words whole (first_letters name n) ++ (record_of (Short c true whole) ++ record_of (Word value)))
+            → Puts o at p g (n + 2) None (flag_words whole (first_letters name n) ++ (record_of (Short c true whole) ++ record_of (Word value)))
             → Out
         unfolding argument_items concat_map
         argument_rest value s v z =

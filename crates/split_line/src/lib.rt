@@ -8,6 +8,7 @@ ghost use Rattle.form_codes.specs.Codes.{CodedNames};
 ghost use Rattle.split_args.specs.Construct.{SplitEnds};
 ghost use Rattle.split_line.specs.Input.{Splittable};
 
+use split_arg::Letters;
 use split_args::Ended;
 
 fn no_letters() -> [u32; 128]
@@ -26,7 +27,11 @@ fn split_clusters(form: &[u8], codes: &[u32], sheet: &[u8], items: &mut [u32]) -
     let counts = form_letters::letters(form, codes, &mut flags, &mut arguments);
     let n = counts.flags;
     let m = counts.arguments;
-    split_args::construct(sheet, &flags[0..n], &arguments[0..m], items)
+    let letters = Letters {
+        flags: &flags[0..n],
+        arguments: &arguments[0..m],
+    };
+    split_args::construct(sheet, &letters, items)
 }
 
 // The short names of the form are given as numbers. The letters are worked out only where one can be looked up.
@@ -35,7 +40,11 @@ pub fn split(form: &[u8], codes: &[u32], sheet: &[u8], items: &mut [u32]) -> End
     ensures { SplitEnds (letters_of (read_form form.now)) sheet.now (length items.old) items.new result }
 {
     if split_args::all_plain(sheet) {
-        return split_args::construct(sheet, &codes[0..0], &codes[0..0], items);
+        let none = Letters {
+            flags: &[],
+            arguments: &[],
+        };
+        return split_args::construct(sheet, &none, items);
     }
     split_clusters(form, codes, sheet, items)
 }

@@ -12,11 +12,11 @@ construct-requires g c = (search rules, search rising_letters)
 pub returns : goal.returns
 returns g c = λ cs fs reads accepts. search split_forms
 
-pub shared_whole_as_front-construct : goal.shared_whole_as_front-construct
-shared_whole_as_front-construct g c = (omega (arith, c.gather-counts.ensures.gathered.holds.fits, length-replicate {A = ℕ} g.row.N 0), omega arith)
+pub shared_whole_as_front-letters : goal.shared_whole_as_front-letters
+shared_whole_as_front-letters g c = (omega (arith, c.gather-counts.ensures.gathered.holds.fits, length-replicate {A = ℕ} g.row.N 0), omega arith)
 
-pub shared_whole_as_front-construct-2 : goal.shared_whole_as_front-construct-2
-shared_whole_as_front-construct-2 g c = (omega (arith, c.gather-counts.ensures.gathered_2.holds.fits, length-replicate {A = ℕ} g.row.N 0), omega arith)
+pub shared_whole_as_front-letters-2 : goal.shared_whole_as_front-letters-2
+shared_whole_as_front-letters-2 g c = (omega (arith, c.gather-counts.ensures.gathered_2.holds.fits, length-replicate {A = ℕ} g.row.N 0), omega arith)
 
 pub whole_as_slice-gather : goal.whole_as_slice-gather
 whole_as_slice-gather g c = omega arith

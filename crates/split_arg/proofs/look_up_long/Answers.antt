@@ -1,5 +1,4 @@
 use mathlib.Core.Path.{sym, ◌∙◌}
-use Prim.Native.Nat.{◌-◌}
 use native.Mathlib.Omega.{arith}
 use Rattle.utf8.specs.Laws.{character}
 use Rattle.split_arg.proofs.LookUp.{looked_first, all_flags_lem, both, an_argument, neither, a_flag}

@@ -1,5 +1,4 @@
 use mathlib.Core.Path.{sym, ◌∙◌}
-use Prim.Native.Nat.{◌-◌}
 use native.Mathlib.Omega.{arith}
 use Rattle.utf8.specs.Laws.{character}
 use Rattle.split_group.proofs.Flags.{wrote_none, wrote_more, wrote_all, letter_there}
