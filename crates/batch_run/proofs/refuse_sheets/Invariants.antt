@@ -3,6 +3,7 @@ use mathlib.Core.List.{List}
 use mathlib.Core.Path.{◌≡◌}
 use Rattle.rules.specs.Accept.{check_form}
 use Rattle.rules.specs.Codes.{check_code}
+use Rattle.rules.specs.Reported.{told}
 use Rattle.rules.specs.Batch.{sheet_count}
 use Rattle.batch_run.specs.Sheets.{SheetsRan}
 use Rattle.batch_run.proofs.Parts.{LengthsKept}
@@ -11,5 +12,5 @@ use Rattle.batch_run.proofs.refuse_sheets.Given as goal
 abbrev pub invariant-loop-k : goal.invariant-loop-k
 invariant-loop-k l =
     (l.k-end ≡ sheet_count l.batch) × LengthsKept l.initial.records l.records l.initial.items l.items l.initial.answers l.answers l.initial.list l.list
-    × ((form : List ℕ) → l.fault ≡ check_code (check_form form) → (l.fault.number ≡ 0 → ⊥) → SheetsRan form l.batch l.k l.initial.records l.records l.initial.items l.items l.initial.answers l.answers
+    × ((form : List ℕ) → told l.fault ≡ check_code (check_form form) → SheetsRan form l.batch l.k l.initial.records l.records l.initial.items l.items l.initial.answers l.answers
     l.initial.list l.list)
