@@ -24,14 +24,11 @@ pub fn form_end(input: &[u8]) -> usize
         return input.len();
     }
     let end = form_length(input);
-    if input.len() < end {
+    // The first `end` bytes have the length that their counts say, so only the counts' limits are left to test.
+    if input.len() < end || !form_layout::length_good(&input[..end]) {
         return input.len();
     }
-    // These bytes have the length that their counts say, so only the counts' limits are left to test.
-    if form_layout::length_good(&input[..end]) {
-        return end;
-    }
-    input.len()
+    end
 }
 
 pub fn form_part(input: &[u8]) -> &[u8]

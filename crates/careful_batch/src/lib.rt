@@ -15,26 +15,16 @@ use run_fields::ANSWER_WORDS;
 use split_arg::ITEM_WORDS;
 use wire::wide;
 
-// The most items of a line.
-const ITEMS: usize = 256;
-
 // How many items a part holds. A record does not say so: a kind of 0 ends them. By halves, since a loop over all of them would cost a
-// third of what looking at them does; and by hand, since partition_point wants a slice of records, and this is one of words.
+// third of what looking at them does.
 fn item_count(items: &[u32]) -> usize
     requires { KindsFirst items.now }
     ensures { CountsItems items.now result }
 {
-    let mut low = 0;
-    let mut high = ITEMS;
-    while low < high {
-        let middle = low + (high - low) / 2;
-        if items[7 * middle] != 0 {
-            low = middle + 1;
-        } else {
-            high = middle;
-        }
-    }
-    low
+    items[..ITEM_WORDS]
+        .as_chunks::<7>()
+        .0
+        .partition_point(|item| item[0] != 0)
 }
 
 // The lowest misread place plus 1, or 0 for none.

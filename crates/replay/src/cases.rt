@@ -70,10 +70,7 @@ fn split(form: &[u8], sheet: &[u8], numbers: &[u8], words: &[u8]) -> bool
     let split = call_check::split(form, sheet, &mut items);
     let s = split.state;
     let told = [split.number, split.place, 0, 0, 0, 0, 0];
-    if !words::answer_same(numbers, told, s) {
-        return false;
-    }
-    words::words_same(words, 0, &items)
+    words::answer_same(numbers, told, s) && words::words_same(words, 0, &items)
 }
 
 // The answer, and the answer slice.
@@ -86,10 +83,7 @@ fn run(form: &[u8], sheet: &[u8], numbers: &[u8], words: &[u8]) -> bool
     let ran = run::run(form, sheet, &mut items, &mut answers, &mut list);
     let s = ran.state;
     let told = [ran.number, ran.place, ran.tries, ran.words, 0, 0, 0];
-    if !words::answer_same(numbers, told, s) {
-        return false;
-    }
-    words::words_same(words, 0, &answers)
+    words::answer_same(numbers, told, s) && words::words_same(words, 0, &answers)
 }
 
 // A call on the states that are given.
