@@ -186,11 +186,12 @@ module _ (b s is os : List ℕ) (r : Reached) where
         run_explains x =
             misread_asked b s x.items₀ x.answers₀ x.list₀ (answer_of r x.marks) is os x.list x.ran n count c p h e
 
-        pub looks_misread : (u : CodeOption ℕ) → UnknownTold b s is p u → (k : ℕ) → k ≡ letter_code u → (a : List ℕ) → a ≡ sets os 0 (replicate (length os) 0)
-            → LooksAtRun b s is os r a (record { number = 50; place = p + 1; words = 0; letter = k })
-        looks_misread u t k d a z = record {
+        pub looks_misread : (u : CodeOption ℕ) → UnknownTold b s is p u → (f : ℕ) → f ≡ 50 → (k : ℕ) → k ≡ letter_code u
+            → (a : List ℕ) → a ≡ sets os 0 (replicate (length os) 0)
+            → LooksAtRun b s is os r a (record { number = f; place = p + 1; words = 0; letter = k })
+        looks_misread u t f g k d a z = rw g (record {
           same = λ ni na nl m ls ran. answer_misread b s ni na nl (answer_of r m) is os ls ran n count c p h e u t k d a z;
-        }
+        })
 
 -- ---- and with the state put together
 pub run_looked :

@@ -3,14 +3,14 @@
 
 ghost use Rattle.std.specs.Prelude.{◌≡◌, ◌≤◌, length, replicate};
 ghost use Rattle.std.proofs.Math.Option.{some};
+ghost use Rattle.rules.specs.Reported.{tested};
 ghost use Rattle.rules_careful.specs.CarefulBatch.{careful_batch};
 ghost use Rattle.batch_parts.specs.Parts.{PartFits, Replaced};
 ghost use Rattle.batch_run.specs.Told.{batch_answer};
 ghost use Rattle.careful_batch.specs.Looked.{CountsItems, KindsFirst, HasRun, MisreadTold, refused_words, HoldsWords, HasPart, LookedPart, HasBatch, LookedBatch};
 
 use batch_check::RECORD_WORDS;
-use careful::MISREAD;
-use rules::Refused;
+use rules::Refusal;
 use run_fields::ANSWER_WORDS;
 use split_arg::ITEM_WORDS;
 use wire::wide;
@@ -48,7 +48,7 @@ fn refuse_part(k: usize, place: u32, records: &mut [u32], answers: &mut [u32])
 {
     let at = RECORD_WORDS * k;
     let words = wide(records[at + 3]);
-    records[at] = MISREAD;
+    records[at] = Refusal::Misread.number();
     records[at + 1] = place;
     records[at + 3] = 0;
     wire::fill(answers, ANSWER_WORDS * k, words, 0);
@@ -90,13 +90,10 @@ pub fn careful_batch(
     items: &mut [u32],
     answers: &mut [u32],
     list: &mut [u32],
-) -> Refused
-    ensures { batch_answer (careful_batch form.now batch.now (length records.old) (length items.old) (length answers.old) (length list.old)) ≡ some (record { answer = result; records = records.new; items = items.new; answers = answers.new; list = list.new }) }
+) -> Result<(), Refusal>
+    ensures { batch_answer (careful_batch form.now batch.now (length records.old) (length items.old) (length answers.old) (length list.old)) ≡ some (record { answer = record { number = tested result; place = 0 }; records = records.new; items = items.new; answers = answers.new; list = list.new }) }
 {
-    let refused = batch_run::run_batch(form, batch, records, items, answers, list);
-    if refused.number != 0 {
-        return refused;
-    }
+    batch_run::run_batch(form, batch, records, items, answers, list)?;
     look_sheets(batch, records, items, answers);
-    refused
+    Ok(())
 }

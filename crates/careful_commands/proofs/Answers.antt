@@ -235,11 +235,12 @@ module _ (t s is os : List ℕ) (r : Commanded) where
         pub run_place : CanLookAtTable t s is os r → MisreadPlace t s is p
         run_place x = place t s x.items₀ x.answers₀ x.list₀ (answer_of r x.marks) is os x.list x.ran n count c p h e
 
-        pub looks_misread : (u : CodeOption ℕ) → MisreadTold t s is p u → (k : ℕ) → k ≡ letter_code u → (a : List ℕ) → a ≡ sets os 0 (replicate (length os) 0)
-            → LooksAtTableRun t s is os r a (record { number = 50; place = p + 1; words = 0; letter = k })
-        looks_misread u told k d a z = record {
+        pub looks_misread : (u : CodeOption ℕ) → MisreadTold t s is p u → (f : ℕ) → f ≡ 50 → (k : ℕ) → k ≡ letter_code u
+            → (a : List ℕ) → a ≡ sets os 0 (replicate (length os) 0)
+            → LooksAtTableRun t s is os r a (record { number = f; place = p + 1; words = 0; letter = k })
+        looks_misread u told f g k d a z = rw g (record {
           same = λ ni na nl m ls ran. answer_misread t s ni na nl (answer_of r m) is os ls ran n count c p h e u told k d a z;
-        }
+        })
 
 -- ---- and with the state put together
 pub run_looked :

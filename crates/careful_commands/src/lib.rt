@@ -7,10 +7,10 @@ ghost use Rattle.std.proofs.Math.Option.{some};
 ghost use Rattle.rules_careful.specs.CarefulCommands.{careful_commands};
 ghost use Rattle.careful_commands.specs.Looked.{MisreadPlace, MisreadTold, CanLookAtTable, LooksAtTableRun, careful_commands_answer};
 
-use careful::{Looked, MISREAD, as_run};
+use careful::{Looked, as_run};
 use command_run::Commanded;
 use form_letters::Counts;
-use rules::State;
+use rules::{Refusal, State};
 use run_fields::Reached;
 use split_arg::Item;
 use wire::wide;
@@ -70,7 +70,7 @@ fn look(table: &[u8], sheet: &[u8], items: &[u32], answers: &mut [u32], ran: Com
     wire::fill(answers, 0, answers.len(), 0);
     let letter = word_letter(table, sheet, items, place);
     Looked {
-        number: MISREAD,
+        number: Refusal::Misread.number(),
         place: place as u32 + 1,
         words: 0,
         letter: careful::letter_code(letter),
