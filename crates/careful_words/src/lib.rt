@@ -13,7 +13,7 @@ const WORD: u32 = 4;
 const RECORD: usize = 7;
 
 // Whether the item at a place is a Word that begins with a dash and is longer than `-`. It reads no more of the record than it needs:
-// most items are done with after a word or two.
+// most items are done with after a word or two. Three returns: joined by `&&`, the bounds of the last read would be told at each test.
 fn looks_like_options(sheet: &[u8], area: usize, items: &[u32], place: usize, count: usize) -> bool
     requires { HasLine sheet.now items.now count × (place < count) × (area ≡ area_start 2 (argument_count sheet.now)) }
     ensures { WordLooks sheet.now items.now count (7 * place) result }

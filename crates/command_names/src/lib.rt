@@ -13,7 +13,8 @@ ghost use Rattle.command_names.specs.Trying.{CanTry, type_candidates, none_taken
 
 use state_marks::{COMMAND, Numbers};
 
-// `entry` is the number of the entry whose name was taken plus 1, or 0; `comparisons` is how many names were compared.
+// `entry` is the number of the entry whose name was taken plus 1, or 0, which `place_of` of the rules reads; `comparisons` is how many
+// names were compared.
 #[derive(Clone, Copy)]
 pub struct Tried {
     pub entry: u32,

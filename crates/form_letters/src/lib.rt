@@ -33,7 +33,7 @@ fn mark(classes: &mut [u8; 128], bit: u8, first: usize, end: usize)
     }
 }
 
-// A flag (kind 1) or an argument (kind 2) marks its names; the kind is the bit.
+// A flag (kind 1) or an argument (kind 2) marks its names; the kind is the bit, and by the test before it the cast keeps it.
 fn mark_node(x: form_layout::Node, count: usize, classes: &mut [u8; 128])
     requires { (count ≤ 128) × (length classes.old ≡ 128) }
     ensures { (xs : List RulesNode) → Classed xs count classes.old → Classed (xs ++ (node_of x ∷ [])) count classes.new }

@@ -85,7 +85,8 @@ pub fn names_fault(records: &[u8], area: &[u8], count: usize) -> usize
     count
 }
 
-// Whether a character is one of 0..9, A..Z, a..z, and not W, which is reserved for vendor options.
+// Whether a character is one of 0..9, A..Z, a..z, and not W, which is reserved for vendor options. An arm for each: two must-fail edits
+// change one of them.
 fn portable_character(c: u32) -> bool
     ensures { result ≡ portable_character c }
 {

@@ -126,7 +126,7 @@ fn answered(tries: u32, words: usize, numbers: Numbers) -> Reached
     }
 }
 
-// A table of which nodes each item matches, as yet empty.
+// A table of which nodes each item matches, as yet empty. A literal with a contract, for `run` and `call_node`.
 pub fn nothing_known() -> [u64; TABLE_WORDS]
     ensures { result ≡ replicate 257 0 }
 {

@@ -11,19 +11,13 @@ ghost use Rattle.split_line.specs.Input.{Splittable};
 use split_arg::Letters;
 use split_args::Ended;
 
-fn no_letters() -> [u32; 128]
-    ensures { result ≡ replicate 128 0 }
-{
-    [0u32; 128]
-}
-
 // The same as `split`, with the letters of the form worked out.
 fn split_clusters(form: &[u8], codes: &[u32], sheet: &[u8], items: &mut [u32]) -> Ended
     requires { Splittable form.now sheet.now items.old × CodedNames form.now codes.now }
     ensures { SplitEnds (letters_of (read_form form.now)) sheet.now (length items.old) items.new result }
 {
-    let mut flags = no_letters();
-    let mut arguments = no_letters();
+    let mut flags = [0u32; 128];
+    let mut arguments = [0u32; 128];
     let counts = form_letters::letters(form, codes, &mut flags, &mut arguments);
     let n = counts.flags;
     let m = counts.arguments;

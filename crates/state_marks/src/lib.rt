@@ -98,7 +98,7 @@ pub fn field_mark(number: usize) -> u16
     FIELD + number as u16
 }
 
-// The first unused place from `from` on; `end` if there is none below it.
+// The first unused place from `from` on; `end` if there is none below it: that is the end of the scope.
 pub fn first_present(marks: &[u16], from: usize, end: usize) -> usize
     requires { (from ≤ end) × (end ≤ length marks.now) }
     ensures { result ≡ first_or end (present_from marks.now (end - from) from) }
@@ -154,7 +154,8 @@ fn same_block(a: &[u16], b: &[u16], from: usize) -> bool
     same
 }
 
-// A place below which the marks are the same in both: as many blocks of 16 as are.
+// A place below which the marks are the same in both: as many blocks of 16 as are. A while: its place is the answer wherever it ends,
+// and a `for` over the blocks would work it out from the block's number at each of two ways out.
 fn same_blocks(a: &[u16], b: &[u16], count: usize) -> usize
     requires { (count ≤ length a.now) × (count ≤ length b.now) × (count ≤ 256) }
     ensures { (result ≤ count) × Alike a.now b.now 0 result }

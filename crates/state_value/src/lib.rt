@@ -67,7 +67,7 @@ pub fn set_scope(s: State, from: usize, to: usize) -> State
     }
 }
 
-// The first place from `from` on that is present in both; `count` if there is none below it.
+// The first place from `from` on that is present in both; `count` if there is none below it: a scope goes up to there.
 fn until_present(a: &[u16], b: &[u16], from: usize, count: usize) -> usize
     requires { (from ≤ count) × (count ≤ length a.now) × (count ≤ length b.now) }
     ensures { Until a.now b.now from count result }
@@ -96,7 +96,7 @@ pub fn adjacent_scope(s: State, original: State) -> Option<Scope>
     })
 }
 
-// The first used place from `from` on; `count` if there is none below it.
+// The first used place from `from` on; `count` if there is none below it: a scope goes up to there.
 fn span_end(marks: &[u16], from: usize, count: usize) -> usize
     requires { (from ≤ count) × (count ≤ length marks.now) }
     ensures { SpanEnd marks.now from count result }

@@ -52,7 +52,7 @@ fn same_name(sheet: &[u8], items: &[u32], i: usize, j: usize) -> bool
     }
 }
 
-// The nearest earlier place with the same name, plus 1, or 0 for none.
+// The nearest earlier place with the same name, plus 1, or 0 for none, which `place_of` of the rules reads.
 pub fn earlier(sheet: &[u8], items: &[u32], place: usize) -> usize
     requires { HasPlace sheet.now items.now place }
     ensures { Earlier (sheet_area sheet.now) items.now place result }

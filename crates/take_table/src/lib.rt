@@ -22,7 +22,7 @@ pub const TABLE_WORDS: usize = 257;
 
 const ALL_ITEMS: usize = 0;
 
-// ---- sets of nodes as the bits of a word
+// ---- sets of nodes as the bits of a word. Functions, not the operators in place: their callers cite what these mean for a member.
 
 // Whether n is in the set.
 fn has(set: u64, n: usize) -> bool
@@ -54,7 +54,7 @@ const MOST_NAMES: usize = 128;
 const FEW_NAMES: usize = 16;
 
 // The records from `first` on, below `end`, get the nodes of a set as owners. By places: `first` may lie behind `end`, where a part of
-// the slice would be out of bounds.
+// the slice would be out of bounds. form_letters has the same over bytes: one for both would need a trait with a law for `|`.
 fn mark(owners: &mut [u64], set: u64, first: usize, end: usize)
     requires { end ≤ length owners.old }
     ensures { MarkedBits set first end owners.old owners.new }
@@ -115,7 +115,7 @@ fn mark_nodes(form: &[u8], count: usize, owners: &mut [u64]) -> u64
 
 // ---- the nodes that match an item
 
-// The nodes that have this character as a short name.
+// The nodes that have this character as a short name. By places: the invariant names place k of both slices, and a zip has no place.
 fn short_owners(codes: &[u32], count: usize, owners: &[u64], character: u32) -> u64
     requires { (count ≤ length codes.now) × (count ≤ length owners.now) }
     ensures { (form : List ℕ) (loose : ℕ) → Lookup form codes.now count owners.now loose → SetOf form (has_short form character) result }
@@ -237,7 +237,7 @@ pub fn is_absent(table: &[u64], node: usize) -> bool
     !has(table[ALL_ITEMS], node)
 }
 
-// The first present place from `from` on, below `end`, whose word has the bit of a node; `end` if there is none.
+// The first present place from `from` on, below `end`, whose word has the bit of a node; `end` if there is none, as in take_search.
 pub fn find(table: &[u64], marks: &[u16], node: usize, from: usize, end: usize) -> usize
     requires { (node < 64) × (from ≤ end) × (end ≤ 256) × (end < length table.now) × (end ≤ length marks.now) }
     ensures { (area words : List ℕ) (test : RulesItem → Bool) → TableTells table.now end node area words test → Sought area words test marks.now from end result }

@@ -10,13 +10,14 @@ pub const COUNT_BYTES: usize = 2;
 
 pub const WIDE_OFFSET: usize = 4;
 
-// A number of 32 bits as a place in a slice.
+// A number of 32 bits as a place in a slice. A cast with a contract, for other crates.
 pub fn wide(x: u32) -> usize
     ensures { result ≡ x }
 {
     x as usize
 }
 
+// A sum, as `number_at` of the rules has it and the must-fail edit `high_byte` changes it; it compiles to one load already.
 pub fn u16_at(b: &[u8], i: usize) -> u32
     requires { i + 2 ≤ length b.now }
     ensures { result ≡ number_at 2 b.now i }

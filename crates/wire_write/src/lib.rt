@@ -24,7 +24,7 @@ pub fn put_u32(out: &mut [u8], at: usize, n: u32)
     put_u16(out, at + 2, n / 65536);
 }
 
-// The bytes from `at` to the end become 0.
+// The bytes from `at` to the end become 0. A call of `fill` by a name: form_join and short_sheets cite this equation.
 pub fn clear_from(out: &mut [u8], at: usize)
     ensures { out.new ≡ take at out.old ++ replicate (length out.old - at) 0 }
 {
