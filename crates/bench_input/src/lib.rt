@@ -4,7 +4,8 @@
 ghost use Rattle.std.specs.Prelude.{◌≡◌, ◌≤◌, length, take, drop};
 ghost use Rattle.rules.specs.Form.{form_length, form_end};
 
-// How long the form is by the counts of its header.
+// How long the form is by the counts of its header. By `u16_at`, whose type bounds the sum: form_layout's readers of these counts give
+// a usize, and the bound of each would be proved.
 fn form_length(b: &[u8]) -> usize
     requires { 8 ≤ length b.now }
     ensures { result ≡ form_length b.now }
