@@ -12,7 +12,7 @@ use command_run::Commanded;
 use form_letters::Counts;
 use rules::{Refusal, State};
 use run_fields::Reached;
-use split_arg::Item;
+use split_arg::{Item, Letters};
 use wire::wide;
 
 // The command word stands at place 0, and is not looked at.
@@ -48,7 +48,11 @@ fn word_letter(table: &[u8], sheet: &[u8], items: &[u32], place: usize) -> Optio
     let n = counts.flags;
     let m = counts.arguments;
     let os = take_search::part_bytes(sheet, text);
-    why_letter::cluster_letter(os, &flags[0..n], &arguments[0..m])
+    let letters = Letters {
+        flags: &flags[0..n],
+        arguments: &arguments[0..m],
+    };
+    why_letter::cluster_letter(os, &letters)
 }
 
 // The words of a line that was run. 50 where it is accepted and an argument that looks like options is a word, and not the command

@@ -12,7 +12,7 @@ use borrow.Author.Tests.{not-true, not-false}
 use types.Run.{OneOf}
 use denote.Enum.Declared.{tag_of}
 use Rattle.utf8.specs.Utf8.{well_formed}
-use Rattle.rules.specs.Base.{same, is_some, ◌>>?◌}
+use Rattle.rules.specs.Base.{is_some, ◌>>?◌}
 use Rattle.rules.specs.Sheet.{sheet_area, arguments}
 use Rattle.rules.specs.Form.{read_form}
 use Rattle.rules.specs.Accept.{Accepted, accepted, check_form, Letters, letters_of}

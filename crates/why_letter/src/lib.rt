@@ -6,10 +6,10 @@ ghost use Rattle.utf8.specs.Utf8.{well_formed};
 ghost use Rattle.rules.specs.Base.{contains, is_some};
 ghost use Rattle.rules.specs.Split.{behind_equals};
 ghost use Rattle.rules.specs.Why.{dashed_name};
-ghost use Rattle.split_arg.specs.Clusters.{letters};
+ghost use Rattle.split_arg.specs.Clusters.{meaning};
 ghost use Rattle.why_letter.specs.Withdrawn.{CanExplain, RestTold, LetterTold, ClusterTold, UnknownTold};
 
-use split_arg::Item;
+use split_arg::{Item, Letters};
 
 // Whether the item before place i is a Short that has its value in its own argument: a Word behind it is the rest of that argument.
 pub fn is_rest(items: &[u32], i: usize) -> bool
@@ -27,23 +27,23 @@ pub fn is_rest(items: &[u32], i: usize) -> bool
 }
 
 // Whether a letter is a flag's or an argument's.
-fn is_known(flags: &[u32], arguments: &[u32], letter: u32) -> bool
-    ensures { result ≡ (contains flags.now letter || contains arguments.now letter) }
+fn is_known(letters: &Letters, letter: u32) -> bool
+    ensures { result ≡ (contains letters.now.flags.now letter || contains letters.now.arguments.now letter) }
 {
-    flags.contains(&letter) || arguments.contains(&letter)
+    letters.flags.contains(&letter) || letters.arguments.contains(&letter)
 }
 
 // The first letter of a name that is not.
-fn first_unknown(name: &[u8], flags: &[u32], arguments: &[u32]) -> Option<u32>
+fn first_unknown(name: &[u8], letters: &Letters) -> Option<u32>
     requires { well_formed name.now ≡ true }
-    ensures { LetterTold (letters flags.now arguments.now) name.now result }
+    ensures { LetterTold (meaning letters.now) name.now result }
 {
     let mut at = 0;
     loop {
         let Some(letter) = split_arg::letter_at(name, at) else {
             return None;
         };
-        if !is_known(flags, arguments, letter.value) {
+        if !is_known(letters, letter.value) {
             return Some(letter.value);
         }
         at += letter.size;
@@ -70,13 +70,13 @@ fn has_name(os: &[u8]) -> bool
 }
 
 // Of an argument that became one Word, the first unknown letter, if it looks like a cluster.
-pub fn cluster_letter(os: &[u8], flags: &[u32], arguments: &[u32]) -> Option<u32>
-    ensures { ClusterTold (letters flags.now arguments.now) os.now result }
+pub fn cluster_letter(os: &[u8], letters: &Letters) -> Option<u32>
+    ensures { ClusterTold (meaning letters.now) os.now result }
 {
     if !has_name(os) {
         return None;
     }
-    first_unknown(&os[1..], flags, arguments)
+    first_unknown(&os[1..], letters)
 }
 
 fn no_letters() -> [u32; 128]
@@ -109,5 +109,9 @@ pub fn unknown_letter(
     let n = counts.flags;
     let m = counts.arguments;
     let os = take_search::part_bytes(sheet, text);
-    cluster_letter(os, &flags[0..n], &arguments[0..m])
+    let letters = Letters {
+        flags: &flags[0..n],
+        arguments: &arguments[0..m],
+    };
+    cluster_letter(os, &letters)
 }
