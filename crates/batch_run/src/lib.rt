@@ -47,7 +47,8 @@ fn run_part(
     )
 }
 
-// Part k of each slice gets what a refused form leaves.
+// Part k of each slice gets what a refused form leaves. Apart from `run_part`: that is the same whatever the sheet is, and needs no
+// codes and no letters.
 fn refuse_part(
     fault: RefusedAt,
     k: usize,

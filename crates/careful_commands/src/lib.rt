@@ -56,7 +56,7 @@ fn word_letter(table: &[u8], sheet: &[u8], items: &[u32], place: usize) -> Optio
 }
 
 // The words of a line that was run. 50 where it is accepted and an argument that looks like options is a word, and not the command
-// word: answers 0.
+// word: answers 0. As `look` of `careful`, but the letter is looked for among those of the table, and the command word is passed over.
 fn look(table: &[u8], sheet: &[u8], items: &[u32], answers: &mut [u32], ran: Commanded) -> Looked
     requires { CanLookAtTable table.now sheet.now items.now answers.old ran }
     ensures { LooksAtTableRun table.now sheet.now items.now answers.old ran answers.new result }

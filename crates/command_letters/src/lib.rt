@@ -63,7 +63,8 @@ fn insert_all(out: &mut [u32], n: usize, letters: &[u32]) -> usize
     count
 }
 
-// The letters of one form go among those of the forms before it.
+// The letters of one form go among those of the forms before it. Flags and arguments by two calls: a loop over both kinds would only
+// index the pairs.
 fn gather_form(form: &[u8], flags: &mut [u32], n: usize, arguments: &mut [u32], m: usize) -> Counts
     requires { GoodNames form.now × HasRoom flags.old n 128 × HasRoom arguments.old m 128 }
     ensures inserted { Inserted flags.old n (letters_by_name (read_form form.now) 1) flags.new result.flags }

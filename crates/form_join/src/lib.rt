@@ -306,6 +306,7 @@ fn write_area(out: &mut [u8], at: usize, b: &[u8]) -> usize
 
 // ---- both forms, part by part
 
+// Four sums: an `Add` for `Counts`, with its ghost members, would be there for this one use.
 fn counts_both(first: &[u8], second: &[u8]) -> Counts
     requires { BothGood first.now second.now }
     ensures { result ≡ counts_of first.now second.now }

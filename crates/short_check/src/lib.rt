@@ -18,7 +18,7 @@ const ARGUMENT: usize = 4;
 
 const SHEET: usize = 22;
 
-// The place of a byte in the alphabet; its length where it is none of the alphabet.
+// The place of a byte in the alphabet; its length where it is none of the alphabet, as `index_of` of the rules has it.
 pub fn place_of(alphabet: &[u8], x: u8) -> usize
     ensures { result ≡ index_of x alphabet.now }
 {

@@ -25,7 +25,7 @@ pub struct NextSheet {
     pub length: u32,
 }
 
-// Each byte as its place in the alphabet.
+// Each byte as its place in the alphabet. By `enumerate`: behind a zip over `iter_mut` a proof knows nothing of what was written.
 fn read_places(alphabet: &[u8], area: &[u8], places: &mut [u8])
     requires { LettersIn alphabet.now area.now places.old }
     ensures { places.new ≡ sets places.old 0 (places_in alphabet.now area.now) }

@@ -164,7 +164,8 @@ pub fn letter_at(name: &[u8], at: usize) -> Option<Char>
     utf8::decode_at(name, at)
 }
 
-// Each letter of the name is looked up among those of flags and of arguments.
+// Each letter of the name is looked up among those of flags and of arguments. A loop: the step is the size of a character, which no
+// range counts, and it is left with its outcome.
 fn look_up(name: &[u8], letters: &Letters) -> Outcome
     requires { well_formed name.now ≡ true }
     ensures { LooksUp (meaning letters.now) name.now result }

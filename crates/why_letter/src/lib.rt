@@ -33,7 +33,7 @@ fn is_known(letters: &Letters, letter: u32) -> bool
     letters.flags.contains(&letter) || letters.arguments.contains(&letter)
 }
 
-// The first letter of a name that is not.
+// The first letter of a name that is not. A loop: the step is the size of a character, which no range counts.
 fn first_unknown(name: &[u8], letters: &Letters) -> Option<u32>
     requires { well_formed name.now ≡ true }
     ensures { LetterTold (meaning letters.now) name.now result }
