@@ -339,12 +339,12 @@ module _ (l : Letters) (s items : List ℕ) (given : SheetAndRoom s items) (o : 
           sym (ap length (append-nil recs)) ∙ e ∙ omega (arith, length-append w.group.items [])
 
       -- ---- 8
-      pub too_many_lem : 256 - at < r.count → SplitWrites l s p (record { number = 8; place = 0; count = 0; marker = 0 })
+      pub too_many_lem : 256 - at < r.count → (number : ℕ) → number ≡ 8 → SplitWrites l s p (record { number = number; place = 0; count = 0; marker = 0 })
       unfolding too_many
-      too_many_lem c = record {
+      too_many_lem c number eight = record {
         line = too_many;
         same = too_long l s z.whole z.all (omega (arith, total, count, z.few));
-        number = refl;
+        number = eight;
         place = refl;
         words = refl;
         marked = record { few = omega arith; within = omega arith };
@@ -417,9 +417,9 @@ module _ (l : Letters) (s items : List ℕ) (given : SheetAndRoom s items) (o : 
         pub place_few : at + i ≤ 256
         place_few = omega (arith, ambiguous_few)
 
-        pub ambiguous_letter_lem : SplitWrites l s p (record { number = 9; place = at + i + 1; count = at + r.count; marker = 0 })
+        pub ambiguous_letter_lem : (number : ℕ) → number ≡ 9 → SplitWrites l s p (record { number = number; place = at + i + 1; count = at + r.count; marker = 0 })
         unfolding ambiguity records_from
-        ambiguous_letter_lem =
+        ambiguous_letter_lem number nine =
             let records : records_from 0 (arguments s) z.whole.groups ≡ z.words ++ recs =
             ap (records_from 0 (arguments s)) last_groups ∙ more_records [] ∙ append-nil (z.words ++ recs) in
             ends l s items p z.whole (at + r.count) 0 z.all last_total (omega (arith, z.few)) (omega arith)
@@ -427,8 +427,8 @@ module _ (l : Letters) (s items : List ℕ) (given : SheetAndRoom s items) (o : 
             (written fit ∙ ap (sets items 0) (sym records))
             (omega (arith, ap length records, length-append z.words recs, z.size, recs_size, count))
             given.room
-            9 (at + i + 1)
-            (sym (ap (λ (a : Option ℕ). refusal_number (ambiguity a)) whole_ambiguous))
+            number (at + i + 1)
+            (nine ∙ sym (ap (λ (a : Option ℕ). refusal_number (ambiguity a)) whole_ambiguous))
             ((let e : at + i + 1 ≡ suc (at + i) = omega arith in e)
             ∙ sym (ap (λ (a : Option ℕ). refusal_place (ambiguity a)) whole_ambiguous))
 

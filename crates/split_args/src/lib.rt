@@ -11,18 +11,13 @@ ghost use Rattle.state_marks.specs.Lent.{raw_of};
 ghost use Rattle.split_args.specs.Construct.{group_at, plain_argument, starting_state};
 ghost use Rattle.split_args.specs.Construct.{MarkerWithin, Unmarked, SheetAndRoom, SplitWrites, SplitEnds};
 
-use rules::State;
+use rules::{Refusal, State};
 use split_arg::{ITEMS, Letters};
 use split_group::Group;
 use state_marks::{MARKER, Numbers};
 
-// The refusals of splitting: more items than have room, and a letter that is a flag's and an argument's.
-const TOO_MANY: u32 = 8;
-
-const AMBIGUOUS: u32 = 9;
-
 // How splitting ended: 0, 8 or 9; the place of 9 plus 1; how many items there are; the place of the first `--` plus 1. A place
-// is 0 for none.
+// is 0 for none. Numbers, and no Option of a refusal: what runs and calls answer with has the same two, and takes them as they are.
 #[derive(Clone, Copy)]
 pub struct Ended {
     pub number: u32,
@@ -64,7 +59,7 @@ fn split_arguments(sheet: &[u8], letters: &Letters, items: &mut [u32]) -> Ended
         let count = group.count;
         if ITEMS - at < count {
             return Ended {
-                number: TOO_MANY,
+                number: Refusal::TooManyItems.number(),
                 place: 0,
                 count: 0,
                 marker: 0,
@@ -72,7 +67,7 @@ fn split_arguments(sheet: &[u8], letters: &Letters, items: &mut [u32]) -> Ended
         }
         if let Some(i) = group.ambiguous {
             return Ended {
-                number: AMBIGUOUS,
+                number: Refusal::Ambiguous.number(),
                 place: (at + i + 1) as u32,
                 count: (at + count) as u32,
                 marker: 0,

@@ -6,13 +6,8 @@ ghost use Rattle.std.proofs.Math.Option.{some};
 ghost use Rattle.rules.specs.Why.{refused_before, why as why_of};
 ghost use Rattle.why.specs.Explained.{left_in, unexplained, why_answer};
 
-use rules::State;
+use rules::{Refusal, State};
 use state_marks::is_present;
-
-// A run that has a place left over, and the refusal of a place that is not one.
-const LEFT_OVER: u32 = 27;
-
-const NOT_THERE: u32 = 28;
 
 // The number and place of a refusal, or a reason from 1 on. The detail is a place plus 1, or a character.
 #[repr(C)]
@@ -48,7 +43,7 @@ fn refused(number: u32, place: u32) -> WhyAnswer
 fn is_left(number: u32, s: State, place: usize) -> bool
     ensures { result ≡ left_in number s place }
 {
-    number == LEFT_OVER
+    number == Refusal::LeftOver.number()
         && place < s.count as usize
         && place < s.marks.len()
         && is_present(s.marks[place])
@@ -72,13 +67,13 @@ pub fn why(
     }
     let s = ran.state;
     if !is_left(ran.number, s, place) {
-        return refused(NOT_THERE, 0);
+        return refused(Refusal::NotThere.number(), 0);
     }
     let found = why_reason::find_reason(form, sheet, items, &s.marks, place);
     WhyAnswer {
         number: 0,
         place: 0,
-        reason: found.code,
+        reason: found.kind.number(),
         detail: found.detail,
     }
 }
