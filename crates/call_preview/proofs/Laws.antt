@@ -78,11 +78,9 @@ module _ (b a : List ℕ) (from i : ℕ) (l : Looking b a from i) where
   unfolding first_or
   found_here h x e g = sym (ap (first_or 256) (rest_hit b a l.marks i h (sym e ∙ g))) ∙ l.same
 
-  pub found_none : 256 ≤ i → i ≡ first_or 256 (rest b a from)
+  pub found_none : 256 ≤ i → 256 ≡ first_or 256 (rest b a from)
   unfolding first_or
-  found_none h =
-      let z : i ≡ 256 = omega (arith, l.within) in
-      z ∙ sym (ap (first_or 256) (rest_end b a l.marks i h)) ∙ l.same
+  found_none h = sym (ap (first_or 256) (rest_end b a l.marks i h)) ∙ l.same
 
 -- ---- what a search found
 module _ (b a : List ℕ) (marks : Marks b a) where

@@ -56,14 +56,12 @@ fn next_used(before: &[u16; 256], after: &[u16; 256], from: usize) -> usize
     requires { Marks before.now after.now × (from ≤ 256) }
     ensures { (result ≡ first_or 256 (used_from from (drop from before.now) (drop from after.now))) × (result ≤ 256) }
 {
-    let mut i = from;
-    while i < MARKS {
+    for i in from..MARKS {
         if is_used(before, after, i) {
             return i;
         }
-        i += 1;
     }
-    i
+    MARKS
 }
 
 // The places used between the marks before and those after.
