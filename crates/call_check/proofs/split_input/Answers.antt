@@ -1,6 +1,4 @@
-use mathlib.Core.Path.{◌∙◌, sym, ap}
 use Rattle.form_layout.proofs.Sizes.{accepted_names}
-use Rattle.call_check.specs.Reader.{SplitAnswers}
 use Rattle.call_check.proofs.Splits.{split_answers}
 use Rattle.call_check.proofs.split_input.Goals as goal
 
