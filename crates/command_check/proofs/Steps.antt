@@ -25,7 +25,10 @@ use Rattle.rules.specs.Codes.{check_code}
 use Rattle.rules.specs.Given.{form_in}
 use Rattle.rules.specs.Commands.{entry_count, offsets_good, table_entries, entry_names, entry_area, entry_form_at, Command, read_command, of_type}
 use Rattle.rules.specs.Commands.{command_name_good, entry_good, table_in, forms_in, table_forms, form_good, entry_at_fault, form_part, call_command_form}
+use Rattle.rules.specs.Reported.{number_of, place_told, told}
 use Rattle.rules.specs.declared.Refused.{Refused}
+use Rattle.rules.specs.declared.RefusedAt.{RefusedAt}
+use Rattle.rules.proofs.ReportedLaws.{numbered, check_place}
 use Rattle.rules.proofs.Acceptance.{and-true, all_true, All-at, lookup_inside}
 use Rattle.rules.proofs.CommandForms.{entry_there, entries_count, commands_count}
 use Rattle.rules.proofs.GivenLaws.{check_accepted}
@@ -34,7 +37,7 @@ use Rattle.form_names.specs.declared.Name as names
 use Rattle.command_layout.specs.Tables.{EntryFits, HasEntry, HasCommands, FormOf}
 use Rattle.command_layout.proofs.Entries.{good_offsets, area_there, form_there, names_length, table_offsets, entry_good_lem, wire_entry}
 use Rattle.command_check.specs.declared.FormPart.{FormPart}
-use Rattle.command_check.specs.Told.{table_told, part_told}
+use Rattle.command_check.specs.Told.{table_told, part_told, TableTested}
 
 -- ---- a list whose elements are tested one after the other
 abbrev pub PassesAt : {A : Type 0} → (A → Bool) → List A → ℕ → Type 0
@@ -259,9 +262,9 @@ module _ (t : List ℕ) (g : Bool) where
   pub table_bad :
       g ≡ (offsets_good t && all entry_good (table_entries t))
       → not g ≡ true
-      → table_told (table_forms t) (entry_at_fault t) ≡ some (record { number = 11; place = 0; entry = 0 })
+      → TableTested t (record { number = 11; place = 0; entry = 0 })
   unfolding table_told table_in entry_at_fault ◌>>=◌
-  table_bad e h = rw (← e, not-true g h, entry_at_fault)
+  table_bad e h = record { told = rw (← e, not-true g h, entry_at_fault); place = omega arith; entry = omega arith }
 
   pub has_commands : g ≡ (offsets_good t && all entry_good (table_entries t)) → not g ≡ false → HasCommands t
   unfolding table_in
@@ -313,40 +316,43 @@ module _ (t : List ℕ) where
       let g = good_offsets t (table_offsets t h.commands h.reads) in
       (omega (arith, g.least), omega (arith, g.most), omega (arith, g.long))
 
-  pub forms_pass : HasCommands t → (n k : ℕ) → n ≡ entry_count t → n ≤ k → Accepts t k
-      → table_told (table_forms t) (entry_at_fault t) ≡ some (record { number = 0; place = 0; entry = 0 })
+  pub forms_pass : HasCommands t → (n k : ℕ) → n ≡ entry_count t → n ≤ k → Accepts t k → TableTested t (record { number = 0; place = 0; entry = 0 })
   unfolding table_told ◌>>=◌
   forms_pass h n k p l before =
       let cs = h.commands in
       let (fs, e) = forms_accepted cs (all_passed form_good cs k (before cs h.reads) (omega (arith, commands_count t cs h.reads))) in
-      rw (h.reads, e)
+      record { told = rw (h.reads, e); place = omega arith; entry = omega arith }
 
   module _
-      (k : ℕ) (b : List ℕ) (is : (cs : List Command) → table_in t ≡ ok cs → FormOf cs k b)
-      (r : Refused) (checked : r ≡ check_code (check_form b)) (before : Accepts t k)
+      (k : ℕ) (b : List ℕ) (is : (cs : List Command) → table_in t ≡ ok cs → FormOf cs k b) (before : Accepts t k)
     where
-      pub form_passes : r.number ≡ 0 → Accepts t (k + 1)
+      pub form_passes : record { number = 0; place = 0 } ≡ check_code (check_form b) → Accepts t (k + 1)
       unfolding form_good
       form_passes z = λ cs reads.
           let f = is cs reads in
-          let (a, e) = check_accepted b r checked z in
+          let (a, e) = check_accepted b _ z refl in
           one_passes form_good cs k (before cs reads) f.command f.here (rw (f.form, e, form_good))
 
-      pub form_fails : HasCommands t → (r.number ≡ 0 → ⊥)
-          → table_told (table_forms t) (entry_at_fault t) ≡ some (record { number = r.number; place = r.place; entry = k + 1 })
+      pub form_fails :
+          HasCommands t
+          → k < 32
+          → (x : RefusedAt)
+          → told x ≡ check_code (check_form b)
+          → TableTested t (record { number = number_of x.refusal; place = place_told x.place; entry = k + 1 })
       unfolding table_told entry_at_fault ◌>>=◌
-      form_fails h z = go (check_form b) refl
+      form_fails h few x checked = record { told = go (check_form b) refl; place = check_place b x checked; entry = omega arith }
         where
           go :
               (o : Checked Accepted)
               → check_form b ≡ o
-              → table_told (table_forms t) (entry_at_fault t) ≡ some (record { number = r.number; place = r.place; entry = k + 1 })
-          go (accepted a) e = absurd (z (ap (λ (x : Refused). x.number) (checked ∙ ap check_code e)))
+              → table_told (table_forms t) (entry_at_fault t) ≡ some (record { number = number_of x.refusal; place = place_told x.place; entry = k + 1 })
+          go (accepted a) e = absurd (numbered x.refusal (ap (λ (r : Refused). r.number) (checked ∙ ap check_code e)))
           go (refused_at n p) e =
               let f = is h.commands h.reads in
               let same = checked ∙ ap check_code e in
-              let (x, y) = forms_refused 0 h.commands k f.command n p (before h.commands h.reads) f.here (rw f.form e) in
-              rw (h.reads, entry_at_fault, x, y, zero-add k, add-one k, same)
+              let (y, z) = forms_refused 0 h.commands k f.command n p (before h.commands h.reads) f.here (rw f.form e) in
+              rw (h.reads, entry_at_fault, y, z, zero-add k, add-one k)
+              (sym (ap (λ (r : Refused). some (record { number = r.number; place = r.place; entry = suc k })) same))
 
 -- ---- the form of an entry
 module _ (t : List ℕ) (b : Bool) (tested : b ≡ (offsets_good t && all entry_good (table_entries t))) (k : ℕ) where

@@ -9,6 +9,7 @@ ghost use Rattle.form_layout.specs.Layout.{node_of};
 ghost use Rattle.form_idle.specs.Idles.{idle_by, repeat_by, said_in, idle_answer};
 
 use form_layout::Kind;
+use rules::Refused;
 
 // Node n is bit n of `nodes`. Refused, there is none, and the refusal stands beside it. A place is itself plus 1, or 0 for none.
 #[repr(C)]
@@ -79,11 +80,11 @@ fn gather(b: &[u8]) -> u64
 pub fn idle_repeats(form: &[u8]) -> IdleAnswer
     ensures { idle_answer (call_idle form.now) ≡ some result }
 {
-    let checked = form_check::check(form);
-    if checked.number != 0 {
+    if let Err(e) = form_check::check(form) {
+        let Refused { number, place } = e.told();
         return IdleAnswer {
-            number: checked.number,
-            place: checked.place,
+            number,
+            place,
             nodes: 0,
         };
     }

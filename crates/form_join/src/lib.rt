@@ -1,12 +1,13 @@
 // Two forms made one: the first's fields, nodes, names and area, each with the second's behind it, whose numbers move up.
 #![tactic(auto)]
 
-ghost use Rattle.std.specs.Prelude.{◌≡◌, true, List, [], ◌∷◌, ◌++◌, ℕ, ◌+◌, ◌*◌, ◌≤◌, length};
+ghost use Rattle.std.specs.Prelude.{◌≡◌, true, List, [], ◌∷◌, ◌++◌, ℕ, ◌+◌, ◌*◌, ◌≤◌, ◌<◌, ◌^◌, length};
 ghost use Rattle.std.proofs.Math.Option.{some};
 ghost use Rattle.std.proofs.Math.ListN.{get_elem?};
 ghost use Rattle.std.proofs.lemmas.List.Edits.{sets};
 ghost use Rattle.rules.specs.Form.{field_count, node_count, name_count, read_form};
 ghost use Rattle.rules.specs.Accept.{length_good};
+ghost use Rattle.rules.specs.Reported.{number_of, place_told};
 ghost use Rattle.rules.specs.Encode.{words_of, encode_node, encode_name};
 ghost use Rattle.rules_join.specs.Join.{Moves as Shift, moves_behind, move_p, move_q, join};
 ghost use Rattle.form_names.specs.Names.{name_of};
@@ -19,6 +20,7 @@ ghost use Rattle.form_join.specs.Sizes.{fields_sized, nodes_sized, names_sized};
 ghost use Rattle.form_join.specs.Answers.{ReportsJoin, Refuses, Fills, BothPass};
 
 use form_layout::Kind;
+use rules::{Refusal, Refused, RefusedAt};
 
 // The most nodes, fields, name records and bytes of their area that a form has, and the bytes of the longest form.
 const NODES: usize = 64;
@@ -33,9 +35,6 @@ const LONGEST: usize = 5928;
 
 // A value that is a text, by the number of its kind.
 const TEXT: u32 = 2;
-
-// Refused: a limit would be passed, or the output is too short.
-const TOO_LARGE: u32 = 18;
 
 // A place is itself plus 1, or 0 for none. `form` is the form at fault, 1 or 2, or 0. Refused, the length is 0.
 #[repr(C)]
@@ -393,15 +392,17 @@ fn write_form(out: &mut [u8], first: &[u8], second: &[u8]) -> usize
 
 // ---- what is answered
 
-fn refuse(out: &mut [u8], number: u32, place: u32, form: u32) -> Joined
-    ensures { Refuses number place form (length out.old) result out.new }
+fn refuse(out: &mut [u8], e: RefusedAt, form: u32) -> Joined
+    requires { place_told e.place < 2 ^ 32 }
+    ensures { Refuses (number_of e.refusal) (place_told e.place) form (length out.old) result out.new }
 {
     wire_write::clear_from(out, 0);
+    let Refused { number, place } = e.told();
     Joined {
-        number: number,
-        place: place,
+        number,
+        place,
         length: 0,
-        form: form,
+        form,
     }
 }
 
@@ -420,7 +421,7 @@ fn write_joined(out: &mut [u8], first: &[u8], second: &[u8]) -> Joined
     }
 }
 
-// The join of two accepted forms.
+// The join of two accepted forms. Too large is past a limit, or longer than the output.
 fn join_accepted(first: &[u8], second: &[u8], out: &mut [u8]) -> Joined
     requires { BothPass first.now second.now }
     ensures { ReportsJoin (join first.now second.now (length out.old)) result out.new }
@@ -429,20 +430,18 @@ fn join_accepted(first: &[u8], second: &[u8], out: &mut [u8]) -> Joined
     if fits(c, out.len()) {
         return write_joined(out, first, second);
     }
-    refuse(out, TOO_LARGE, 0, 0)
+    refuse(out, RefusedAt::from(Refusal::TooLarge), 0)
 }
 
 // The joined form, and zeros to the output's end. Refused, the whole output is 0.
 pub fn join(first: &[u8], second: &[u8], out: &mut [u8]) -> Joined
     ensures { ReportsJoin (join first.now second.now (length out.old)) result out.new }
 {
-    let x = form_check::check(first);
-    if x.number != 0 {
-        return refuse(out, x.number, x.place, 1);
+    if let Err(e) = form_check::check(first) {
+        return refuse(out, e, 1);
     }
-    let y = form_check::check(second);
-    if y.number != 0 {
-        return refuse(out, y.number, y.place, 2);
+    if let Err(e) = form_check::check(second) {
+        return refuse(out, e, 2);
     }
     join_accepted(first, second, out)
 }

@@ -2,7 +2,7 @@
 #![tactic(auto)]
 
 ghost use Rattle.std.specs.Prelude.{◌≡◌, ◌^◌, ◌<◌, Some, None};
-ghost use Rattle.rules.specs.Reported.{number_of};
+ghost use Rattle.rules.specs.Reported.{number_of, place_told, told};
 
 // How a check or a call ends: number 0 is accepted, else document 01's refusal. A place is itself plus 1, or 0 for none.
 #[repr(C)]
@@ -82,6 +82,21 @@ impl RefusedAt {
         RefusedAt {
             refusal,
             place: Some(place as u32),
+        }
+    }
+
+    // As the answers have it.
+    pub fn told(self) -> Refused
+        requires { place_told self.place < 2 ^ 32 }
+        ensures { result ≡ told self }
+    {
+        let place = match self.place {
+            Some(i) => i + 1,
+            None => 0,
+        };
+        Refused {
+            number: self.refusal.number(),
+            place,
         }
     }
 }

@@ -1,6 +1,6 @@
 -- The tests of alphabet and sheet, as loops over what is left.
-use mathlib.Core.Path.{◌≡◌, refl, sym, ◌∙◌}
-use mathlib.Core.Bool.{Bool, true, false, not}
+use mathlib.Core.Path.{◌≡◌, sym, ◌∙◌}
+use mathlib.Core.Bool.{Bool, true, false, not, false≢true}
 use mathlib.Core.List.{List, ◌∷◌, map}
 use Prim.Native.Nat.{ℕ, suc, ◌+◌, ◌-◌, ◌≤◌, ◌<◌}
 use native.Mathlib.Numerals.{add-one}
@@ -15,6 +15,11 @@ use Rattle.rules.specs.Sheet.{argument_count, sheet_fault, arguments}
 use Rattle.rules.proofs.Formats.{counted}
 use Rattle.rules_short.specs.Short.{distinct, alphabet_good, argument_legal, arguments_legal, sheet_legal}
 use Rattle.split_sheet.specs.Checked.{HasArgument}
+use Rattle.rules.specs.Reported.{tested}
+use Rattle.rules.specs.declared.Refusal.{Refusal}
+use Rattle.rules.proofs.ReportedLaws.{numbered}
+use Rattle.std.specs.Prelude.{Result, Ok, Err}
+use Rattle.std.specs.Result.{is_err}
 use Rattle.std.specs.List.{list_any, list_all}
 use Rattle.short_check.proofs.Letters.{any_is, all_there}
 use Rattle.short_check.specs.Tests.{input_fault}
@@ -71,25 +76,24 @@ module _ (al os : List ℕ) where
 pub record ArgumentsLeft (al s : List ℕ) (n k : ℕ) : Type 0 where
   pub same : all (argument_legal al) (arguments s) ≡ all (argument_legal al) (map (entry_of 2 (argument_count s) s) (numbers (n - k) k))
 
-not-true : (t : Bool) → not t ≡ true → t ≡ false
-not-true false e = refl
-not-true true e = sym e
+-- how the check of the sheet ended
+module _ (s : List ℕ) (b : Bool) where
+  pub whole : (r : Result (Unit {0}) Refusal) → tested r ≡ sheet_fault s → b ≡ is_err r → b ≡ false → sheet_fault s ≡ 0
+  whole (Ok u) e i h = sym e
+  whole (Err x) e i h = absurd (false≢true (sym h ∙ i))
 
-not-false : (t : Bool) → not t ≡ false → t ≡ true
-not-false false e = sym e
-not-false true e = refl
+  damaged : (r : Result (Unit {0}) Refusal) → tested r ≡ sheet_fault s → b ≡ is_err r → b ≡ true → sheet_fault s ≡ 0 → ⊥
+  damaged (Ok u) e i h = absurd (false≢true (sym i ∙ h))
+  damaged (Err x) e i h = λ z. numbered x (e ∙ z)
 
-module _ (al s : List ℕ) where
-  pub sheet_damaged : (f : ℕ) → f ≡ sheet_fault s → (f ≡ 0 → ⊥) → false ≡ sheet_legal al s
+module _ (al s : List ℕ) (b : Bool) (r : Result (Unit {0}) Refusal) (e : tested r ≡ sheet_fault s) (i : b ≡ is_err r) where
+  pub sheet_damaged : b ≡ true → false ≡ sheet_legal al s
   unfolding sheet_legal
-  sheet_damaged f e other = rw (ne_eqb (sheet_fault s) 0 (λ z. other (e ∙ z)))
+  sheet_damaged h = rw (ne_eqb (sheet_fault s) 0 (damaged s b r e i h))
 
-  pub whole : (f : ℕ) → f ≡ sheet_fault s → f ≡ 0 → sheet_fault s ≡ 0
-  whole f e made = sym e ∙ made
-
-  module _ (f : ℕ) (e : f ≡ sheet_fault s) (made : f ≡ 0) (n : ℕ) (count : n ≡ argument_count s) where
+  module _ (made : b ≡ false) (n : ℕ) (count : n ≡ argument_count s) where
     good : sheet_fault s ≡ 0
-    good = whole f e made
+    good = whole s b r e i made
 
     pub has_argument : (k : ℕ) → k < n → HasArgument s k
     has_argument k h = record { made = good; below = omega arith }
@@ -120,13 +124,13 @@ module _ (al s : List ℕ) where
             let more : n - k ≡ suc (n - (k + 1)) = omega arith in
             rw (more, part, add-one k)
 
-        pub argument_other : not t ≡ true → false ≡ sheet_legal al s
+        pub argument_other : t ≡ false → false ≡ sheet_legal al s
         unfolding all
-        argument_other e = sym (legal ∙ left.same ∙ rw (next, ← test, not-true t e))
+        argument_other e = sym (legal ∙ left.same ∙ rw (next, ← test, e))
 
-        pub argument_good : not t ≡ false → ArgumentsLeft al s n (k + 1)
+        pub argument_good : t ≡ true → ArgumentsLeft al s n (k + 1)
         unfolding all
-        argument_good e = record { same = left.same ∙ rw (next, ← test, not-false t e) }
+        argument_good e = record { same = left.same ∙ rw (next, ← test, e) }
 
       pub arguments_good : n ≤ k → true ≡ sheet_legal al s
       unfolding all numbers

@@ -3,15 +3,11 @@
 
 ghost use Rattle.std.specs.Prelude.{◌≡◌};
 ghost use Rattle.rules.specs.Accept.{index_of};
+ghost use Rattle.rules.specs.Reported.{tested};
 ghost use Rattle.rules_short.specs.Short.{distinct as none_twice, alphabet_good, argument_legal, sheet_legal};
 ghost use Rattle.short_check.specs.Tests.{input_fault};
 
-// The refusals: of the alphabet, of the sheet, and of the output.
-const BAD_ALPHABET: u32 = 16;
-
-const NOT_SHORT: u32 = 17;
-
-const SHORT_OUTPUT: u32 = 19;
+use rules::Refusal;
 
 // The most letters of an alphabet, arguments of a sheet, bytes of an argument, and bytes of a sheet: 2 + 2 * (3 + 1) + 3 * 4.
 const LETTERS: usize = 8;
@@ -58,7 +54,7 @@ fn argument_legal(alphabet: &[u8], argument: &[u8]) -> bool
 fn sheet_legal(alphabet: &[u8], sheet: &[u8]) -> bool
     ensures { result ≡ sheet_legal alphabet.now sheet.now }
 {
-    if split_sheet::check(sheet) != 0 {
+    if split_sheet::check(sheet).is_err() {
         return false;
     }
     let count = split_sheet::count(sheet);
@@ -73,18 +69,18 @@ fn sheet_legal(alphabet: &[u8], sheet: &[u8]) -> bool
     true
 }
 
-// 0 if a step can be made; the alphabet is tested first, and the output last.
-pub fn input_fault(alphabet: &[u8], sheet: &[u8], room: usize) -> u32
-    ensures { result ≡ input_fault alphabet.now sheet.now room }
+// Whether a step can be made; the alphabet is tested first, and the output last.
+pub fn check(alphabet: &[u8], sheet: &[u8], room: usize) -> Result<(), Refusal>
+    ensures { tested result ≡ input_fault alphabet.now sheet.now room }
 {
     if !alphabet_good(alphabet) {
-        return BAD_ALPHABET;
+        return Err(Refusal::BadAlphabet);
     }
     if !sheet_legal(alphabet, sheet) {
-        return NOT_SHORT;
+        return Err(Refusal::NotShort);
     }
     if room < SHEET {
-        return SHORT_OUTPUT;
+        return Err(Refusal::ShortOutput);
     }
-    0
+    Ok(())
 }

@@ -163,10 +163,9 @@ fn step(alphabet: &[u8], sheet: &[u8], out: &mut [u8]) -> NextSheet
 pub fn next_sheet(alphabet: &[u8], sheet: &[u8], out: &mut [u8]) -> NextSheet
     ensures { Reports (next_sheet alphabet.now sheet.now (length out.old)) result out.new }
 {
-    let fault = short_check::input_fault(alphabet, sheet, out.len());
-    if fault != 0 {
+    if let Err(e) = short_check::check(alphabet, sheet, out.len()) {
         wire_write::clear_from(out, 0);
-        return answer(fault, 0, 0);
+        return answer(e.number(), 0, 0);
     }
     step(alphabet, sheet, out)
 }

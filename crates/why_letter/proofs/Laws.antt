@@ -25,7 +25,7 @@ use Rattle.rules.specs.WhyAnswered.{adjacent_short, behind_adjacent}
 use Rattle.rules.proofs.Acceptance.{lookup_some}
 use Rattle.rules.proofs.SplitLaws.{cluster_ok, ok_injective}
 use Rattle.split_arg.specs.Clusters.{letters}
-use Rattle.split_arg.proofs.LookUp.{contains_end, contains_step, letters_from, Next, next, none_left}
+use Rattle.split_arg.proofs.LookUp.{letters_from, Next, next, none_left}
 use Rattle.split_arg.specs.declared.Part.{Part}
 use Rattle.split_arg.specs.declared.Item.{Item}
 use Rattle.split_arg.specs.declared.Item.TheVariants.{Short, Long, ArgWord, Word, PosWord}
@@ -76,23 +76,6 @@ pub none_small : SmallLetter None
 none_small = record { small = λ c e. absurd (let z : ◌≡◌ {A = ℕ} 0 1 = cc in omega arith) }
 
 -- ---- a letter among others
-pub record NotYet (s : List ℕ) (c i : ℕ) : Type 0 where
-  pub same : contains (drop i s) c ≡ contains s c
-
-pub knows_first : (s : List ℕ) (c : ℕ) → NotYet s c 0
-knows_first s c = record { same = refl }
-
-module _ (s : List ℕ) (c i : ℕ) (g : NotYet s c i) where
-  module _ (h : i < length s) where
-    pub knows_hit : get_or s i 0 ≡ c → true ≡ contains s c
-    knows_hit e = sym (sym g.same ∙ contains_step s c i h ∙ rw (eq-eqb (get_or s i 0) c e))
-
-    pub knows_next : (get_or s i 0 ≡ c → ⊥) → NotYet s c (i + 1)
-    knows_next n = record { same = sym (sym g.same ∙ contains_step s c i h ∙ rw (ne_eqb (get_or s i 0) c n)) }
-
-  pub knows_last : length s ≤ i → false ≡ contains s c
-  knows_last h = sym (contains_end s c i h) ∙ g.same
-
 pub known_flag : (f a : Bool) (r : Bool) → r ≡ f → r ≡ true → true ≡ (f || a)
 known_flag f a r e t = let z : f ≡ true = sym e ∙ t in rw z
 

@@ -26,27 +26,11 @@ pub fn is_rest(items: &[u32], i: usize) -> bool
     own
 }
 
-fn knows(s: &[u32], letter: u32) -> bool
-    ensures { result ≡ contains s.now letter }
-{
-    let mut i = 0;
-    while i < s.len() {
-        if s[i] == letter {
-            return true;
-        }
-        i += 1;
-    }
-    false
-}
-
 // Whether a letter is a flag's or an argument's.
 fn is_known(flags: &[u32], arguments: &[u32], letter: u32) -> bool
     ensures { result ≡ (contains flags.now letter || contains arguments.now letter) }
 {
-    if knows(flags, letter) {
-        return true;
-    }
-    knows(arguments, letter)
+    flags.contains(&letter) || arguments.contains(&letter)
 }
 
 // The first letter of a name that is not.
@@ -71,14 +55,7 @@ fn has_equals(os: &[u8], from: usize) -> bool
     requires { from ≤ length os.now }
     ensures { result ≡ is_some (behind_equals (drop from os.now)) }
 {
-    let mut i = from;
-    while i < os.len() {
-        if os[i] == b'=' {
-            return true;
-        }
-        i += 1;
-    }
-    false
+    os[from..].contains(&b'=')
 }
 
 // Whether an argument has one dash and a UTF-8 name with no `=` behind its first byte. Splitting asks this too, and looks letters up; with
@@ -86,16 +63,7 @@ fn has_equals(os: &[u8], from: usize) -> bool
 fn has_name(os: &[u8]) -> bool
     ensures { result ≡ is_some (dashed_name os.now) }
 {
-    if os.len() < 2 {
-        return false;
-    }
-    if os[0] != b'-' {
-        return false;
-    }
-    if os[1] == b'-' {
-        return false;
-    }
-    if has_equals(os, 2) {
+    if os.len() < 2 || os[0] != b'-' || os[1] == b'-' || has_equals(os, 2) {
         return false;
     }
     utf8::valid(&os[1..])

@@ -1,7 +1,6 @@
--- By halves, or one after the other. Assumes nothing.
-use mathlib.Core.Path.{◌∙◌}
-use Rattle.split_arg.proofs.Order.{any_contains}
+-- By the length of the list. Assumes nothing.
+use native.Mathlib.Omega.{arith}
 use Rattle.split_arg.proofs.contains.Goals as goal
 
-pub returns : goal.returns
-returns g c = c.contains.ensures.value ∙ any_contains _ _
+pub search-requires : goal.search-requires
+search-requires c = c.requires.order (omega arith)

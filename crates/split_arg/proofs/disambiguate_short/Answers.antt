@@ -13,4 +13,4 @@ pub returns-then-arguments-le-SCANNED : goal.returns-then-arguments-le-SCANNED
 returns-then-arguments-le-SCANNED c = no_single _ _ _ c.requires.0 _ _ (sym c.decode_at.ensures ∙ c.in-Some.is) c.if-first-name.false c.look_up.ensures
 
 pub returns : goal.returns
-returns c = no_single _ _ _ c.requires.0 _ _ (sym c.decode_at.ensures ∙ c.in-Some.is) c.if-first-name.false c.look_up-2.ensures
+returns c = no_single _ _ _ c.requires.0 _ _ (sym c.decode_at.ensures ∙ c.in-Some.is) c.if-first-name.false c.look_up_long.ensures

@@ -6,7 +6,7 @@ use Rattle.split_arg.proofs.LookUp.{Looked}
 use Rattle.split_arg.proofs.look_up.Given as goal
 
 abbrev pub invariant-loop-letter : goal.invariant-loop-letter
-invariant-loop-letter g l = Looked (letters l.flags l.arguments) l.name l.at l.before
+invariant-loop-letter l = Looked (letters l.flags l.arguments) l.name l.at l.before
 
 abbrev pub decreases-loop-letter : goal.decreases-loop-letter
-decreases-loop-letter g l = length l.name - l.at
+decreases-loop-letter l = length l.name - l.at

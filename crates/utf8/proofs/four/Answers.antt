@@ -8,7 +8,14 @@ use Rattle.utf8.proofs.four.Goals as goal
 pub returns-then-b3-le191 : goal.returns-then-b3-le191
 unfolding after_lead fits holds scalar continued lead_bits
 returns-then-b3-le191 c =
-    rw (le-leb _ _ c.if-lo-b1.true, le-leb _ _ c.if-b1-hi.true, le-leb _ _ c.if-b2-ge128.true, le-leb _ _ c.if-b2-le191.true, le-leb _ _ c.if-b3-ge128.true, le-leb _ _ c.if-b3-le191.true)
+    rw (
+      le-leb _ _ c.if-lo-b1.true,
+      le-leb _ _ c.if-b1-hi.true,
+      le-leb _ _ c.if-b2-ge128.true,
+      le-leb _ _ c.if-b2-le191.true,
+      le-leb _ _ c.if-b3-ge128.true,
+      le-leb _ _ c.if-b3-le191.true,
+    )
 
 pub returns : goal.returns
 unfolding after_lead fits holds scalar continued lead_bits

@@ -6,16 +6,16 @@ use Rattle.command_layout.proofs.Entries.{good_offsets}
 use Rattle.command_check.proofs.Steps.{part_bad, part_offsets, part_none, part_entry, part_fits, part_inside, part_there}
 use Rattle.std.proofs.Math.Path.{ap}
 use mathlib.Core.Bool.{not}
-use Rattle.command_check.proofs.form_part.Goals as goal
+use Rattle.command_check.proofs.find_form.Goals as goal
 
 pub returns-then-not-table_good : goal.returns-then-not-table_good
-returns-then-not-table_good c = part_bad _ _ c.table_good.ensures _ (ap not c.if-not-table_good.true) _ c.refused_part.ensures
+returns-then-not-table_good c = part_bad _ _ c.table_good.ensures _ (ap not c.if-not-table_good.true) _ refl
 
 pub entry_count-n-requires : goal.entry_count-n-requires
 entry_count-n-requires c = omega (arith, good_offsets _ (part_offsets _ _ c.table_good.ensures c.args.k (ap not c.if-not-table_good.false)))
 
 pub returns-then-n-k : goal.returns-then-n-k
-returns-then-n-k c = part_none _ _ c.table_good.ensures _ (ap not c.if-not-table_good.false) _ c.entry_count-n.ensures c.if-n-k.true _ c.refused_part-then-n-k.ensures
+returns-then-n-k c = part_none _ _ c.table_good.ensures _ (ap not c.if-not-table_good.false) _ c.entry_count-n.ensures c.if-n-k.true _ refl
 
 pub area_start-requires : goal.area_start-requires
 area_start-requires c = (inr refl, omega (arith, (part_inside _ _ c.table_good.ensures _ (ap not c.if-not-table_good.false) _ c.entry_count-n.ensures c.if-n-k.false).small))

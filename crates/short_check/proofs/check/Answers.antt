@@ -1,6 +1,6 @@
 -- The tests in order. Assumes nothing.
 use Rattle.short_check.proofs.Legal.{alphabet_bad, sheet_other, output_short, input_good}
-use Rattle.short_check.proofs.input_fault.Goals as goal
+use Rattle.short_check.proofs.check.Goals as goal
 
 pub returns-then-not-alphabet_good : goal.returns-then-not-alphabet_good
 returns-then-not-alphabet_good c = search alphabet_bad
