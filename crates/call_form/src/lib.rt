@@ -20,12 +20,13 @@ ghost use Rattle.call_form.specs.Keys.{key_names, no_key, Keyed, command_at};
 ghost use Rattle.call_form.specs.Answered.{SmallValue, value_answer, TakeAnswer, TestAnswer};
 
 use call_answers::{
-    Answer, NO_ARGUMENT, NOT_THERE, StateAnswer, answered, changed, narrow, refused, unchanged,
+    Answer, StateAnswer, answered, changed, narrow, refused, refused_at, unchanged, unchanged_at,
     yes_no,
 };
 use form_codes::codes_of;
 use form_layout::Kind;
 use rules::{Refused, State};
+use rules::{Refusal, RefusedAt, State};
 use state_marks::{COMMAND, field_mark, joined, numbers_of};
 use take::{NoArgument, Word};
 use take_search::Names;
@@ -38,16 +39,13 @@ pub struct Key {
 }
 
 // The tests of the input, in the order of the numbers: 1 to 4, then 6, 5, 7, 30 and 29, for the fields of the form.
-fn given(form: &[u8], sheet: &[u8], items: &[u32], s: State) -> Refused
+fn given(form: &[u8], sheet: &[u8], items: &[u32], s: State) -> Result<(), RefusedAt>
     ensures { Tests form.now sheet.now items.now s result }
 {
-    let checked = form_check::check(form);
-    if checked.number != 0 {
-        return checked;
-    }
+    form_check::check(form)?;
     let fields = form_layout::field_count(form);
-    let number = call_table::given_state(sheet, items, s, fields);
-    Refused { number, place: 0 }
+    call_table::given_state(sheet, items, s, fields)?;
+    Ok(())
 }
 
 pub fn no_key() -> Key
@@ -145,7 +143,7 @@ fn value_answer(value: Result<Option<Word>, NoArgument>, left: State, s: State) 
     match value {
         Ok(None) => changed(0, 0, 0, left),
         Ok(Some(word)) => changed(1, narrow(word.place), 0, left),
-        Err(e) => unchanged(NO_ARGUMENT, e.key as u32 + 1, s),
+        Err(e) => unchanged_at(RefusedAt::at(Refusal::NoArgument, e.key), s),
     }
 }
 
@@ -188,13 +186,12 @@ pub fn matches_arg(
 ) -> Answer
     ensures { answer_of yes_code (call_matches form.now sheet.now items.now s node place) ≡ some result }
 {
-    let checked = given(form, sheet, items, s);
-    if checked.number != 0 {
-        return refused(checked.number, checked.place);
+    if let Err(e) = given(form, sheet, items, s) {
+        return refused_at(e);
     }
     let key = key_at(form, node);
     if key.kind == 0 || s.count as usize <= place {
-        return refused(NOT_THERE, 0);
+        return refused(Refusal::NotThere);
     }
     matched(form, sheet, items, place, key)
 }
@@ -210,13 +207,12 @@ pub fn take_flag(
 ) -> StateAnswer
     ensures { state_answer_of yes_code (call_take_flag form.now sheet.now items.now s node field) ≡ some result }
 {
-    let checked = given(form, sheet, items, s);
-    if checked.number != 0 {
-        return unchanged(checked.number, checked.place, s);
+    if let Err(e) = given(form, sheet, items, s) {
+        return unchanged_at(e, s);
     }
     let key = key_at(form, node);
     if key.kind != 1 || form_layout::field_count(form) <= field {
-        return unchanged(NOT_THERE, 0, s);
+        return unchanged(Refusal::NotThere, s);
     }
     flag_taken(form, sheet, items, s, key, field_mark(field))
 }
@@ -232,13 +228,12 @@ pub fn take_arg(
 ) -> StateAnswer
     ensures { state_answer_of taken_code (call_take_arg form.now sheet.now items.now s node field) ≡ some result }
 {
-    let checked = given(form, sheet, items, s);
-    if checked.number != 0 {
-        return unchanged(checked.number, checked.place, s);
+    if let Err(e) = given(form, sheet, items, s) {
+        return unchanged_at(e, s);
     }
     let key = key_at(form, node);
     if key.kind != 2 || form_layout::field_count(form) <= field {
-        return unchanged(NOT_THERE, 0, s);
+        return unchanged(Refusal::NotThere, s);
     }
     arg_taken(form, sheet, items, s, key, field_mark(field))
 }
@@ -247,12 +242,11 @@ pub fn take_arg(
 pub fn take_cmd(form: &[u8], sheet: &[u8], items: &[u32], s: State, record: usize) -> StateAnswer
     ensures { state_answer_of yes_code (call_take_cmd form.now sheet.now items.now s «record») ≡ some result }
 {
-    let checked = given(form, sheet, items, s);
-    if checked.number != 0 {
-        return unchanged(checked.number, checked.place, s);
+    if let Err(e) = given(form, sheet, items, s) {
+        return unchanged_at(e, s);
     }
     if !is_command(form, record) {
-        return unchanged(NOT_THERE, 0, s);
+        return unchanged(Refusal::NotThere, s);
     }
     cmd_taken(sheet, items, s, form_layout::name_bytes(form, record))
 }

@@ -11,10 +11,8 @@ ghost use Rattle.rules.specs.Calls.{call_remove, call_pick_winner, call_save_con
 ghost use Rattle.call_answers.specs.Answers.{yes_code, pick_code, scope_code, scope_or_none, answer_of, state_answer_of};
 ghost use Rattle.call_state.specs.Entries.{both_in};
 
-use call_answers::{
-    Answer, BAD_STATE, NOT_THERE, StateAnswer, answered, changed, refused, unchanged, yes_no,
-};
-use rules::State;
+use call_answers::{Answer, StateAnswer, answered, changed, refused, unchanged, yes_no};
+use rules::{Refusal, State};
 use state_marks::{MOST_FIELDS, field_mark};
 
 // Refusal 29: whether both states are good ones over the first's items.
@@ -30,10 +28,10 @@ pub fn remove(s: State, place: usize, field: usize) -> StateAnswer
     ensures { state_answer_of yes_code (call_remove s place field) ≡ some result }
 {
     if !state_marks::good(s, s.count as usize, MOST_FIELDS) {
-        return unchanged(BAD_STATE, 0, s);
+        return unchanged(Refusal::BadState, s);
     }
     if s.count as usize <= place || MOST_FIELDS <= field {
-        return unchanged(NOT_THERE, 0, s);
+        return unchanged(Refusal::NotThere, s);
     }
     changed(1, 0, 0, state_value::remove(s, place, field_mark(field)))
 }
@@ -43,7 +41,7 @@ pub fn pick_winner(s: State, t: State) -> Answer
     ensures { answer_of pick_code (call_pick_winner s t) ≡ some result }
 {
     if !both_good(s, t) {
-        return refused(BAD_STATE, 0);
+        return refused(Refusal::BadState);
     }
     let picked = state_value::pick_winner(s, t);
     let place = match picked.place {
@@ -58,10 +56,10 @@ pub fn save_conflicts(s: State, loser: State, winner: usize) -> StateAnswer
     ensures { state_answer_of yes_code (call_save_conflicts s loser winner) ≡ some result }
 {
     if !both_good(s, loser) {
-        return unchanged(BAD_STATE, 0, s);
+        return unchanged(Refusal::BadState, s);
     }
     if s.count as usize <= winner {
-        return unchanged(NOT_THERE, 0, s);
+        return unchanged(Refusal::NotThere, s);
     }
     changed(1, 0, 0, state_value::save_conflicts(s, loser, winner))
 }
@@ -72,10 +70,10 @@ pub fn set_scope(s: State, from: usize, to: usize) -> StateAnswer
 {
     let count = s.count as usize;
     if !state_marks::good(s, count, MOST_FIELDS) {
-        return unchanged(BAD_STATE, 0, s);
+        return unchanged(Refusal::BadState, s);
     }
     if to < from || count < to {
-        return unchanged(NOT_THERE, 0, s);
+        return unchanged(Refusal::NotThere, s);
     }
     changed(1, 0, 0, state_value::set_scope(s, from, to))
 }
@@ -85,7 +83,7 @@ pub fn adjacent_scope(s: State, original: State) -> Answer
     ensures { answer_of scope_or_none (call_adjacent_scope s original) ≡ some result }
 {
     if !both_good(s, original) {
-        return refused(BAD_STATE, 0);
+        return refused(Refusal::BadState);
     }
     match state_value::adjacent_scope(s, original) {
         Some(scope) => answered(1, scope.start, scope.end),
@@ -99,10 +97,10 @@ pub fn adjacently_available_from(s: State, from: usize) -> Answer
 {
     let count = s.count as usize;
     if !state_marks::good(s, count, MOST_FIELDS) {
-        return refused(BAD_STATE, 0);
+        return refused(Refusal::BadState);
     }
     if count < from {
-        return refused(NOT_THERE, 0);
+        return refused(Refusal::NotThere);
     }
     let scope = state_value::adjacently_available_from(s, from);
     answered(1, scope.start, scope.end)

@@ -9,23 +9,8 @@ ghost use Rattle.rules.specs.Calls.{item_from, items_from, records_in};
 ghost use Rattle.split_arg.specs.Items.{record_at};
 ghost use Rattle.call_table.specs.Given.{Trims, Checks, Gives, GivesState};
 
-use call_answers::{BAD_ITEM, BAD_STATE, SHORT_SLICE};
-use rules::State;
+use rules::{Refusal, State};
 use split_arg::ITEM_WORDS;
-
-// Whether each record is well made, and then how many items there are.
-#[derive(Clone, Copy)]
-pub struct Checked {
-    pub good: bool,
-    pub count: usize,
-}
-
-// The number of a refusal, or 0 and how many items there are.
-#[derive(Clone, Copy)]
-pub struct Input {
-    pub number: u32,
-    pub count: usize,
-}
 
 // Record i, as a part of the slice.
 fn words_at(items: &[u32], i: usize) -> &[u32]
@@ -112,57 +97,37 @@ fn records_good(items: &[u32], n: usize, area: usize) -> bool
     true
 }
 
-// Refusal 30: what the slice holds, over the sheet's area.
-pub fn check(sheet: &[u8], items: &[u32]) -> Checked
+// How many items the slice holds over the sheet's area, if each record is well made.
+pub fn check(sheet: &[u8], items: &[u32]) -> Option<usize>
     requires { sheet_fault sheet.now ≡ 0 }
     ensures { Checks (sheet_area sheet.now) items.now result }
 {
     let area = sheet.len() - wire::area_start(2, split_sheet::count(sheet));
     let count = trimmed_count(items);
-    let good = tail_good(items) && records_good(items, count, area);
-    Checked { good, count }
+    if tail_good(items) && records_good(items, count, area) {
+        return Some(count);
+    }
+    None
 }
 
-// Refusals 5, 6, 7 and 30, in the order of the calls.
-pub fn given(sheet: &[u8], items: &[u32]) -> Input
+// How many items there are, or refusals 5, 6, 7 and 30, in the order of the calls.
+pub fn given(sheet: &[u8], items: &[u32]) -> Result<usize, Refusal>
     ensures { Gives sheet.now items.now result }
 {
-    let fault = split_sheet::check(sheet);
-    if fault != 0 {
-        return Input {
-            number: fault,
-            count: 0,
-        };
-    }
+    split_sheet::check(sheet)?;
     if items.len() < ITEM_WORDS {
-        return Input {
-            number: SHORT_SLICE,
-            count: 0,
-        };
+        return Err(Refusal::ShortSlice);
     }
-    let c = check(sheet, items);
-    if !c.good {
-        return Input {
-            number: BAD_ITEM,
-            count: 0,
-        };
-    }
-    Input {
-        number: 0,
-        count: c.count,
-    }
+    check(sheet, items).ok_or(Refusal::BadItem)
 }
 
-// The same, and then 29, for a state over these items, used by fields below `fields`: the number, or 0.
-pub fn given_state(sheet: &[u8], items: &[u32], s: State, fields: usize) -> u32
+// The same, and then 29, for a state over these items, used by fields below `fields`.
+pub fn given_state(sheet: &[u8], items: &[u32], s: State, fields: usize) -> Result<(), Refusal>
     ensures { GivesState fields sheet.now items.now s result }
 {
-    let g = given(sheet, items);
-    if g.number != 0 {
-        return g.number;
+    let count = given(sheet, items)?;
+    if !state_marks::good(s, count, fields) {
+        return Err(Refusal::BadState);
     }
-    if !state_marks::good(s, g.count, fields) {
-        return BAD_STATE;
-    }
-    0
+    Ok(())
 }
