@@ -21,6 +21,9 @@ use Rattle.rules.proofs.WellMadeLaws.{well_made}
 use Rattle.form_names.specs.Names.{name_of}
 use Rattle.form_names.specs.declared.Name as names
 use Rattle.form_layout.specs.declared.Node as layout
+use Rattle.form_layout.specs.declared.Kind.TheVariants.{Flag, Argument}
+use Rattle.form_layout.specs.Kinds.{kind_number}
+use Rattle.form_layout.proofs.KindNumbers.{not_kind}
 use Rattle.form_layout.specs.Layout.{node_of, HasName, name_bytes_at}
 use Rattle.form_layout.proofs.Sizes.{fields_length, nodes_length, names_length}
 use Rattle.form_codes.specs.Codes.{names_from, named_at}
@@ -152,14 +155,14 @@ module _ (b : List ℕ) (k : ℕ) where
   key_past n m h r e = record { at = λ a g. rw e (past_nodes (omega (arith, m, h)) a g) }
 
   module _ (x : layout.Node) (at : get_elem? (read_form b).nodes k ≡ some (node_of x)) where
-    pub key_flag : x.kind ≡ 1 → Keyed b k (key_with 1 x.p x.q false)
-    key_flag e = record { at = λ a g. flag_here (node_of x) at a g e }
+    pub key_flag : x.kind ≡ Flag → Keyed b k (key_with 1 x.p x.q false)
+    key_flag e = record { at = λ a g. flag_here (node_of x) at a g (ap kind_number e) }
 
-    pub key_argument : x.kind ≡ 2 → Keyed b k (key_with 2 x.p x.q (eqb (x.r % 2) 1))
-    key_argument e = record { at = λ a g. argument_here (node_of x) at a g e }
+    pub key_argument : x.kind ≡ Argument → Keyed b k (key_with 2 x.p x.q (eqb (x.r % 2) 1))
+    key_argument e = record { at = λ a g. argument_here (node_of x) at a g (ap kind_number e) }
 
-    pub key_other : (x.kind ≡ 1 → ⊥) → (x.kind ≡ 2 → ⊥) → (r : Key) → r ≡ no_key → Keyed b k r
-    key_other p q r e = record { at = λ a g. rw e (other_here (node_of x) at a g p q) }
+    pub key_other : (x.kind ≡ Flag → ⊥) → (x.kind ≡ Argument → ⊥) → (r : Key) → r ≡ no_key → Keyed b k r
+    key_other p q r e = record { at = λ a g. rw e (other_here (node_of x) at a g (not_kind x.kind 1 refl p) (not_kind x.kind 2 refl q)) }
 
 -- ---- the name of a command
 module _ (b : List ℕ) (k : ℕ) where

@@ -24,6 +24,8 @@ use call_answers::{
     yes_no,
 };
 use form_codes::codes_of;
+use form_layout::Kind;
+use rules::{Refused, State};
 use rules::{Refusal, RefusedAt, State};
 use state_marks::{COMMAND, field_mark, joined, numbers_of};
 use take::{NoArgument, Word};
@@ -67,7 +69,7 @@ pub fn key_at(form: &[u8], k: usize) -> Key
     }
     let x = form_layout::node_at(form, k);
     match x.kind {
-        1 => Key {
+        Kind::Flag => Key {
             kind: 1,
             names: Names {
                 first: x.p,
@@ -75,7 +77,7 @@ pub fn key_at(form: &[u8], k: usize) -> Key
                 adjacent: false,
             },
         },
-        2 => Key {
+        Kind::Argument => Key {
             kind: 2,
             names: Names {
                 first: x.p,

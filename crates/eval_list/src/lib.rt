@@ -11,6 +11,7 @@ ghost use Rattle.eval_list.specs.Lists.{Listed, Writes, WritesField, OverScalar,
 
 use eval_node::Repeat;
 use eval_told::{Line, Ran};
+use form_layout::Kind;
 use state_marks::Numbers;
 
 // A node, and the word of the answer slice that its value begins at.
@@ -118,9 +119,9 @@ pub fn run_list(
         at: field.at,
     };
     match x.kind {
-        4 => run_optional_list(line, marks, p, child, out, mark),
-        5 => run_many(line, marks, p, child, out, mark),
-        6 => run_some(line, marks, p, child, out, mark),
+        Kind::Optional => run_optional_list(line, marks, p, child, out, mark),
+        Kind::Many => run_many(line, marks, p, child, out, mark),
+        Kind::AtLeastOne => run_some(line, marks, p, child, out, mark),
         _ => run_either(line, marks, p, sides, out, mark),
     }
 }

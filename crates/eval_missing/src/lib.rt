@@ -20,6 +20,7 @@ ghost use Rattle.eval_missing.specs.Missing.{Listable, Listing, Lists, ListsNode
 
 use eval_list::Field;
 use eval_told::Line;
+use form_layout::Kind;
 use state_marks::Numbers;
 
 // The refusal of a leaf that looked in vain.
@@ -65,16 +66,18 @@ fn list_node(
     ensures { ListsNode line.now.form.now line.now.sheet.now line.now.items.now (with_mark field mark) marks.now p list.old list.new result }
 {
     let x = form_layout::node_at(line.form, field.node);
+    if x.kind.is_leaf() {
+        return put_entry(list, field.at, field.node, p);
+    }
     match x.kind {
-        0..=3 => put_entry(list, field.at, field.node, p),
-        8 | 11 => {
+        Kind::Last | Kind::Guard => {
             let under = Field {
                 node: x.p,
                 at: field.at,
             };
             list_node(line, marks, p, under, list, mark)
         }
-        9 => {
+        Kind::Choice => {
             let mut at = field.at;
             if ends_missing(line, marks, p, x.p, mark) {
                 let first = Field { node: x.p, at };

@@ -20,7 +20,7 @@ ghost use Rattle.eval_node.specs.Cycle.{Repeating, Repeats, counting};
 use eval_structs::Counting;
 use eval_told::{Line, Ran};
 use eval_words::{Repeated, write_value};
-use form_layout::Node;
+use form_layout::{Kind, Node};
 use state_marks::Numbers;
 
 // A repeat: of which child, whether a refusal of the child is caught, whether a success that used nothing ends it, and whether
@@ -66,8 +66,8 @@ pub fn run_node(line: &Line, marks: &mut [u16; 256], p: Numbers, node: usize, ma
 {
     let x = form_layout::node_at(line.form, node);
     match x.kind {
-        1 => eval_params::eval_flag(line.known, marks, p, node, x.r == 1, mark),
-        2 => eval_params::eval_argument(
+        Kind::Flag => eval_params::eval_flag(line.known, marks, p, node, x.r == 1, mark),
+        Kind::Argument => eval_params::eval_argument(
             line.known,
             line.sheet,
             line.items,
@@ -77,12 +77,20 @@ pub fn run_node(line: &Line, marks: &mut [u16; 256], p: Numbers, node: usize, ma
             2 <= x.r,
             mark,
         ),
-        3 => eval_params::eval_positional(line.sheet, line.items, marks, p, x.p, x.r == 2, mark),
-        4 => optional(line, marks, p, x.p, x.r == 1, mark),
-        7 => count(line, marks, p, x.p, mark),
-        8 => last(line, marks, p, x.p, mark),
-        9 => choice(line, marks, p, x.p, x.q, mark),
-        10 => fallback(line, marks, p, node, x.p, mark),
+        Kind::Positional => eval_params::eval_positional(
+            line.sheet,
+            line.items,
+            marks,
+            p,
+            x.p,
+            x.r == 2,
+            mark,
+        ),
+        Kind::Optional => optional(line, marks, p, x.p, x.r == 1, mark),
+        Kind::Count => count(line, marks, p, x.p, mark),
+        Kind::Last => last(line, marks, p, x.p, mark),
+        Kind::Choice => choice(line, marks, p, x.p, x.q, mark),
+        Kind::Fallback => fallback(line, marks, p, node, x.p, mark),
         _ => guard(line, marks, p, x, mark),
     }
 }
@@ -249,8 +257,16 @@ fn leaf(line: &Line, marks: &mut [u16; 256], p: Numbers, over: Chain, from: usiz
 {
     let x = over.node;
     match x.kind {
-        1 => eval_params::eval_flag_from(line.known, marks, p, from, over.leaf, x.r == 1, mark),
-        2 => eval_params::eval_argument_from(
+        Kind::Flag => eval_params::eval_flag_from(
+            line.known,
+            marks,
+            p,
+            from,
+            over.leaf,
+            x.r == 1,
+            mark,
+        ),
+        Kind::Argument => eval_params::eval_argument_from(
             line.known,
             line.sheet,
             line.items,
@@ -261,7 +277,7 @@ fn leaf(line: &Line, marks: &mut [u16; 256], p: Numbers, over: Chain, from: usiz
             2 <= x.r,
             mark,
         ),
-        3 => eval_params::eval_positional_from(
+        Kind::Positional => eval_params::eval_positional_from(
             line.sheet,
             line.items,
             marks,

@@ -3,9 +3,7 @@ use mathlib.Core.Bool.{Bool, true, false, false≢true}
 use mathlib.Core.List.{List, [], ◌∷◌, ◌++◌}
 use mathlib.Core.Option.{Option, some, none, some-injective, none-ne-some}
 use mathlib.Core.Path.{◌≡◌, refl, sym, ◌∙◌, ap, ap₂, subst}
-use Prim.Native.Nat.{ℕ, suc, ◌-◌, ◌≤◌, ◌<◌}
-use native.Mathlib.Nat.{eq-or-lt_of_le}
-use mathlib.Core.Logic.{⊎_elim}
+use Prim.Native.Nat.{ℕ, suc, ◌-◌}
 use native.Mathlib.Omega.{arith}
 use lib.Dec.{leb, eqb, ltb}
 use lib.ListN.{length, take, drop, get_elem?, length-drop, take-append-drop}
@@ -245,24 +243,23 @@ no_other (Fallback v t) a c d e = absurd (e refl)
 no_other (Guard l h t) a c d e = refl
 
 module _ (b : List ℕ) (n : ℕ) (y : Node) (h : get_elem? (read_form b).nodes n ≡ some (node_of y)) where
-  pub undoes_flag : y.kind ≡ 1 → (t : Tree) → tree_at b n ≡ some t → true ≡ undoes t
+  pub undoes_flag : (node_of y).kind ≡ 1 → (t : Tree) → tree_at b n ≡ some t → true ≡ undoes t
   unfolding undoes
   undoes_flag k t e = ap undoes (flag_tree b n t e (node_of y) h k).same
 
-  pub undoes_argument : y.kind ≡ 2 → (t : Tree) → tree_at b n ≡ some t → ltb y.r 2 ≡ undoes t
+  pub undoes_argument : (node_of y).kind ≡ 2 → (t : Tree) → tree_at b n ≡ some t → ltb y.r 2 ≡ undoes t
   unfolding undoes
   undoes_argument k t e = text_below y.r ∙ ap undoes (argument_tree b n t e (node_of y) h k).same
 
-  -- 9 or 10
-  pub undoes_choice_fallback : 9 ≤ y.kind → y.kind ≤ 10 → (t : Tree) → tree_at b n ≡ some t → true ≡ undoes t
+  pub undoes_choice : (node_of y).kind ≡ 9 → (t : Tree) → tree_at b n ≡ some t → true ≡ undoes t
   unfolding undoes
-  undoes_choice_fallback l m t e =
-      ⊎_elim
-      (λ (k : 9 ≡ y.kind). ap undoes (choice_tree b n t e (node_of y) h (sym k)).same)
-      (λ (k : 9 < y.kind). ap undoes (fallback_tree b n t e (node_of y) h (omega arith)).single.same)
-      (eq-or-lt_of_le l)
+  undoes_choice k t e = ap undoes (choice_tree b n t e (node_of y) h k).same
 
-  pub undoes_other : (y.kind ≡ 1 → ⊥) → (y.kind ≡ 2 → ⊥) → (y.kind ≡ 9 → ⊥) → (y.kind ≡ 10 → ⊥)
+  pub undoes_fallback : (node_of y).kind ≡ 10 → (t : Tree) → tree_at b n ≡ some t → true ≡ undoes t
+  unfolding undoes
+  undoes_fallback k t e = ap undoes (fallback_tree b n t e (node_of y) h k).single.same
+
+  pub undoes_other : ((node_of y).kind ≡ 1 → ⊥) → ((node_of y).kind ≡ 2 → ⊥) → ((node_of y).kind ≡ 9 → ⊥) → ((node_of y).kind ≡ 10 → ⊥)
       → (t : Tree) → tree_at b n ≡ some t → false ≡ undoes t
   undoes_other a c d f t e =
       let k = sym (tree_number b n t e (node_of y) h) in

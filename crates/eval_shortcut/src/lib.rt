@@ -10,6 +10,7 @@ ghost use Rattle.eval_shortcut.specs.Children.{leaf_below, Searched, LeafRan, Ha
 ghost use Rattle.eval_shortcut.specs.OneSide.{Searchable, misses_by, stays_by, alone_by, Misses, Stays, Alone};
 
 use eval_told::Ran;
+use form_layout::Kind;
 use state_marks::Numbers;
 
 // Whether a refusal of this node leaves the state as it was, whatever the refusal.
@@ -19,8 +20,8 @@ fn undoes(form: &[u8], node: usize) -> bool
 {
     let x = form_layout::node_at(form, node);
     match x.kind {
-        1 | 9 | 10 => true,
-        2 => x.r < 2,
+        Kind::Flag | Kind::Choice | Kind::Fallback => true,
+        Kind::Argument => x.r < 2,
         _ => false,
     }
 }
@@ -32,8 +33,8 @@ fn keeps_leaf(form: &[u8], node: usize) -> bool
 {
     let x = form_layout::node_at(form, node);
     match x.kind {
-        2 => false,
-        3 => 2 <= x.p,
+        Kind::Argument => false,
+        Kind::Positional => 2 <= x.p,
         _ => true,
     }
 }
@@ -50,7 +51,7 @@ pub fn keeps_marks(form: &[u8], child: usize, catch: bool) -> bool
         return true;
     }
     let x = form_layout::node_at(form, child);
-    if x.kind == 11 {
+    if let Kind::Guard = x.kind {
         return keeps_leaf(form, x.p);
     }
     keeps_leaf(form, child)
@@ -64,8 +65,8 @@ fn is_missing(form: &[u8], known: &[u64], node: usize) -> bool
 {
     let x = form_layout::node_at(form, node);
     match x.kind {
-        1 => x.r != 1 && eval_params::is_missing(known, node),
-        2 => eval_params::is_missing(known, node), // every argument is required
+        Kind::Flag => x.r != 1 && eval_params::is_missing(known, node),
+        Kind::Argument => eval_params::is_missing(known, node), // every argument is required
         _ => false,
     }
 }
@@ -94,7 +95,7 @@ fn is_leaf(form: &[u8], node: usize) -> bool
     ensures { (t : Tree) → tree_at form.now node ≡ some t → result ≡ is_leaf t }
 {
     let x = form_layout::node_at(form, node);
-    x.kind <= 3
+    x.kind.is_leaf()
 }
 
 // The node that a turn evaluates first: the leaf right beneath a guard, or beneath an optional that has no marks to put back.
@@ -106,8 +107,8 @@ pub fn leaf_below(form: &[u8], child: usize) -> usize
 {
     let x = form_layout::node_at(form, child);
     match x.kind {
-        11 if is_leaf(form, x.p) => x.p,
-        4 if is_leaf(form, x.p) && !keeps_marks(form, x.p, x.r == 1) => x.p,
+        Kind::Guard if is_leaf(form, x.p) => x.p,
+        Kind::Optional if is_leaf(form, x.p) && !keeps_marks(form, x.p, x.r == 1) => x.p,
         _ => child,
     }
 }
@@ -121,7 +122,7 @@ pub fn wrap(form: &[u8], child: usize, leaf: usize, ran: Ran, p: Numbers) -> Ran
         return ran;
     }
     let x = form_layout::node_at(form, child);
-    if x.kind == 11 {
+    if let Kind::Guard = x.kind {
         return eval_combine::guard(ran, x.lo, x.hi);
     }
     eval_combine::optional_unchanged(ran, p, x.r == 1).ran
@@ -137,8 +138,8 @@ pub fn is_list(form: &[u8], node: usize) -> bool
     loop {
         let x = form_layout::node_at(form, n);
         match x.kind {
-            4 | 9 => n = x.p,
-            5 | 6 => return true,
+            Kind::Optional | Kind::Choice => n = x.p,
+            Kind::Many | Kind::AtLeastOne => return true,
             _ => return false,
         }
     }

@@ -14,15 +14,13 @@ use native.Mathlib.Omega.{arith}
 use lib.Dec.{ltb, eqb}
 use lib.ListN.{length, get_or, get_elem?, set, take, drop, replicate, length-set, length-replicate, get_or-replicate, drop_of_length-le}
 use lib.Seq.{drop-cons, get_or-set_same, get_or-set_other}
-use borrow.Author.Tests.{eq-eqb, ne_eqb, le-leb, lt-leb, lt-ltb, le-ltb, ltb-true, ltb-false, eqb-true, eqb-false}
+use borrow.Author.Tests.{eq-eqb, ne_eqb, lt-ltb, le-ltb, ltb-true, ltb-false, eqb-true, eqb-false}
 use Rattle.rules.specs.Base.{all, occurrences, numbers, concat_map, first_fault, ◌>>?◌}
 use Rattle.rules.specs.Form.{Node, Form}
 use Rattle.rules.specs.Tree.{Tree}
 use Rattle.rules.specs.Accept.{children_of, uses, used_once, trees_at}
 use Rattle.rules.proofs.Acceptance.{lookup_some}
 use Rattle.form_names.proofs.Faults.{fault_same}
-use Rattle.form_layout.specs.declared.Node as layout
-use Rattle.form_layout.specs.Layout.{node_of}
 use Rattle.form_kinds.proofs.Steps.{lookup_none, drop_there}
 use Rattle.form_kinds.proofs.Table.{same_or}
 use Rattle.form_check.specs.Uses.{added, tally, FieldsCounted}
@@ -44,21 +42,6 @@ pub tally_append : (c l m : List ℕ) → tally c (l ++ m) ≡ tally (tally c l)
 unfolding tally
 tally_append c [] m = refl
 tally_append c (k ∷ l) m = tally_append (added c k) l m
-
--- ---- children
-module _ (x : layout.Node) (c : List ℕ) where
-  pub children_none : x.kind ≤ 3 → c ≡ tally c (children_of (node_of x))
-  unfolding children_of tally
-  children_none h = rw (le-leb x.kind 3 h)
-
-  module _ (h : 3 < x.kind) (d : List ℕ) (e : d ≡ added c x.p) where
-    pub children_two : x.kind ≡ 9 → (g : List ℕ) → g ≡ added d x.q → g ≡ tally c (children_of (node_of x))
-    unfolding children_of tally
-    children_two k g r = rw (lt-leb x.kind 3 h, eq-eqb x.kind 9 k, ← e) r
-
-    pub children_one : (x.kind ≡ 9 → ⊥) → d ≡ tally c (children_of (node_of x))
-    unfolding children_of tally
-    children_one k = rw (lt-leb x.kind 3 h, ne_eqb x.kind 9 k) e
 
 -- ---- the loop over the fields: those below i are nodes, and are counted
 pub record FieldsFrom (n : ℕ) (l c₀ c : List ℕ) (i : ℕ) : Type 0 where

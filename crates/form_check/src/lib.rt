@@ -14,6 +14,7 @@ ghost use Rattle.form_kinds.specs.Known.{codes};
 ghost use Rattle.form_check.specs.Uses.{greatest, added, tally, FieldsCounted, records_fault};
 
 use form_kinds::AT_FAULT;
+use form_layout::Kind;
 use rules::{Refusal, RefusedAt};
 
 // Puts the codes of all nodes into an empty table. The highest is asked for first, and works out those beneath it; every node is
@@ -88,13 +89,13 @@ fn count_fields(b: &[u8], n: usize, counts: &mut [u8; 64]) -> bool
 fn add_children(x: form_layout::Node, counts: &mut [u8; 64])
     ensures { counts.new ≡ tally counts.old (children_of (node_of x)) }
 {
-    if x.kind <= 3 {
+    if x.kind.is_leaf() {
         return;
     }
     if x.p < 64 {
         add(counts, x.p);
     }
-    if x.kind == 9 && x.q < 64 {
+    if x.kind == Kind::Choice && x.q < 64 {
         add(counts, x.q);
     }
 }

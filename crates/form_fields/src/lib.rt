@@ -29,7 +29,7 @@ fn is_child(b: &[u8], m: usize, n: usize) -> bool
     ensures { (x : Node) → get_elem? (read_form b.now).nodes m ≡ some x → result ≡ contains (children_of x) n }
 {
     let x = form_layout::node_at(b, m);
-    3 < x.kind && (x.p == n || (x.kind == 9 && x.q == n))
+    !x.kind.is_leaf() && (x.p == n || (x.kind == form_layout::Kind::Choice && x.q == n))
 }
 
 // From node `n` up to the one that no other has as a child. Children have lower numbers, so one pass is enough.

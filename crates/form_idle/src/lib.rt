@@ -8,6 +8,7 @@ ghost use Rattle.rules_careful.specs.Idle.{idle_repeats, call_idle, bit_set};
 ghost use Rattle.form_layout.specs.Layout.{node_of};
 ghost use Rattle.form_idle.specs.Idles.{idle_by, repeat_by, said_in, idle_answer};
 
+use form_layout::Kind;
 use rules::Refused;
 
 // Node n is bit n of `nodes`. Refused, there is none, and the refusal stands beside it. A place is itself plus 1, or 0 for none.
@@ -36,9 +37,10 @@ fn may_idle(x: form_layout::Node, first: bool, second: bool) -> bool
     ensures { result ≡ idle_by (node_of x) first second }
 {
     match x.kind {
-        0..=3 => x.kind == 1 && x.r == 1,
-        6 | 8 | 11 => first,
-        9 => first || second,
+        Kind::Flag => x.r == 1,
+        Kind::Zero | Kind::Argument | Kind::Positional => false,
+        Kind::AtLeastOne | Kind::Last | Kind::Guard => first,
+        Kind::Choice => first || second,
         _ => true,
     }
 }
@@ -48,7 +50,10 @@ fn may_idle(x: form_layout::Node, first: bool, second: bool) -> bool
 fn is_idle_repeat(x: form_layout::Node, first: bool) -> bool
     ensures { result ≡ repeat_by (node_of x) first }
 {
-    matches!(x.kind, 5..=8) && first
+    matches!(
+        x.kind,
+        Kind::Many | Kind::AtLeastOne | Kind::Count | Kind::Last
+    ) && first
 }
 
 // The set of such repeats. Children have lower numbers, so one pass is enough.

@@ -1,7 +1,7 @@
 -- Numbers that move up: what stands at a number, and that it stays small.
 use mathlib.Core.Bool.{Bool, true, false, ◌&&◌}
 use mathlib.Core.List.{List, [], ◌∷◌, map}
-use mathlib.Core.Logic.{⊎_elim}
+use mathlib.Core.Logic.{⊎_elim, ◌⊎◌, inl, inr}
 use mathlib.Core.Option.{Option, some, some-injective, none-ne-some}
 use mathlib.Core.Path.{◌≡◌, refl, ap, ◌∙◌}
 use Prim.Native.Nat.{ℕ, zero, suc, ◌+◌, ◌≤◌, ◌<◌}
@@ -25,7 +25,10 @@ use Rattle.rules_join.specs.Join.{Moves, moves_behind, move_name, is_text_kind, 
 use Rattle.form_names.specs.Names.{name_of}
 use Rattle.form_names.specs.declared.Name as names
 use Rattle.form_layout.specs.Layout.{node_of}
+use Rattle.form_layout.specs.declared.Kind.{Kind as LaidKind}
+use Rattle.form_layout.specs.declared.Kind.TheVariants.{Zero, Flag, Argument}
 use Rattle.form_layout.specs.declared.Node as nodes
+use Rattle.form_layout.specs.Kinds.{kind_number}
 use Rattle.form_layout.proofs.Sizes.{sized, nodes_length, names_length}
 use Rattle.form_join.specs.declared.Moves as declared
 use Rattle.form_join.specs.Moved.{moves_of, SmallMoves, MovesPast, FormPasses, CanMoveNode, CanMoveName, CanMoveField, NodeWithin}
@@ -72,8 +75,8 @@ text_code (optional_list text) = refl
 text_code (optional_list number) = refl
 
 module _ (b : List ℕ) (k kind : ℕ) where
-  pub other_kind : (kind ≡ 10 → ⊥) → IsText b k kind (eqb kind 10)
-  other_kind h a t e s = rw (ne_eqb kind 10 h)
+  pub other_kind : (kind ≡ 10 → ⊥) → (r : Bool) → r ≡ false → IsText b k kind r
+  other_kind h r z a t e s = rw (z, ne_eqb kind 10 h)
 
   pub fallback_kind :
       kind ≡ 10
@@ -87,25 +90,36 @@ module _ (b : List ℕ) (k kind : ℕ) where
 
 -- ---- numbers that are moved
 
-pub p_name : (x : nodes.Node) (d : declared.Moves) → x.kind ≤ 2 → d.names + x.p ≡ move_p (moves_of d) (node_of x)
-unfolding move_p
-p_name x d h = rw (le-leb x.kind 2 h)
+low : (k : LaidKind) → (k ≡ Zero) ⊎ ((k ≡ Flag) ⊎ (k ≡ Argument)) → kind_number k ≤ 2
+low k (inl e) = omega (arith, ap kind_number e)
+low k (inr (inl e)) = omega (arith, ap kind_number e)
+low k (inr (inr e)) = omega (arith, ap kind_number e)
 
-pub p_words : (x : nodes.Node) (d : declared.Moves) → 2 < x.kind → x.kind ≡ 3 → x.p ≡ move_p (moves_of d) (node_of x)
+pub p_name : (x : nodes.Node) (d : declared.Moves) → (x.kind ≡ Zero) ⊎ ((x.kind ≡ Flag) ⊎ (x.kind ≡ Argument)) → d.names + x.p ≡ move_p (moves_of d) (node_of x)
 unfolding move_p
-p_words x d h e = rw (lt-leb x.kind 2 h, eq-eqb x.kind 3 e)
+p_name x d h = rw (le-leb (node_of x).kind 2 (low x.kind h))
 
-pub p_child : (x : nodes.Node) (d : declared.Moves) → 2 < x.kind → (x.kind ≡ 3 → ⊥) → d.nodes + x.p ≡ move_p (moves_of d) (node_of x)
+pub p_words : (x : nodes.Node) (d : declared.Moves) → (node_of x).kind ≡ 3 → x.p ≡ move_p (moves_of d) (node_of x)
 unfolding move_p
-p_child x d h e = rw (lt-leb x.kind 2 h, ne_eqb x.kind 3 e)
+p_words x d e = rw (lt-leb (node_of x).kind 2 (omega arith), eq-eqb (node_of x).kind 3 e)
 
-pub q_child : (x : nodes.Node) (d : declared.Moves) → x.kind ≡ 9 → d.nodes + x.q ≡ move_q (moves_of d) (node_of x)
+pub p_child :
+    (x : nodes.Node) (d : declared.Moves)
+    → ((node_of x).kind ≡ 0 → ⊥)
+    → ((node_of x).kind ≡ 1 → ⊥)
+    → ((node_of x).kind ≡ 2 → ⊥)
+    → ((node_of x).kind ≡ 3 → ⊥)
+    → d.nodes + x.p ≡ move_p (moves_of d) (node_of x)
+unfolding move_p
+p_child x d z f a e = rw (lt-leb (node_of x).kind 2 (omega arith), ne_eqb (node_of x).kind 3 e)
+
+pub q_child : (x : nodes.Node) (d : declared.Moves) → (node_of x).kind ≡ 9 → d.nodes + x.q ≡ move_q (moves_of d) (node_of x)
 unfolding move_q
-q_child x d h = rw (eq-eqb x.kind 9 h)
+q_child x d h = rw (eq-eqb (node_of x).kind 9 h)
 
-pub q_other : (x : nodes.Node) (d : declared.Moves) → (x.kind ≡ 9 → ⊥) → x.q ≡ move_q (moves_of d) (node_of x)
+pub q_other : (x : nodes.Node) (d : declared.Moves) → ((node_of x).kind ≡ 9 → ⊥) → x.q ≡ move_q (moves_of d) (node_of x)
 unfolding move_q
-q_other x d h = rw (ne_eqb x.kind 9 h)
+q_other x d h = rw (ne_eqb (node_of x).kind 9 h)
 
 -- ---- how large they are
 
@@ -164,21 +178,21 @@ module _ (d : declared.Moves) (b : List ℕ) (k : ℕ) (has : CanMoveNode b k) (
   pub r_fits : d.names + x.r < 18446744073709551616
   r_fits = omega (arith, node_within.r, s.names)
 
-  module _ (p q : ℕ) (ep : p ≡ move_p (moves_of d) (node_of x)) (eq : q ≡ move_q (moves_of d) (node_of x)) (t : Bool) (et : IsText b k x.kind t) where
+  module _ (p q : ℕ) (ep : p ≡ move_p (moves_of d) (node_of x)) (eq : q ≡ move_q (moves_of d) (node_of x)) (t : Bool) (et : IsText b k (node_of x).kind t) where
     p_within : p ≤ 256
     unfolding move_p
     p_within =
         let small = node_within.p in
         let names : d.names + x.p ≤ 256 = omega (arith, s.names) in
         let nodes : d.nodes + x.p ≤ 256 = omega (arith, s.nodes) in
-        rw ep (picked (leb x.kind 2) _ _ 256 names (picked (eqb x.kind 3) _ _ 256 (omega arith) nodes))
+        rw ep (picked (leb (node_of x).kind 2) _ _ 256 names (picked (eqb (node_of x).kind 3) _ _ 256 (omega arith) nodes))
 
     q_within : q ≤ 256
     unfolding move_q
     q_within =
         let small = node_within.q in
         let nodes : d.nodes + x.q ≤ 256 = omega (arith, s.nodes) in
-        rw eq (picked (eqb x.kind 9) _ _ 256 nodes (omega arith))
+        rw eq (picked (eqb (node_of x).kind 9) _ _ 256 nodes (omega arith))
 
     moved_to :
         (r : ℕ)

@@ -70,16 +70,17 @@ words_put o o₁ o₂ o₃ o₄ at a b c d p q r s =
     rw (s, r, q, p, two, four, six)
 
 pub node_put :
-    (o o₁ o₂ o₃ : List ℕ) (at : ℕ) (x : nodes.Node)
-    → o₁ ≡ sets o at (words_of 2 (x.kind ∷ x.p ∷ x.q ∷ x.r ∷ []))
+    (o o₁ o₂ o₃ : List ℕ) (at : ℕ) (x : nodes.Node) (kind : ℕ)
+    → kind ≡ (node_of x).kind
+    → o₁ ≡ sets o at (words_of 2 (kind ∷ x.p ∷ x.q ∷ x.r ∷ []))
     → o₂ ≡ sets o₁ (at + 8) (bytes_of 4 x.lo)
     → o₃ ≡ sets o₂ (at + 12) (bytes_of 4 x.hi)
     → o₃ ≡ sets o at (encode_node (node_of x))
 unfolding encode_node words_of concat_map bytes_of
-node_put o o₁ o₂ o₃ at x p q r =
+node_put o o₁ o₂ o₃ at x kind k p q r =
     let eight : at + 8 ≡ suc (suc (suc (suc (suc (suc (suc (suc at))))))) = omega arith in
     let twelve : at + 12 ≡ suc (suc (suc (suc (suc (suc (suc (suc (suc (suc (suc (suc at))))))))))) = omega arith in
-    rw (r, q, p, eight, twelve)
+    rw (r, q, p, k, eight, twelve)
 
 pub counts_put : (o o' : List ℕ) (c : Counts) → o' ≡ sets o 0 (words_of 2 (c.nodes ∷ c.fields ∷ c.names ∷ c.area ∷ [])) → o' ≡ sets o 0 (count_bytes c)
 unfolding count_bytes

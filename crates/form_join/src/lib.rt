@@ -11,6 +11,7 @@ ghost use Rattle.rules.specs.Reported.{number_of, place_told};
 ghost use Rattle.rules.specs.Encode.{words_of, encode_node, encode_name};
 ghost use Rattle.rules_join.specs.Join.{Moves as Shift, moves_behind, move_p, move_q, join};
 ghost use Rattle.form_names.specs.Names.{name_of};
+ghost use Rattle.form_layout.specs.Kinds.{kind_number};
 ghost use Rattle.form_layout.specs.Layout.{node_of};
 ghost use Rattle.form_join.specs.Moved.{moves_of, SmallMoves, MovesPast, CanMoveNode, CanMoveName, CanMoveField, NodeWithin, FormPasses, moved_fields, nowhere, IsText, NodeThere, NameThere};
 ghost use Rattle.form_join.specs.Written.{WritesPart, CanPutNode, CanPutName, CanWritePart, CanJoin, CanJoinAt, CanJoinPart, WritesBoth, BothGood, counts_of, fitting, CanPutCounts, count_bytes, joined_area, joined_head, joined_tail, joined_bytes};
@@ -18,6 +19,7 @@ ghost use Rattle.form_join.specs.Records.{joined_up, Sized, CanPutMoved, PutsRec
 ghost use Rattle.form_join.specs.Sizes.{fields_sized, nodes_sized, names_sized};
 ghost use Rattle.form_join.specs.Answers.{ReportsJoin, Refuses, Fills, BothPass};
 
+use form_layout::Kind;
 use rules::{Refusal, Refused, RefusedAt};
 
 // The most nodes, fields, name records and bytes of their area that a form has, and the bytes of the longest form.
@@ -93,13 +95,11 @@ fn moved_p(x: form_layout::Node, d: Moves) -> usize
     requires { NodeWithin 128 (node_of x) × SmallMoves d }
     ensures { result ≡ move_p (moves_of d) (node_of x) }
 {
-    if x.kind <= 2 {
-        return d.names + x.p;
+    match x.kind {
+        Kind::Zero | Kind::Flag | Kind::Argument => d.names + x.p,
+        Kind::Positional => x.p,
+        _ => d.nodes + x.p,
     }
-    if x.kind == 3 {
-        return x.p;
-    }
-    d.nodes + x.p
 }
 
 // q is a child of a choice alone.
@@ -107,18 +107,18 @@ fn moved_q(x: form_layout::Node, d: Moves) -> usize
     requires { NodeWithin 128 (node_of x) × SmallMoves d }
     ensures { result ≡ move_q (moves_of d) (node_of x) }
 {
-    if x.kind == 9 {
-        return d.nodes + x.q;
+    match x.kind {
+        Kind::Choice => d.nodes + x.q,
+        _ => x.q,
     }
-    x.q
 }
 
 // Whether r of node k is a name, which it is of a fallback to a text.
 fn has_text(b: &[u8], k: usize, x: form_layout::Node) -> bool
     requires { CanMoveNode b.now k }
-    ensures { IsText b.now k x.kind result }
+    ensures { IsText b.now k (kind_number x.kind) result }
 {
-    x.kind == 10 && form_fields::kind(b, k) == TEXT
+    x.kind == Kind::Fallback && form_fields::kind(b, k) == TEXT
 }
 
 fn moved_node(b: &[u8], k: usize, d: Moves) -> form_layout::Node
@@ -180,7 +180,7 @@ fn put_node(out: &mut [u8], at: usize, x: form_layout::Node)
     requires { CanPutNode out.old at x }
     ensures { out.new ≡ sets out.old at (encode_node (node_of x)) }
 {
-    put_words(out, at, x.kind, x.p as u32, x.q as u32, x.r as u32);
+    put_words(out, at, x.kind.number(), x.p as u32, x.q as u32, x.r as u32);
     wire_write::put_u32(out, at + 8, x.lo);
     wire_write::put_u32(out, at + 12, x.hi);
 }

@@ -2,14 +2,17 @@
 // if there is a repeat here or beneath, and 32 for a node at fault.
 #![tactic(auto)]
 
-ghost use Rattle.std.specs.Prelude.{◌≡◌, true, [], ◌∷◌};
+ghost use Rattle.std.specs.Prelude.{◌≡◌, true, ◌≤◌, [], ◌∷◌};
 ghost use Rattle.rules.specs.Base.{is_some};
 ghost use Rattle.rules.specs.Form.{read_form};
 ghost use Rattle.rules.specs.Tree.{zeros, names_of};
 ghost use Rattle.rules.specs.Accept.{length_good};
+ghost use Rattle.form_layout.specs.Kinds.{kind_number};
 ghost use Rattle.form_layout.specs.Layout.{node_of};
 ghost use Rattle.form_kinds.specs.Kinds.{named_good, flag_code, argument_code, positional_code, leaf_code, child_good, optional_code, repeat_code, wrap_code, choice_code, text_name, fallback_code, guard_code, inner_code};
 ghost use Rattle.form_kinds.specs.Known.{ChildKnown, Done, Filling};
+
+use form_layout::Kind;
 
 // The code of a node at fault.
 pub const AT_FAULT: u8 = 32;
@@ -88,9 +91,9 @@ fn leaf_code(b: &[u8], x: form_layout::Node) -> u8
     ensures { result ≡ leaf_code (read_form b.now) (node_of x) }
 {
     match x.kind {
-        1 => flag_code(b, x),
-        2 => argument_code(b, x),
-        3 => positional_code(x),
+        Kind::Flag => flag_code(b, x),
+        Kind::Argument => argument_code(b, x),
+        Kind::Positional => positional_code(x),
         _ => AT_FAULT,
     }
 }
@@ -98,12 +101,13 @@ fn leaf_code(b: &[u8], x: form_layout::Node) -> u8
 // The numbers of kinds 4 to 8.
 #[tactic(auto, using(std::proofs::lemmas::Bool::Decides::nat_tests), unfolding(crate::specs::Kinds::child_good, rules::specs::Tree::zeros, rules::specs::Base::all))]
 fn child_good(x: form_layout::Node) -> bool
+    requires { kind_number x.kind ≤ 8 }
     ensures { result ≡ child_good (node_of x) }
 {
-    if 6 < x.kind {
-        return unused(x.q, x.r, x.lo, x.hi);
+    match x.kind {
+        Kind::Count | Kind::Last => unused(x.q, x.r, x.lo, x.hi),
+        _ => x.r <= 1 && unused(x.q, 0, x.lo, x.hi),
     }
-    x.r <= 1 && unused(x.q, 0, x.lo, x.hi)
 }
 
 // A base value, or a list of base values.
@@ -120,31 +124,32 @@ fn optional_code(c: u8) -> u8
 
 // A base or an optional base with no repeat beneath: many and some make a list of it, count a number, last itself.
 #[tactic(auto, using(std::proofs::lemmas::Bool::Decides::nat_tests), unfolding(crate::specs::Kinds::repeat_code))]
-fn repeat_code(kind: u32, c: u8) -> u8
-    ensures { result ≡ repeat_code kind c }
+fn repeat_code(kind: Kind, c: u8) -> u8
+    requires { kind_number kind ≤ 8 }
+    ensures { result ≡ repeat_code (kind_number kind) c }
 {
     if c == 0 || 6 < c {
         return AT_FAULT;
     }
     match kind {
-        0..=6 => c + 22,
-        7 => 19,
-        _ => c + 16,
+        Kind::Count => 19,
+        Kind::Last => c + 16,
+        _ => c + 22,
     }
 }
 
 // Kinds 4 to 8.
 #[tactic(auto, using(std::proofs::lemmas::Bool::Decides::nat_tests), unfolding(crate::specs::Kinds::wrap_code))]
 fn wrap_code(x: form_layout::Node, c: u8) -> u8
+    requires { kind_number x.kind ≤ 8 }
     ensures { result ≡ wrap_code (node_of x) c }
 {
     if !child_good(x) {
         return AT_FAULT;
     }
-    if x.kind == 4 {
-        optional_code(c)
-    } else {
-        repeat_code(x.kind, c)
+    match x.kind {
+        Kind::Optional => optional_code(c),
+        _ => repeat_code(x.kind, c),
     }
 }
 
@@ -205,11 +210,11 @@ fn inner_code(b: &[u8], x: form_layout::Node, c: u8, d: u8) -> u8
     ensures { result ≡ inner_code (read_form b.now) (node_of x) c d }
 {
     match x.kind {
-        0..=8 => wrap_code(x, c),
-        9 => choice_code(x, c, d),
-        10 => fallback_code(b, x, c),
-        11 => guard_code(x, c),
-        _ => AT_FAULT,
+        Kind::Choice => choice_code(x, c, d),
+        Kind::Fallback => fallback_code(b, x, c),
+        Kind::Guard => guard_code(x, c),
+        Kind::Other(_) => AT_FAULT,
+        _ => wrap_code(x, c),
     }
 }
 
@@ -236,15 +241,14 @@ pub fn fill(b: &[u8], k: usize, codes: &mut [u8; 64])
     ensures { Done (read_form b.now) k codes.old codes.new }
 {
     let x = form_layout::node_at(b, k);
-    if x.kind <= 3 {
+    if x.kind.is_leaf() {
         codes[k] = leaf_code(b, x);
         return;
     }
     let c = child_code(b, k, x.p, codes);
-    let d = if x.kind == 9 {
-        child_code(b, k, x.q, codes)
-    } else {
-        0
+    let d = match x.kind {
+        Kind::Choice => child_code(b, k, x.q, codes),
+        _ => 0,
     };
     codes[k] = inner_code(b, x, c, d);
 }

@@ -21,6 +21,8 @@ use Rattle.rules.proofs.Acceptance.{and-true, numbers_length, mapped_at, no_faul
 use Rattle.rules.proofs.GivenLaws.{check_accepted}
 use Rattle.form_names.specs.Names.{name_of}
 use Rattle.form_names.specs.declared.Name as names
+use Rattle.form_layout.specs.declared.Kind.{Kind}
+use Rattle.form_layout.specs.Kinds.{kind_number}
 use Rattle.form_layout.specs.Layout.{node_of, GoodNames, HasName, name_bytes_at}
 
 pub record CountBounds (b : List ℕ) : Type 0 where
@@ -104,10 +106,11 @@ module _ (b : List ℕ) (k : ℕ) where
   field_there x h e = mapped_at (λ k. number_at 2 b (8 + 2 * k)) (field_count b) k h ∙ ap some (sym e)
 
   pub node_there :
-      (at kind p q r lo hi : ℕ)
+      (at word p q r lo hi : ℕ) (kind : Kind)
       → k < node_count b
       → at ≡ nodes_at b
-      → kind ≡ number_at 2 b (at + 16 * k)
+      → word ≡ number_at 2 b (at + 16 * k)
+      → kind_number kind ≡ word
       → p ≡ number_at 2 b (at + 16 * k + 2)
       → q ≡ number_at 2 b (at + 16 * k + 4)
       → r ≡ number_at 2 b (at + 16 * k + 6)
@@ -115,8 +118,8 @@ module _ (b : List ℕ) (k : ℕ) where
       → hi ≡ number_at 4 b (at + 16 * k + 12)
       → get_elem? (read_form b).nodes k ≡ some (node_of (record { kind = kind; p = p; q = q; r = r; lo = lo; hi = hi }))
   unfolding read_form read_node
-  node_there at kind p q r lo hi h e ek ep eq er el eh =
-      mapped_at (λ k. read_node b (nodes_at b + 16 * k)) (node_count b) k h ∙ rw (ek, ep, eq, er, el, eh, e)
+  node_there at word p q r lo hi kind h e ew ek ep eq er el eh =
+      mapped_at (λ k. read_node b (nodes_at b + 16 * k)) (node_count b) k h ∙ rw (ek, ew, ep, eq, er, el, eh, e)
 
   pub name_there :
       (at : ℕ) (x : names.Name)

@@ -1,12 +1,13 @@
 // A form's counts and length, and the readers of its fields, nodes and names.
 #![tactic(auto)]
 
-ghost use Rattle.std.specs.Prelude.{◌≡◌, true, ◌≤◌, ◌<◌, length};
+ghost use Rattle.std.specs.Prelude.{◌≡◌, true, ◌≤◌, ◌<◌, leb, length};
 ghost use Rattle.std.proofs.Math.Option.{some};
 ghost use Rattle.std.proofs.Math.ListN.{get_elem?};
 ghost use Rattle.rules.specs.Form.{node_count, field_count, name_count, area_length, counts_good, nodes_at, names_at, area_at, read_form};
 ghost use Rattle.rules.specs.Accept.{length_good};
 ghost use Rattle.form_names.specs.Names.{name_of};
+ghost use Rattle.form_layout.specs.Kinds.{kind_number};
 ghost use Rattle.form_layout.specs.Layout.{node_of, HasName, name_bytes_at};
 
 // The most nodes, fields, name records and bytes of their area that a form has.
@@ -18,10 +19,83 @@ const NAMES: usize = 128;
 
 const AREA: usize = 4096;
 
-// A node's numbers, as the form has them.
+// The kind of a node, by document 01's numbers from 1 on. The form check refuses Zero and Other, which is 12 or above.
+#[derive(Clone, Copy, PartialEq, Eq, Debug)]
+pub enum Kind {
+    Zero,
+    Flag,
+    Argument,
+    Positional,
+    Optional,
+    Many,
+    AtLeastOne,
+    Count,
+    Last,
+    Choice,
+    Fallback,
+    Guard,
+    Other(u32),
+}
+
+impl Kind {
+    // As the form has it.
+    pub fn number(self) -> u32
+        ensures { result ≡ kind_number self }
+    {
+        match self {
+            Kind::Zero => 0,
+            Kind::Flag => 1,
+            Kind::Argument => 2,
+            Kind::Positional => 3,
+            Kind::Optional => 4,
+            Kind::Many => 5,
+            Kind::AtLeastOne => 6,
+            Kind::Count => 7,
+            Kind::Last => 8,
+            Kind::Choice => 9,
+            Kind::Fallback => 10,
+            Kind::Guard => 11,
+            Kind::Other(n) => n.max(12),
+        }
+    }
+
+    // Whether a node of it has no child: a flag, an argument or a positional.
+    pub fn is_leaf(self) -> bool
+        ensures { result ≡ leb (kind_number self) 3 }
+    {
+        matches!(
+            self,
+            Kind::Zero | Kind::Flag | Kind::Argument | Kind::Positional
+        )
+    }
+}
+
+impl From<u32> for Kind {
+    ghost from_gives = { λ number kind. kind_number kind ≡ number };
+
+    fn from(number: u32) -> Kind {
+        match number {
+            0 => Kind::Zero,
+            1 => Kind::Flag,
+            2 => Kind::Argument,
+            3 => Kind::Positional,
+            4 => Kind::Optional,
+            5 => Kind::Many,
+            6 => Kind::AtLeastOne,
+            7 => Kind::Count,
+            8 => Kind::Last,
+            9 => Kind::Choice,
+            10 => Kind::Fallback,
+            11 => Kind::Guard,
+            _ => Kind::Other(number),
+        }
+    }
+}
+
+// A node's kind and numbers, as the form has them.
 #[derive(Clone, Copy)]
 pub struct Node {
-    pub kind: u32,
+    pub kind: Kind,
     pub p: usize,
     pub q: usize,
     pub r: usize,
@@ -125,7 +199,7 @@ pub fn node_at(b: &[u8], k: usize) -> Node
 {
     let at = nodes_at(b) + 16 * k;
     Node {
-        kind: wire::u16_at(b, at),
+        kind: Kind::from(wire::u16_at(b, at)),
         p: wire::u16_at(b, at + 2) as usize,
         q: wire::u16_at(b, at + 4) as usize,
         r: wire::u16_at(b, at + 6) as usize,

@@ -16,6 +16,7 @@ use borrow.Author.Tests.{ne_eqb, leb-true, leb-false, ltb-true, ltb-false}
 use Rattle.rules.specs.Form.{Node, node_count, name_count, read_form}
 use Rattle.rules.specs.Accept.{length_good}
 use Rattle.form_layout.specs.declared.Node as layout
+use Rattle.form_layout.specs.Kinds.{kind_number}
 use Rattle.form_layout.specs.Layout.{node_of}
 use Rattle.form_layout.proofs.Sizes.{nodes_length, sized}
 use Rattle.form_letters.specs.Classes.{names_record, bits, class_of, Classed, MarkedBits}
@@ -120,15 +121,15 @@ module _ (x : layout.Node) (count : ℕ) (t : List ℕ) where
   abbrev Noted : List ℕ → Type 0
   Noted t' = (xs : List Node) → Classed xs count t → Classed (xs ++ (node_of x ∷ [])) count t'
 
-  pub unnoted : (x.kind ≡ 1 → ⊥) → (x.kind ≡ 2 → ⊥) → Noted t
+  pub unnoted : (kind_number x.kind ≡ 1 → ⊥) → (kind_number x.kind ≡ 2 → ⊥) → Noted t
   unnoted f g xs z = record {
     few = z.few;
     long = z.long;
     at = λ k h. z.at k h ∙ sym (class_other xs (node_of x) k f g);
   }
 
-  pub noted : (x.kind ≡ 1) ⊎ (x.kind ≡ 2) → (end : ℕ) → end ≡ min (x.p + x.q) count → (t' : List ℕ)
-      → MarkedBits x.kind x.p end t t' → Noted t'
+  pub noted : (kind_number x.kind ≡ 1) ⊎ (kind_number x.kind ≡ 2) → (end : ℕ) → end ≡ min (x.p + x.q) count → (t' : List ℕ)
+      → MarkedBits (kind_number x.kind) x.p end t t' → Noted t'
   noted kind end e t' m xs z = record { few = z.few; long = m.long ∙ z.long; at = at }
     where
       out : (k : ℕ) → k < count → (leb x.p k && ltb k (x.p + x.q)) ≡ false → (x.p ≤ k → k < end → ⊥)
@@ -140,7 +141,7 @@ module _ (x : layout.Node) (count : ℕ) (t : List ℕ) where
       go k h true true ea eb =
           let l = leb-true x.p k ea in
           let r = ltb-true k (x.p + x.q) eb in
-          m.inside k l (omega arith) ∙ ap (λ (c : ℕ). bit_or c x.kind) (z.at k h) ∙ sym (class_inside xs (node_of x) k kind ea eb)
+          m.inside k l (omega arith) ∙ ap (λ (c : ℕ). bit_or c (kind_number x.kind)) (z.at k h) ∙ sym (class_inside xs (node_of x) k kind ea eb)
       go k h true false ea eb =
           let r = ltb-false k (x.p + x.q) eb in
           out k h (rw (ea, eb)) (λ u v. omega arith)

@@ -9,6 +9,8 @@ ghost use Rattle.form_codes.specs.Codes.{CodedNames};
 ghost use Rattle.form_letters.specs.Letters.{WroteLetters, letter_if, Appended};
 ghost use Rattle.form_letters.specs.Classes.{Classed, MarkedBits};
 
+use form_layout::Kind;
+
 // How many letters the flags and the arguments have.
 #[derive(Clone, Copy)]
 pub struct Counts {
@@ -33,14 +35,17 @@ fn mark(classes: &mut [u8; 128], bit: u8, first: usize, end: usize)
     }
 }
 
-// A flag (kind 1) or an argument (kind 2) marks its names; the kind is the bit, and by the test before it the cast keeps it.
+// A flag or an argument marks its names.
 fn mark_node(x: form_layout::Node, count: usize, classes: &mut [u8; 128])
     requires { (count ≤ 128) × (length classes.old ≡ 128) }
     ensures { (xs : List RulesNode) → Classed xs count classes.old → Classed (xs ++ (node_of x ∷ [])) count classes.new }
 {
-    if x.kind == 1 || x.kind == 2 {
-        mark(classes, x.kind as u8, x.p, names_end(x.p, x.q, count));
-    }
+    let bit = match x.kind {
+        Kind::Flag => 1,
+        Kind::Argument => 2,
+        _ => return,
+    };
+    mark(classes, bit, x.p, names_end(x.p, x.q, count));
 }
 
 // The classes of all name records, in one pass over the nodes: bit 1 if a flag has it among its names, bit 2 if an argument has.

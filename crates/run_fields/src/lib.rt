@@ -9,6 +9,7 @@ ghost use Rattle.eval_list.specs.Lists.{WritesField, with_mark};
 
 use eval_list::Field;
 use eval_told::{Line, Ran};
+use form_layout::Kind;
 use rules::State;
 use state_marks::Numbers;
 use take_table::TABLE_WORDS;
@@ -80,23 +81,25 @@ fn run_field(
     ensures { WritesField line.now.form.now line.now.sheet.now line.now.items.now (with_mark field mark) marks.old p marks.new out.old out.new result }
 {
     let x = form_layout::node_at(line.form, field.node);
-    if x.kind == 1 {
-        let flag = eval_params::eval_flag(line.known, marks, p, field.node, x.r == 1, mark);
-        return put_value(out, field.at, flag);
+    match x.kind {
+        Kind::Flag => {
+            let flag = eval_params::eval_flag(line.known, marks, p, field.node, x.r == 1, mark);
+            put_value(out, field.at, flag)
+        }
+        Kind::Positional => {
+            let operand = eval_params::eval_positional(
+                line.sheet,
+                line.items,
+                marks,
+                p,
+                x.p,
+                x.r == 2,
+                mark,
+            );
+            put_value(out, field.at, operand)
+        }
+        _ => run_value(line, marks, p, field, out, mark),
     }
-    if x.kind == 3 {
-        let operand = eval_params::eval_positional(
-            line.sheet,
-            line.items,
-            marks,
-            p,
-            x.p,
-            x.r == 2,
-            mark,
-        );
-        return put_value(out, field.at, operand);
-    }
-    run_value(line, marks, p, field, out, mark)
 }
 
 pub fn refused(number: u32, place: u32, tries: u32, field: usize, numbers: Numbers) -> Reached

@@ -13,6 +13,7 @@ ghost use Rattle.take_table.specs.Bits.{bit_at};
 ghost use Rattle.take_table.specs.Known.{is_adjacent, SetOf, Matchable, MatchSet, Known, TableTells};
 ghost use Rattle.take_table.specs.Owners.{NoOwners, Owners, Added, is_loose, Lookup, has_short, has_long};
 
+use form_layout::Kind;
 use split_arg::Item;
 use state_marks::is_present;
 
@@ -64,27 +65,26 @@ fn mark(owners: &mut [u64], set: u64, first: usize, end: usize)
     }
 }
 
-// A flag (kind 1) or an argument (kind 2) becomes an owner of its names.
+// A flag or an argument becomes an owner of its names.
 fn mark_node(x: form_layout::Node, n: usize, count: usize, owners: &mut [u64])
     requires { (n < 64) × (count ≤ length owners.old) }
     ensures { Added (node_of x) n count owners.old owners.new }
 {
-    if x.kind == 0 || 2 < x.kind {
-        return;
+    if let Kind::Flag | Kind::Argument = x.kind {
+        mark(
+            owners,
+            only(n),
+            x.p,
+            form_letters::names_end(x.p, x.q, count),
+        );
     }
-    mark(
-        owners,
-        only(n),
-        x.p,
-        form_letters::names_end(x.p, x.q, count),
-    );
 }
 
 #[tactic(auto, unfolding(crate::specs::Known::is_adjacent))]
 fn is_adjacent(x: form_layout::Node) -> bool
     ensures { result ≡ is_adjacent (node_of x) }
 {
-    x.kind == 2 && x.r % 2 == 1
+    x.kind == Kind::Argument && x.r % 2 == 1
 }
 
 // Node n goes to the set unless it is an adjacent argument.

@@ -8,14 +8,8 @@ ghost use Rattle.rules.specs.Sheet.{sheet_area};
 ghost use Rattle.rules.specs.Why.{no_positionals};
 ghost use Rattle.why_names.specs.Naming.{CanName, NodeNames, FormNames};
 
+use form_layout::Kind;
 use take_search::Names;
-
-// Kinds of nodes; flags and arguments have names.
-const FLAG: u32 = 1;
-
-const ARGUMENT: u32 = 2;
-
-const POSITIONAL: u32 = 3;
 
 // Whether node n is a flag or an argument that has item i's name, adjacent or not.
 fn names_item(form: &[u8], codes: &[u32], sheet: &[u8], items: &[u32], i: usize, n: usize) -> bool
@@ -29,7 +23,7 @@ fn names_item(form: &[u8], codes: &[u32], sheet: &[u8], items: &[u32], i: usize,
         adjacent: false,
     };
     match x.kind {
-        FLAG | ARGUMENT => take_search::matches(form, codes, sheet, items, i, names),
+        Kind::Flag | Kind::Argument => take_search::matches(form, codes, sheet, items, i, names),
         _ => false,
     }
 }
@@ -53,7 +47,7 @@ pub fn has_positional(form: &[u8]) -> bool
     ensures { result ≡ not (no_positionals (read_form form.now)) }
 {
     for n in 0..form_layout::node_count(form) {
-        if form_layout::node_at(form, n).kind == POSITIONAL {
+        if form_layout::node_at(form, n).kind == Kind::Positional {
             return true;
         }
     }

@@ -1,7 +1,9 @@
 use borrow.Author.Rules.{rules}
 use native.Mathlib.Omega.{arith}
-use mathlib.Core.Path.{◌≡◌, refl, sym}
+use mathlib.Core.Path.{◌≡◌, refl, sym, ap}
 use lib.ListN.{length}
+use Rattle.form_layout.specs.Kinds.{kind_number}
+use Rattle.form_layout.proofs.KindNumbers.{not_kind}
 use Rattle.eval_list.proofs.Sides.{aside_ready, second_ready, sides_ready, choice_ends}
 use Rattle.eval_list.proofs.Nodes.{there, done, optional_is, optional_less, optional_ready, many_is, many_ready, some_is, some_ready, choice_less, choice_ready, choice_done}
 use mathlib.Core.Path.{◌∙◌}
@@ -44,31 +46,34 @@ pub run_list-node_at-x-requires : goal.run_list-node_at-x-requires
 run_list-node_at-x-requires t c = there c.requires
 
 pub run_list-run_optional_list-requires : goal.run_list-run_optional_list-requires
-run_list-run_optional_list-requires t c = (optional_less c.requires c.node_at-x.ensures c.in-4.is c.decreases, optional_ready c.requires c.node_at-x.ensures c.in-4.is)
+run_list-run_optional_list-requires t c =
+    (optional_less c.requires _ c.node_at-x.ensures (ap kind_number c.in-Optional.is) c.decreases, optional_ready c.requires _ c.node_at-x.ensures (ap kind_number c.in-Optional.is))
 
 pub run_list-run_many-requires : goal.run_list-run_many-requires
-run_list-run_many-requires t c = many_ready c.requires c.node_at-x.ensures c.in-5.is
+run_list-run_many-requires t c = many_ready c.requires _ c.node_at-x.ensures (ap kind_number c.in-Many.is)
 
 pub run_list-run_some-requires : goal.run_list-run_some-requires
-run_list-run_some-requires t c = some_ready c.requires c.node_at-x.ensures c.in-6.is
+run_list-run_some-requires t c = some_ready c.requires _ c.node_at-x.ensures (ap kind_number c.in-AtLeastOne.is)
 
 pub run_list-run_either-requires : goal.run_list-run_either-requires
 run_list-run_either-requires t c = (
-  choice_less c.requires c.node_at-x.ensures (λ e. omega arith) (λ e. omega arith) (λ e. omega arith) c.decreases,
-  choice_ready c.requires c.node_at-x.ensures (λ e. omega arith) (λ e. omega arith) (λ e. omega arith),
+  choice_less c.requires _ c.node_at-x.ensures (not_kind _ 4 refl c.in_default.not-Optional) (not_kind _ 5 refl c.in_default.not-Many) (not_kind _ 6 refl c.in_default.not-AtLeastOne) c.decreases,
+  choice_ready c.requires _ c.node_at-x.ensures (not_kind _ 4 refl c.in_default.not-Optional) (not_kind _ 5 refl c.in_default.not-Many) (not_kind _ 6 refl c.in_default.not-AtLeastOne),
 )
 
-pub run_list-returns-in-4 : goal.run_list-returns-in-4
-run_list-returns-in-4 t c = done c.requires (optional_is c.requires c.node_at-x.ensures c.in-4.is) c.run_optional_list.ensures
+pub run_list-returns-in-Optional : goal.run_list-returns-in-Optional
+run_list-returns-in-Optional t c = done c.requires (optional_is c.requires _ c.node_at-x.ensures (ap kind_number c.in-Optional.is)) c.run_optional_list.ensures
 
-pub run_list-returns-in-5 : goal.run_list-returns-in-5
-run_list-returns-in-5 t c = done c.requires (many_is c.requires c.node_at-x.ensures c.in-5.is) c.run_many.ensures
+pub run_list-returns-in-Many : goal.run_list-returns-in-Many
+run_list-returns-in-Many t c = done c.requires (many_is c.requires _ c.node_at-x.ensures (ap kind_number c.in-Many.is)) c.run_many.ensures
 
-pub run_list-returns-in-6 : goal.run_list-returns-in-6
-run_list-returns-in-6 t c = done c.requires (some_is c.requires c.node_at-x.ensures c.in-6.is) c.run_some.ensures
+pub run_list-returns-in-AtLeastOne : goal.run_list-returns-in-AtLeastOne
+run_list-returns-in-AtLeastOne t c = done c.requires (some_is c.requires _ c.node_at-x.ensures (ap kind_number c.in-AtLeastOne.is)) c.run_some.ensures
 
 pub run_list-returns-in_default : goal.run_list-returns-in_default
-run_list-returns-in_default t c = choice_done c.requires c.node_at-x.ensures (λ e. omega arith) (λ e. omega arith) (λ e. omega arith) c.run_either.ensures
+run_list-returns-in_default t c =
+    choice_done c.requires _ c.node_at-x.ensures (not_kind _ 4 refl c.in_default.not-Optional) (not_kind _ 5 refl c.in_default.not-Many)
+    (not_kind _ 6 refl c.in_default.not-AtLeastOne) c.run_either.ensures
 
 -- run_optional_list
 

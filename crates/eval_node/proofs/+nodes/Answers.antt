@@ -1,4 +1,5 @@
 use native.Mathlib.Omega.{arith}
+use Rattle.form_layout.specs.Kinds.{kind_number}
 use Rattle.eval_shortcut.proofs.OneSide.{searchable, first_few, first_ends, second_few, second_ends}
 use Rattle.eval_shortcut.proofs.Steps.{choice_sides, choice_ends}
 use Rattle.eval_node.proofs.Lasts.{count_asks, count_refuses, count_ends}
@@ -11,9 +12,9 @@ use Rattle.eval_shortcut.proofs.Given.{flag_ready, flag_skips, argument_turn, po
 use Rattle.eval_shortcut.proofs.Steps.{optional_given, optional_ends}
 use Rattle.eval_shortcut.proofs.Absent.{has_tree, optional_short, optional_unchanged}
 use Rattle.eval_shortcut.proofs.Given.{form_long, node_below, flag_ready, argument_ready, positional_ready, flag_node, argument_node, positional_says, optional_less, optional_ready}
-use Rattle.eval_shortcut.proofs.Given.{optional_says, count_less, count_ready, count_says, last_less, last_ready, last_says, guard_less, guard_ready, guard_says, fallback_less}
+use Rattle.eval_shortcut.proofs.Given.{optional_says, count_less, count_ready, count_says, last_less, last_ready, last_says, guard_is, guard_less, guard_ready, guard_says, fallback_less}
 use Rattle.eval_shortcut.proofs.Given.{fallback_ready, choice_less, choice_less₂, choice_ready, choice_says}
-use mathlib.Core.Path.{refl, sym, ◌∙◌}
+use mathlib.Core.Path.{refl, sym, ap, ◌∙◌}
 use Rattle.eval_shortcut.proofs.Absent.{has_tree}
 use Rattle.eval_shortcut.proofs.Given.{form_long, node_below}
 use Rattle.eval_shortcut.proofs.Wraps.{leaf_within}
@@ -156,10 +157,10 @@ last-returns t c =
 pub leaf-eval_flag_from-requires : goal.leaf-eval_flag_from-requires
 leaf-eval_flag_from-requires t c =
     let r = flag_ready _ _ _ _ _ _ _ _ c.requires.0.below _ c.requires.1 in
-    (r.0, r.1, r.2, (flag_skips _ _ _ _ _ _ _ _ c.requires.0.below _ c.requires.1 _ c.requires.0.hint c.in-1.is).inside)
+    (r.0, r.1, r.2, (flag_skips _ _ _ _ _ _ _ _ c.requires.0.below _ c.requires.1 _ c.requires.0.hint (ap kind_number c.in-Flag.is)).inside)
 
 pub leaf-eval_argument_from-requires : goal.leaf-eval_argument_from-requires
-leaf-eval_argument_from-requires t c = argument_turn _ _ _ _ _ _ _ _ c.requires.0.below _ c.requires.1 _ c.requires.0.hint c.in-2.is
+leaf-eval_argument_from-requires t c = argument_turn _ _ _ _ _ _ _ _ c.requires.0.below _ c.requires.1 _ c.requires.0.hint (ap kind_number c.in-Argument.is)
 
 pub leaf-eval_positional_from-requires : goal.leaf-eval_positional_from-requires
 leaf-eval_positional_from-requires t c =
@@ -167,20 +168,20 @@ leaf-eval_positional_from-requires t c =
       pre.0.below.stands.made,
       pre.0.below.stands.state,
       positional_skips _ _ _ _ _ _ _ _ pre.0.below _ pre.1 _
-          pre.0.hint c.in-3.is,
+          pre.0.hint (ap kind_number c.in-Positional.is),
     )
 
 pub leaf-run_node-requires : goal.leaf-run_node-requires
 leaf-run_node-requires t c = (omega arith, c.requires.0.below)
 
-pub leaf-returns-in-1 : goal.leaf-returns-in-1
-leaf-returns-in-1 t c = flag_again _ _ _ _ _ _ _ _ c.requires.0.below _ c.requires.1 _ _ _ c.requires.0.hint c.in-1.is c.eval_flag_from.ensures
+pub leaf-returns-in-Flag : goal.leaf-returns-in-Flag
+leaf-returns-in-Flag t c = flag_again _ _ _ _ _ _ _ _ c.requires.0.below _ c.requires.1 _ _ _ c.requires.0.hint (ap kind_number c.in-Flag.is) c.eval_flag_from.ensures
 
-pub leaf-returns-in-2 : goal.leaf-returns-in-2
-leaf-returns-in-2 t c = argument_again _ _ _ _ _ _ _ _ c.requires.0.below _ c.requires.1 _ _ _ c.requires.0.hint c.in-2.is c.eval_argument_from.ensures
+pub leaf-returns-in-Argument : goal.leaf-returns-in-Argument
+leaf-returns-in-Argument t c = argument_again _ _ _ _ _ _ _ _ c.requires.0.below _ c.requires.1 _ _ _ c.requires.0.hint (ap kind_number c.in-Argument.is) c.eval_argument_from.ensures
 
-pub leaf-returns-in-3 : goal.leaf-returns-in-3
-leaf-returns-in-3 t c = positional_says _ _ _ _ _ _ _ _ c.requires.0.below _ c.requires.1 _ _ c.in-3.is c.eval_positional_from.ensures
+pub leaf-returns-in-Positional : goal.leaf-returns-in-Positional
+leaf-returns-in-Positional t c = positional_says _ _ _ _ _ _ _ _ c.requires.0.below _ c.requires.1 _ _ (ap kind_number c.in-Positional.is) c.eval_positional_from.ensures
 
 pub leaf-returns-in_default : goal.leaf-returns-in_default
 leaf-returns-in_default t c = c.run_node.ensures
@@ -217,78 +218,73 @@ pub run_node-eval_flag-requires : goal.run_node-eval_flag-requires
 run_node-eval_flag-requires t c = flag_ready _ _ _ _ _ _ _ _ c.requires _ c.node_at-x.ensures
 
 pub run_node-eval_argument-requires : goal.run_node-eval_argument-requires
-run_node-eval_argument-requires t c = argument_ready _ _ _ _ _ _ _ _ c.requires _ c.node_at-x.ensures c.in-2.is
+run_node-eval_argument-requires t c = argument_ready _ _ _ _ _ _ _ _ c.requires _ c.node_at-x.ensures (ap kind_number c.in-Argument.is)
 
 pub run_node-eval_positional-requires : goal.run_node-eval_positional-requires
 run_node-eval_positional-requires t c = positional_ready _ _ _ _ _ _ _ _ c.requires _ c.node_at-x.ensures
 
 pub run_node-optional-requires : goal.run_node-optional-requires
 run_node-optional-requires t c =
-    let l = optional_less _ _ _ _ _ _ _ _ c.requires _ c.node_at-x.ensures c.in-4.is in
-    (omega arith, optional_ready _ _ _ _ _ _ _ _ c.requires _ c.node_at-x.ensures c.in-4.is)
+    let l = optional_less _ _ _ _ _ _ _ _ c.requires _ c.node_at-x.ensures (ap kind_number c.in-Optional.is) in
+    (omega arith, optional_ready _ _ _ _ _ _ _ _ c.requires _ c.node_at-x.ensures (ap kind_number c.in-Optional.is))
 
 pub run_node-count-requires : goal.run_node-count-requires
 run_node-count-requires t c =
-    let l = count_less _ _ _ _ _ _ _ _ c.requires _ c.node_at-x.ensures c.in-7.is in
-    (omega arith, count_ready _ _ _ _ _ _ _ _ c.requires _ c.node_at-x.ensures c.in-7.is)
+    let l = count_less _ _ _ _ _ _ _ _ c.requires _ c.node_at-x.ensures (ap kind_number c.in-Count.is) in
+    (omega arith, count_ready _ _ _ _ _ _ _ _ c.requires _ c.node_at-x.ensures (ap kind_number c.in-Count.is))
 
 pub run_node-last-requires : goal.run_node-last-requires
 run_node-last-requires t c =
-    let l = last_less _ _ _ _ _ _ _ _ c.requires _ c.node_at-x.ensures c.in-8.is in
-    (omega arith, last_ready _ _ _ _ _ _ _ _ c.requires _ c.node_at-x.ensures c.in-8.is)
+    let l = last_less _ _ _ _ _ _ _ _ c.requires _ c.node_at-x.ensures (ap kind_number c.in-Last.is) in
+    (omega arith, last_ready _ _ _ _ _ _ _ _ c.requires _ c.node_at-x.ensures (ap kind_number c.in-Last.is))
 
 pub run_node-choice-requires : goal.run_node-choice-requires
 run_node-choice-requires t c =
-    let l = choice_less _ _ _ _ _ _ _ _ c.requires _ c.node_at-x.ensures c.in-9.is in
-    let r = choice_less₂ _ _ _ _ _ _ _ _ c.requires _ c.node_at-x.ensures c.in-9.is in
-    (omega arith, choice_ready _ _ _ _ _ _ _ _ c.requires _ c.node_at-x.ensures c.in-9.is)
+    let l = choice_less _ _ _ _ _ _ _ _ c.requires _ c.node_at-x.ensures (ap kind_number c.in-Choice.is) in
+    let r = choice_less₂ _ _ _ _ _ _ _ _ c.requires _ c.node_at-x.ensures (ap kind_number c.in-Choice.is) in
+    (omega arith, choice_ready _ _ _ _ _ _ _ _ c.requires _ c.node_at-x.ensures (ap kind_number c.in-Choice.is))
 
 pub run_node-fallback-requires : goal.run_node-fallback-requires
 run_node-fallback-requires t c =
-    let l = fallback_less _ _ _ _ _ _ _ _ c.requires _ c.node_at-x.ensures c.in-10.is in
-    (omega arith, fallback_ready _ _ _ _ _ _ _ _ c.requires _ c.node_at-x.ensures c.in-10.is)
+    let l = fallback_less _ _ _ _ _ _ _ _ c.requires _ c.node_at-x.ensures (ap kind_number c.in-Fallback.is) in
+    (omega arith, fallback_ready _ _ _ _ _ _ _ _ c.requires _ c.node_at-x.ensures (ap kind_number c.in-Fallback.is))
 
 pub run_node-guard-requires : goal.run_node-guard-requires
 run_node-guard-requires t c =
-    let l = guard_less _ _ _ _ _ _ _ _ c.requires _ c.node_at-x.ensures (λ e. omega arith) (λ e. omega arith)
-    (λ e. omega arith) (λ e. omega arith) (λ e. omega arith) (λ e. omega arith) (λ e. omega arith)
-    (λ e. omega arith)
-    in (
-      omega arith,
-      guard_ready _ _ _ _ _ _ _ _ c.requires _ c.node_at-x.ensures (λ e. omega arith)
-          (λ e. omega arith) (λ e. omega arith) (λ e. omega arith) (λ e. omega arith)
-          (λ e. omega arith) (λ e. omega arith) (λ e. omega arith),
-    )
+    let k = guard_is _ _ _ _ _ _ _ _ c.requires _ c.node_at-x.ensures c.in_default.not-Flag c.in_default.not-Argument
+    c.in_default.not-Positional c.in_default.not-Optional c.in_default.not-Count c.in_default.not-Last c.in_default.not-Choice c.in_default.not-Fallback in
+    let l = guard_less _ _ _ _ _ _ _ _ c.requires _ c.node_at-x.ensures k in
+    (omega arith, guard_ready _ _ _ _ _ _ _ _ c.requires _ c.node_at-x.ensures k)
 
-pub run_node-returns-in-1 : goal.run_node-returns-in-1
-run_node-returns-in-1 t c = flag_node _ _ _ _ _ _ _ _ c.requires _ c.node_at-x.ensures _ _ c.in-1.is c.eval_flag.ensures
+pub run_node-returns-in-Flag : goal.run_node-returns-in-Flag
+run_node-returns-in-Flag t c = flag_node _ _ _ _ _ _ _ _ c.requires _ c.node_at-x.ensures _ _ (ap kind_number c.in-Flag.is) c.eval_flag.ensures
 
-pub run_node-returns-in-2 : goal.run_node-returns-in-2
-run_node-returns-in-2 t c = argument_node _ _ _ _ _ _ _ _ c.requires _ c.node_at-x.ensures _ _ c.in-2.is c.eval_argument.ensures
+pub run_node-returns-in-Argument : goal.run_node-returns-in-Argument
+run_node-returns-in-Argument t c = argument_node _ _ _ _ _ _ _ _ c.requires _ c.node_at-x.ensures _ _ (ap kind_number c.in-Argument.is) c.eval_argument.ensures
 
-pub run_node-returns-in-3 : goal.run_node-returns-in-3
-run_node-returns-in-3 t c = positional_says _ _ _ _ _ _ _ _ c.requires _ c.node_at-x.ensures _ _ c.in-3.is c.eval_positional.ensures
+pub run_node-returns-in-Positional : goal.run_node-returns-in-Positional
+run_node-returns-in-Positional t c = positional_says _ _ _ _ _ _ _ _ c.requires _ c.node_at-x.ensures _ _ (ap kind_number c.in-Positional.is) c.eval_positional.ensures
 
-pub run_node-returns-in-4 : goal.run_node-returns-in-4
-run_node-returns-in-4 t c = optional_says _ _ _ _ _ _ _ _ c.requires _ c.node_at-x.ensures _ _ c.in-4.is c.optional.ensures
+pub run_node-returns-in-Optional : goal.run_node-returns-in-Optional
+run_node-returns-in-Optional t c = optional_says _ _ _ _ _ _ _ _ c.requires _ c.node_at-x.ensures _ _ (ap kind_number c.in-Optional.is) c.optional.ensures
 
-pub run_node-returns-in-7 : goal.run_node-returns-in-7
-run_node-returns-in-7 t c = count_says _ _ _ _ _ _ _ _ c.requires _ c.node_at-x.ensures _ _ c.in-7.is c.count.ensures
+pub run_node-returns-in-Count : goal.run_node-returns-in-Count
+run_node-returns-in-Count t c = count_says _ _ _ _ _ _ _ _ c.requires _ c.node_at-x.ensures _ _ (ap kind_number c.in-Count.is) c.count.ensures
 
-pub run_node-returns-in-8 : goal.run_node-returns-in-8
-run_node-returns-in-8 t c = last_says _ _ _ _ _ _ _ _ c.requires _ c.node_at-x.ensures _ _ c.in-8.is c.last.ensures
+pub run_node-returns-in-Last : goal.run_node-returns-in-Last
+run_node-returns-in-Last t c = last_says _ _ _ _ _ _ _ _ c.requires _ c.node_at-x.ensures _ _ (ap kind_number c.in-Last.is) c.last.ensures
 
-pub run_node-returns-in-9 : goal.run_node-returns-in-9
-run_node-returns-in-9 t c = choice_says _ _ _ _ _ _ _ _ c.requires _ c.node_at-x.ensures _ _ c.in-9.is c.choice.ensures
+pub run_node-returns-in-Choice : goal.run_node-returns-in-Choice
+run_node-returns-in-Choice t c = choice_says _ _ _ _ _ _ _ _ c.requires _ c.node_at-x.ensures _ _ (ap kind_number c.in-Choice.is) c.choice.ensures
 
-pub run_node-returns-in-10 : goal.run_node-returns-in-10
-run_node-returns-in-10 t c = c.fallback.ensures
+pub run_node-returns-in-Fallback : goal.run_node-returns-in-Fallback
+run_node-returns-in-Fallback t c = c.fallback.ensures
 
 pub run_node-returns-in_default : goal.run_node-returns-in_default
 run_node-returns-in_default t c =
-    guard_says _ _ _ _ _ _ _ _ c.requires _ c.node_at-x.ensures (λ e. omega arith) (λ e. omega arith)
-    (λ e. omega arith) (λ e. omega arith) (λ e. omega arith) (λ e. omega arith) (λ e. omega arith)
-    (λ e. omega arith) _ _ c.guard.ensures
+    let k = guard_is _ _ _ _ _ _ _ _ c.requires _ c.node_at-x.ensures c.in_default.not-Flag c.in_default.not-Argument
+    c.in_default.not-Positional c.in_default.not-Optional c.in_default.not-Count c.in_default.not-Last c.in_default.not-Choice c.in_default.not-Fallback in
+    guard_says _ _ _ _ _ _ _ _ c.requires _ c.node_at-x.ensures _ _ k c.guard.ensures
 
 -- run_repeat
 

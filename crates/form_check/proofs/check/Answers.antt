@@ -4,7 +4,7 @@ use native.Mathlib.Omega.{arith}
 use mathlib.Core.Path.{◌≡◌, refl, sym, ◌∙◌, ap}
 use Rattle.form_check.proofs.Verdict.{check_length, check_names, check_nodes_bad, check_nodes_good}
 use Rattle.form_layout.proofs.Sizes.{sized}
-use Rattle.rules.specs.Reported.{told, reported}
+use Rattle.rules.specs.Reported.{told}
 use Rattle.std.proofs.lemmas.Result.{err_from_is_err_and}
 use Rattle.rules.specs.Codes.{check_code}
 use Rattle.rules.specs.Accept.{check_form}

@@ -1,4 +1,3 @@
-use Prim.Native.Nat.{◌-◌}
 use Rattle.run_fields.proofs.Going.{starts_long, going_first, field_good, field_inside, going_number, going_sum, going_field, going_tries}
 use Rattle.run_fields.proofs.Going.{going_at, going_most, going_long, long_refused, going_refused, going_next, going_end}
 use Rattle.run_fields.proofs.each_field.Goals as goal

@@ -1,14 +1,11 @@
 -- A node of another kind names nothing. Assumes nothing.
-use Rattle.take_table.proofs.Owners.{no_kind, no_names_lem, marked}
+use mathlib.Core.Path.{refl}
+use Rattle.form_layout.proofs.KindNumbers.{either, not_kind}
+use Rattle.take_table.proofs.Owners.{unmarked, marked}
 use Rattle.take_table.proofs.mark_node.Goals as goal
-use Rattle.take_table.proofs.mark_node.Goals.{then-x-eq0-via-then-x-eq0, then-x-eq0-via-else-x-eq0+then-x-gt2}
 
-pub returns-then-x-eq0 : goal.returns-then-x-eq0
-returns-then-x-eq0 c =
-    elim c.then-x-eq0.branch [
-      | then-x-eq0-via-then-x-eq0 w ↦ search no_kind
-      | then-x-eq0-via-else-x-eq0+then-x-gt2 w ↦ search no_names_lem
-    ]
+pub returns-in-Flag : goal.returns-in-Flag
+returns-in-Flag c = marked _ _ _ _ (either _ _ _ c.in-Flag.is) _ c.only.ensures _ c.names_end.ensures _ c.mark.ensures
 
-pub returns : goal.returns
-returns c = search marked
+pub returns-in_default : goal.returns-in_default
+returns-in_default c = unmarked _ _ _ _ (not_kind _ 1 refl c.in_default.not-Flag) (not_kind _ 2 refl c.in_default.not-Argument)

@@ -12,11 +12,11 @@ loop-n-init c = positional_first _
 pub node_at-requires : goal.node_at-requires
 node_at-requires c = (search rules, search node_below)
 
-pub returns-then-node_at-eq-POSITIONAL : goal.returns-then-node_at-eq-POSITIONAL
-returns-then-node_at-eq-POSITIONAL c = search positional_hit
+pub returns-then-eq : goal.returns-then-eq
+returns-then-eq c = positional_hit _ _ _ c.node_at.ensures (search rules)
 
 pub loop-n-preserved : goal.loop-n-preserved
-loop-n-preserved c = search positional_next
+loop-n-preserved c = positional_next _ _ _ c.loop-n.invariant c.node_at.ensures (λ e. search rules)
 
 pub returns : goal.returns
 returns c = search positional_last
