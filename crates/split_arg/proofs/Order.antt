@@ -12,9 +12,9 @@ use lib.Seq.{get_or-take, get_or-drop, get_or-append-add}
 use borrow.Author.Tests.{eq-eqb, ne_eqb, eqb-true, eqb-false, ltb-true, ltb-false}
 use Rattle.std.specs.List.{list_any}
 use Rattle.std.specs.Prelude.{Result, Ok, Err, is_ok}
-use Rattle.std.proofs.lemmas.List.Sorted.{searched, IsPartitionedBy-ltb, IsNonDecreasingBy-from_default}
+use Rattle.std.proofs.lemmas.List.Sorted.{searched}
 use Rattle.std.specs.Ordering.{nat_cmp}
-use Rattle.std.specs.List.Sorted.{IsBinarySearchResult, IsPartitionPoint, IsPartitionedBy}
+use Rattle.std.specs.List.Sorted.{IsBinarySearchResult}
 use Rattle.rules.specs.Base.{contains}
 use Rattle.split_arg.specs.Order.{Ascending, Searchable, Parted}
 
@@ -57,23 +57,9 @@ contains_none [] b h = refl
 contains_none (x ∷ s) b h =
     rw (ne_eqb x b (h zero (omega arith)), contains_none s b (λ i l. h (suc i) (omega arith)))
 
--- ---- the library's searches in a list in rising order
+-- ---- the library's search in a list in rising order
 ascending_up : (s : List ℕ) → Ascending s → (i j : ℕ) → i ≤ j → j < length s → get_or s i 0 ≤ get_or s j 0
 ascending_up s a i j h l = ⊎_elim (λ e. rw e (omega arith)) (λ q. omega (arith, a.rises i j q l)) (eq-or-lt_of_le h)
-
-pub ascending_partitioned : (s : List ℕ) (letter : ℕ) → Ascending s → IsPartitionedBy (λ y. ltb y letter) s
-ascending_partitioned s letter a = IsPartitionedBy-ltb (λ y. y) s letter (IsNonDecreasingBy-from_default (λ y. y) s 0 (ascending_up s a))
-
-pub parted_point :
-    (s : List ℕ) (letter place : ℕ)
-    → place ≤ length s
-    → IsPartitionPoint (λ y. ltb y letter ≡ true) (λ y. ltb y letter ≡ false) s place
-    → Parted s letter place
-parted_point s letter place h z = record {
-  within = h;
-  below = λ i l. ltb-true (get_or s i 0) letter (z.0 i 0 (omega arith) l);
-  above = λ i l m. ltb-false (get_or s i 0) letter (z.1 i 0 l m);
-}
 
 pub found_or_none :
     (s : List ℕ) (letter : ℕ) (r : Result ℕ ℕ)
@@ -84,6 +70,49 @@ found_or_none s letter (Ok i) a z = let f = searched s letter (Ok i) z (ascendin
 found_or_none s letter (Err i) a z =
     let f = searched s letter (Err i) z (ascending_up s a) in
     sym (contains_none s letter (λ k l e. ⊎_elim (λ q. omega (arith, f.1 k q)) (λ q. omega (arith, f.2 k q l)) (before_or_not k i)))
+
+-- ---- the halves
+-- what stands before `low` is below the letter, and from `high` on nothing is
+pub record Between (s : List ℕ) (letter low high : ℕ) : Type 0 where
+  pub ordered : low ≤ high
+  pub within : high ≤ length s
+  pub below : (i : ℕ) → i < low → get_or s i 0 < letter
+  pub above : (i : ℕ) → high ≤ i → i < length s → letter ≤ get_or s i 0
+
+pub between_first : (s : List ℕ) (letter : ℕ) → Between s letter 0 (length s)
+between_first s letter = record {
+  ordered = omega arith;
+  within = omega arith;
+  below = λ i h. absurd (omega arith);
+  above = λ i h l. absurd (omega arith);
+}
+
+module _ (s : List ℕ) (letter low high : ℕ) (a : Ascending s) (z : Between s letter low high) (m : ℕ) (l : low ≤ m) (h : m < high) where
+  pub upper_half : get_or s m 0 < letter → Between s letter (m + 1) high
+  upper_half below = record {
+    ordered = omega arith;
+    within = z.within;
+    below = λ i k. ⊎_elim (λ e. rw e below) (λ n. omega (arith, a.rises i m n (omega (arith, z.within)))) (eq-or-lt_of_le (before i k));
+    above = z.above;
+  }
+    where
+      before : (i : ℕ) → i < m + 1 → i ≤ m
+      before i k = omega arith
+
+  pub lower_half : letter ≤ get_or s m 0 → Between s letter low m
+  lower_half above = record {
+    ordered = l;
+    within = omega (arith, z.within);
+    below = z.below;
+    above = λ i k n. ⊎_elim (λ e. rw (← e) above) (λ o. omega (arith, a.rises m i o n)) (eq-or-lt_of_le k);
+  }
+
+pub between_last : (s : List ℕ) (letter low high : ℕ) → Between s letter low high → high ≤ low → Parted s letter low
+between_last s letter low high z h = record {
+  within = omega (arith, z.ordered, z.within);
+  below = z.below;
+  above = λ i k l. z.above i (omega (arith, z.ordered)) l;
+}
 
 -- ---- the letter at its place, or none
 module _ (s : List ℕ) (letter place : ℕ) (z : Parted s letter place) where

@@ -145,12 +145,23 @@ fn scan(s: &[u32], letter: u32) -> bool
     false
 }
 
-// How many letters of a list in rising order are below this one, which stands behind them or nowhere.
+// How many letters of a list in rising order are below this one, which stands behind them or nowhere. By hand: `partition_point` takes
+// longer for the letters of a table, each of which is put in its place (4 forms of 8 letters: 560 ns to 730 ns).
 pub fn place(s: &[u32], letter: u32) -> usize
     requires { Ascending s.now }
     ensures { Parted s.now letter result }
 {
-    s.partition_point(|other| *other < letter)
+    let mut low = 0;
+    let mut high = s.len();
+    while low < high {
+        let middle = low + (high - low) / 2;
+        if s[middle] < letter {
+            low = middle + 1;
+        } else {
+            high = middle;
+        }
+    }
+    low
 }
 
 // The letter at a place. Most letters are ASCII, and are not decoded.

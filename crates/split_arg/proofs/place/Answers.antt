@@ -1,15 +1,16 @@
--- By the library's clause, for the test that the closure makes. Assumes nothing.
-use borrow.Author.Rules.{rules}
-use lib.Dec.{ltb}
-use Rattle.std.proofs.lemmas.List.Sorted.{IsPartitionPoint-from_clause}
-use Rattle.split_arg.proofs.Order.{ascending_partitioned, parted_point}
+use Prim.Native.Nat.{◌+◌, ◌-◌, ◌/◌}
+use native.Mathlib.Omega.{arith}
+use Rattle.split_arg.proofs.Order.{between_first, upper_half, lower_half, between_last}
 use Rattle.split_arg.proofs.place.Goals as goal
 
+pub loop-low-init : goal.loop-low-init
+loop-low-init c = between_first _ _
+
+pub loop-low-preserved-then-s-middle : goal.loop-low-preserved-then-s-middle
+loop-low-preserved-then-s-middle c = upper_half _ _ _ _ c.requires c.loop-low.invariant (c.loop-low.low + (c.loop-low.high - c.loop-low.low) / 2) (omega arith) (omega arith) (omega arith)
+
+pub loop-low-preserved : goal.loop-low-preserved
+loop-low-preserved c = lower_half _ _ _ _ c.requires c.loop-low.invariant (c.loop-low.low + (c.loop-low.high - c.loop-low.low) / 2) (omega arith) (omega arith) (omega arith)
+
 pub returns : goal.returns
-returns c =
-    let s = c.args.s.now in
-    let letter = c.args.letter in
-    let point =
-    IsPartitionPoint-from_clause (λ y. ltb y letter) s _ c.partition_point.ensures.partitioned (ascending_partitioned s letter c.requires)
-    (λ a r f k. search rules) in
-    parted_point s letter _ c.partition_point.ensures.bound point
+returns c = search between_last
