@@ -25,7 +25,6 @@ use call_answers::{
 };
 use form_codes::codes_of;
 use form_layout::Kind;
-use rules::{Refused, State};
 use rules::{Refusal, RefusedAt, State};
 use state_marks::{COMMAND, field_mark, joined, numbers_of};
 use take::{NoArgument, Word};
