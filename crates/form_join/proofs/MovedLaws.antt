@@ -1,7 +1,7 @@
 -- Numbers that move up: what stands at a number, and that it stays small.
 use mathlib.Core.Bool.{Bool, true, false, ◌&&◌}
 use mathlib.Core.List.{List, [], ◌∷◌, map}
-use mathlib.Core.Logic.{⊎_elim}
+use mathlib.Core.Logic.{⊎_elim, ◌⊎◌, inl, inr}
 use mathlib.Core.Option.{Option, some, some-injective, none-ne-some}
 use mathlib.Core.Path.{◌≡◌, refl, ap, ◌∙◌}
 use Prim.Native.Nat.{ℕ, zero, suc, ◌+◌, ◌≤◌, ◌<◌}
@@ -75,8 +75,8 @@ text_code (optional_list text) = refl
 text_code (optional_list number) = refl
 
 module _ (b : List ℕ) (k kind : ℕ) where
-  pub other_kind : (kind ≡ 10 → ⊥) → IsText b k kind (eqb kind 10)
-  other_kind h a t e s = rw (ne_eqb kind 10 h)
+  pub other_kind : (kind ≡ 10 → ⊥) → (r : Bool) → r ≡ false → IsText b k kind r
+  other_kind h r z a t e s = rw (z, ne_eqb kind 10 h)
 
   pub fallback_kind :
       kind ≡ 10

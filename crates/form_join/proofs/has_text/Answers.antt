@@ -13,4 +13,4 @@ returns-then-eq c =
     fallback_kind _ _ _ (ap kind_number e) _ c.kind.ensures
 
 pub returns-else-eq : goal.returns-else-eq
-returns-else-eq c = other_kind _ _ _ (not_kind _ 10 refl (λ e. search rules))
+returns-else-eq c = other_kind _ _ _ (not_kind _ 10 refl (λ e. search rules)) _ c.if-eq.false
