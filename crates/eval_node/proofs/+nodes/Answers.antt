@@ -149,7 +149,8 @@ last-more_tries-requires t c = again_fits _ _ _ _ _ _ _ _ c.requires _ _ _ _ (rw
 
 pub last-returns : goal.last-returns
 last-returns t c =
-    again_ends _ _ _ _ _ _ _ _ c.requires _ _ _ _ (rw c.counting-how.ensures at c.run_repeat-all.ensures) _ _ c.run_node-again.ensures c.if-all-ne0.false c.if-all-ne0-2.false _ c.more_tries.ensures
+    let all = rw c.counting-how.ensures at c.run_repeat-all.ensures in
+    again_ends _ _ _ _ _ _ _ _ c.requires _ _ _ _ all _ _ c.run_node-again.ensures c.if-all-ne0.false c.if-all-ne0-2.false _ c.more_tries.ensures
 
 -- leaf
 
