@@ -1,6 +1,6 @@
 -- Loops over marks: each invariant says that what is still to be looked at gives what the whole gives.
 use mathlib.Core.Path.{◌≡◌, refl, sym, ap, subst, ◌∙◌}
-use mathlib.Core.Bool.{and-eq-true_iff, Bool, true, false, not, xor, beq, ◌&&◌}
+use mathlib.Core.Bool.{and-eq-true_iff, Bool, true, false, false≢true, not, xor, beq, ◌&&◌}
 use mathlib.Core.List.{List, [], ◌∷◌, ◌++◌, append_assoc}
 use mathlib.Core.Option.{some}
 use mathlib.Core.Logic.{◌⊎◌, inl, inr, ⊎_elim}
@@ -18,7 +18,7 @@ use Rattle.rules.specs.Base.{all}
 use Rattle.rules.specs.Tree.{zeros}
 use Rattle.rules.specs.State.{parsed, present, present_at, present_from, count_present, pick_from, conflicts}
 use Rattle.rules.proofs.Places.{conflicts_length}
-use Rattle.state_marks.specs.Lent.{first_or, pick_of, conflict_mark, Alike}
+use Rattle.state_marks.specs.Lent.{first_or, NoneWhere, FirstWhere, pick_of, conflict_mark, Alike}
 
 pub present_at_lem : (m : List ℕ) (i : ℕ) → i < length m → present_at m i ≡ present (get_or m i 0)
 unfolding present_at
@@ -63,6 +63,32 @@ module _ (m : List ℕ) (from end i : ℕ) (s : FirstFrom m from end i) (l : end
   pub searched_end : end ≤ i → end ≡ first_or end (present_from m (end - from) from)
   unfolding first_or
   searched_end h = sym (ap (first_or end) (from_none m end i h)) ∙ s.same
+
+-- the loop of `first_where`
+module _ (m : List ℕ) (says : ℕ → Bool → Type 0) (from i : ℕ) (z : NoneWhere m says from i) where
+  none_next : (present_at m i ≡ true → says i false) → NoneWhere m says from (i + 1)
+  none_next f k a b p = ⊎_elim
+      (λ (e : k ≡ i). rw e (f (rw e at p)))
+      (λ (l : k < i). z k a l p)
+      (eq-or-lt_of_le (omega arith))
+
+  module _ (end : ℕ) (h : i < end) (l : end ≤ length m) (x : Bool) (e : x ≡ present (get_or m i 0)) where
+    at_place : present_at m i ≡ x
+    at_place = present_at_lem m i (omega arith) ∙ sym e
+
+    pub where_used : x ≡ false → NoneWhere m says from (i + 1)
+    where_used g = none_next (λ p. absurd (false≢true (sym (at_place ∙ g) ∙ p)))
+
+    pub where_fails : (r : Bool) → says i r → r ≡ false → NoneWhere m says from (i + 1)
+    where_fails r s g = none_next (λ p. subst (says i) g s)
+
+    pub where_hit : from ≤ i → x ≡ true → (r : Bool) → says i r → r ≡ true → FirstWhere m says from end i
+    where_hit o g r s q = record {
+      behind = o;
+      within = omega arith;
+      before = z;
+      here = λ _. (at_place ∙ g, subst (says i) q s);
+    }
 
 -- what the search finds: a present place, before which none is
 pub record FirstAt (m : List ℕ) (k a r : ℕ) : Type 0 where
