@@ -14,7 +14,6 @@ ghost use Rattle.take_table.specs.Known.{is_adjacent, SetOf, Matchable, MatchSet
 ghost use Rattle.take_table.specs.Owners.{NoOwners, Owners, Added, is_loose, Lookup, has_short, has_long};
 
 use split_arg::Item;
-use state_marks::is_present;
 
 // The words of the longest table: one of all items, then one for each item that a line can have. A shorter line needs no more than
 // one word for each of its own items.
@@ -245,10 +244,5 @@ pub fn find(table: &[u64], marks: &[u16], node: usize, from: usize, end: usize) 
     if is_absent(table, node) {
         return end;
     }
-    for i in from..end {
-        if is_present(marks[i]) && has(table[i + 1], node) {
-            return i;
-        }
-    }
-    end
+    state_marks::first_where(marks, from, end, |i| has(table[i + 1], node))
 }
