@@ -98,19 +98,6 @@ pub fn field_mark(number: usize) -> u16
     FIELD + number as u16
 }
 
-// The first unused place from `from` on; `end` if there is none below it.
-pub fn first_present(marks: &[u16], from: usize, end: usize) -> usize
-    requires { (from ≤ end) × (end ≤ length marks.now) }
-    ensures { result ≡ first_or end (present_from marks.now (end - from) from) }
-{
-    for i in from..end {
-        if is_present(marks[i]) {
-            return i;
-        }
-    }
-    end
-}
-
 // The first unused place from `from` on that passes a test; `end` if there is none below it.
 pub fn first_where<F: Fn(usize) -> bool>(marks: &[u16], from: usize, end: usize, test: F) -> usize
     requires places { (from ≤ end) × (end ≤ length marks.now) }
@@ -123,6 +110,14 @@ pub fn first_where<F: Fn(usize) -> bool>(marks: &[u16], from: usize, end: usize,
         }
     }
     end
+}
+
+// The first unused place from `from` on; `end` if there is none below it.
+pub fn first_present(marks: &[u16], from: usize, end: usize) -> usize
+    requires { (from ≤ end) × (end ≤ length marks.now) }
+    ensures { result ≡ first_or end (present_from marks.now (end - from) from) }
+{
+    first_where(marks, from, end, |_| true)
 }
 
 // How many of the places from..to are unused. A `for`: the iterator's `filter` and `count` took 340 ns for 256 marks, this takes 70.
