@@ -1,4 +1,4 @@
--- Laws of the searches: the loop's invariant, and what a search answers.
+-- Laws of the searches: what a search answers, and where it may begin.
 use mathlib.Core.Path.{◌≡◌, refl, sym, ap, subst, ◌∙◌}
 use mathlib.Core.Bool.{Bool, true, false, false≢true}
 use mathlib.Core.List.{List, [], ◌∷◌}
@@ -7,11 +7,11 @@ use mathlib.Core.Option.{some, none, some-injective}
 use Prim.Native.Nat.{ℕ, zero, suc, ◌+◌, ◌-◌, ◌≤◌, ◌<◌}
 use native.Mathlib.Nat.{eq-or-lt_of_le, le_refl}
 use native.Mathlib.Omega.{arith}
-use lib.ListN.{length, get_or, get_elem?}
+use lib.ListN.{length, get_elem?}
 use Rattle.std.specs.Prelude.{if◌then◌else◌}
 use Rattle.rules.specs.Outcome.{ok, at, ◌>>=◌}
 use Rattle.rules.specs.Split.{Item}
-use Rattle.rules.specs.State.{Found, present, present_at, present_from, find_in}
+use Rattle.rules.specs.State.{Found, present_at, present_from, find_in}
 use Rattle.rules.specs.Calls.{item_from}
 use Rattle.rules.specs.Demands.{All}
 use Rattle.rules.proofs.Acceptance.{lookup_some}
@@ -19,7 +19,6 @@ use Rattle.rules.proofs.Places.{from_each}
 use Rattle.split_arg.specs.Items.{record_at}
 use Rattle.state_marks.specs.Lent.{FirstWhere}
 use Rattle.state_marks.proofs.Marks.{present_at_lem, from_hit, from_none}
-use Rattle.take_search.specs.Items.{Table}
 use Rattle.take_search.specs.Search.{HasItem, HasItems, place_or, seek, Sought, Passed}
 
 pub item_there : (s words marks : List ℕ) (from end i : ℕ) → HasItems s words marks from end → i < end → HasItem s words i
@@ -202,7 +201,8 @@ module _ (area words : List ℕ) (test : Item → Bool) (marks : List ℕ) (end 
   sought_end is t l = sym (rw (from_none marks end end (le_refl end)))
 
   -- the first place that is present and of which `true` is said, where what is said is the test of the item
-  module _ (long : end ≤ length marks) (from r : ℕ) (says : ℕ → Bool → Type 0) (f : FirstWhere marks says from end r) (told : (i : ℕ) (b : Bool) → i < end → says i b → TestedAt area words test i b) where
+  module _ (long : end ≤ length marks) (from r : ℕ) (says : ℕ → Bool → Type 0) (f : FirstWhere marks says from end r)
+      (told : (i : ℕ) (b : Bool) → i < end → says i b → TestedAt area words test i b) where
     sought_here : r < end → Sought area words test marks r end r
     unfolding find_in at ◌>>=◌
     sought_here h is t l =
