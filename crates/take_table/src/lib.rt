@@ -21,7 +21,7 @@ pub const TABLE_WORDS: usize = 257;
 
 const ALL_ITEMS: usize = 0;
 
-// ---- sets of nodes as the bits of a word
+// ---- sets of nodes as the bits of a word. Functions, as no clause of `>>`, `<<` and `|` says what each bit is.
 
 // Whether n is in the set.
 fn has(set: u64, n: usize) -> bool
@@ -114,7 +114,7 @@ fn mark_nodes(form: &[u8], count: usize, owners: &mut [u64]) -> u64
 
 // ---- the nodes that match an item
 
-// The nodes that have this character as a short name.
+// The nodes that have this character as a short name. By places: in a `zip` the proof has no name for place k of both.
 fn short_owners(codes: &[u32], count: usize, owners: &[u64], character: u32) -> u64
     requires { (count ≤ length codes.now) × (count ≤ length owners.now) }
     ensures { (form : List ℕ) (loose : ℕ) → Lookup form codes.now count owners.now loose → SetOf form (has_short form character) result }
