@@ -19,7 +19,7 @@ const NAMES: usize = 128;
 
 const AREA: usize = 4096;
 
-// The kind of a node, by document 01's numbers from 1 on. The form check refuses Zero and Other, which is 12 or above.
+// The kind of a node, by document 01's numbers from 1 on. The form check refuses Zero and Other, which has its number less 12.
 #[derive(Clone, Copy, PartialEq, Eq, Debug)]
 pub enum Kind {
     Zero,
@@ -40,6 +40,7 @@ pub enum Kind {
 impl Kind {
     // As the form has it.
     pub fn number(self) -> u32
+        requires { kind_number self < 2 ^ 32 }
         ensures { result ≡ kind_number self }
     {
         match self {
@@ -55,7 +56,7 @@ impl Kind {
             Kind::Choice => 9,
             Kind::Fallback => 10,
             Kind::Guard => 11,
-            Kind::Other(n) => n.max(12),
+            Kind::Other(n) => n + 12,
         }
     }
 
@@ -87,7 +88,7 @@ impl From<u32> for Kind {
             9 => Kind::Choice,
             10 => Kind::Fallback,
             11 => Kind::Guard,
-            _ => Kind::Other(number),
+            _ => Kind::Other(number - 12),
         }
     }
 }

@@ -1,6 +1,6 @@
 -- Loops over marks: each invariant says that what is still to be looked at gives what the whole gives.
 use mathlib.Core.Path.{◌≡◌, refl, sym, ap, subst, ◌∙◌}
-use mathlib.Core.Bool.{and-eq-true_iff, Bool, true, false, not, xor, beq, ◌&&◌}
+use mathlib.Core.Bool.{and-eq-true_iff, Bool, true, false, false≢true, not, xor, beq, ◌&&◌}
 use mathlib.Core.List.{List, [], ◌∷◌, ◌++◌, append_assoc}
 use mathlib.Core.Option.{some}
 use mathlib.Core.Logic.{◌⊎◌, inl, inr, ⊎_elim}
@@ -14,11 +14,12 @@ use lib.Seq.{drop-cons, get_or-take, length-take-le, set_at, get_or_at}
 use borrow.Author.Tests.{eqb-true, ne_eqb, ltb-true, ltb-false}
 use Rattle.std.specs.Prelude.{if◌then◌else◌, Some, None}
 use Rattle.std.specs.List.{list_all}
+use Rattle.std.proofs.lemmas.Bool.{false_from_ne_true}
 use Rattle.rules.specs.Base.{all}
 use Rattle.rules.specs.Tree.{zeros}
 use Rattle.rules.specs.State.{parsed, present, present_at, present_from, count_present, pick_from, conflicts}
 use Rattle.rules.proofs.Places.{conflicts_length}
-use Rattle.state_marks.specs.Lent.{first_or, pick_of, conflict_mark, Alike}
+use Rattle.state_marks.specs.Lent.{first_or, NoneWhere, FirstWhere, pick_of, conflict_mark, Alike}
 
 pub present_at_lem : (m : List ℕ) (i : ℕ) → i < length m → present_at m i ≡ present (get_or m i 0)
 unfolding present_at
@@ -28,20 +29,7 @@ present_at_lem (x ∷ m) (suc i) h = present_at_lem m i (le_of_suc-le-suc h)
 
 -- ---- the first that is present
 
-pub record FirstFrom (m : List ℕ) (from end i : ℕ) : Type 0 where
-  pub within : i ≤ end
-  pub same : first_or end (present_from m (end - i) i) ≡ first_or end (present_from m (end - from) from)
-
-pub searched_first : (m : List ℕ) (from end : ℕ) → from ≤ end → FirstFrom m from end from
-searched_first m from end h = record { within = h; same = refl }
-
 module _ (m : List ℕ) (end i : ℕ) (h : i < end) (l : end ≤ length m) where
-  pub from_used : present (get_or m i 0) ≡ false → present_from m (end - i) i ≡ present_from m (end - (i + 1)) (i + 1)
-  unfolding present_from
-  from_used e =
-      let z : end - i ≡ suc (end - suc i) = omega arith in
-      rw (z, add-one i, present_at_lem m i (omega arith), e)
-
   pub from_hit : present (get_or m i 0) ≡ true → present_from m (end - i) i ≡ i ∷ present_from m (end - (i + 1)) (i + 1)
   unfolding present_from
   from_hit e =
@@ -52,17 +40,59 @@ pub from_none : (m : List ℕ) (end i : ℕ) → end ≤ i → present_from m (e
 unfolding present_from
 from_none m end i h = let z : end - i ≡ 0 = omega arith in rw z
 
-module _ (m : List ℕ) (from end i : ℕ) (s : FirstFrom m from end i) (l : end ≤ length m) where
-  pub searched_next : i < end → (x : Bool) → x ≡ present (get_or m i 0) → x ≡ false → FirstFrom m from end (i + 1)
-  searched_next h x e g = record { within = omega arith; same = ap (first_or end) (sym (from_used m end i h l (sym e ∙ g))) ∙ s.same }
+-- places that are used add nothing
+from_past : (m : List ℕ) (d n i : ℕ) → ((k : ℕ) → i ≤ k → k < i + d → present_at m k ≡ true → ⊥) → present_from m (d + n) i ≡ present_from m n (i + d)
+unfolding present_from
+from_past m zero n i f =
+    let y : zero + n ≡ n = omega arith in
+    let z : i + zero ≡ i = omega arith in
+    rw (y, z)
+from_past m (suc d) n i f =
+    let y : suc d + n ≡ suc (d + n) = omega arith in
+    let z : i + suc d ≡ suc i + d = omega arith in
+    rw (y, z, false_from_ne_true (present_at m i) (f i (omega arith) (omega arith)))
+    (from_past m d n (suc i) (λ k l b. f k (omega arith) (omega arith)))
 
-  pub searched_hit : i < end → (x : Bool) → x ≡ present (get_or m i 0) → x ≡ true → i ≡ first_or end (present_from m (end - from) from)
-  unfolding first_or
-  searched_hit h x e g = sym (ap (first_or end) (from_hit m end i h l (sym e ∙ g))) ∙ s.same
+-- what `first_where` finds by a test that nothing fails
+pub first_of_all : (m : List ℕ) (from end r : ℕ) → end ≤ length m → (says : ℕ → Bool → Type 0) → FirstWhere m says from end r
+    → ((k : ℕ) → says k false → ⊥) → r ≡ first_or end (present_from m (end - from) from)
+unfolding first_or
+first_of_all m from end r l says f n =
+    let y : end - from ≡ r - from + (end - r) = omega (arith, f.behind, f.within) in
+    let z : from + (r - from) ≡ r = omega (arith, f.behind) in
+    let past = from_past m (r - from) (end - r) from (λ k a b p. n k (f.before k a (omega (arith, f.behind)) p)) in
+    let same : present_from m (end - from) from ≡ present_from m (end - r) r = rw y (rw z at past) in
+    rw same
+    (⊎_elim
+    (λ (e : r ≡ end). rw (e, from_none m end end (omega arith)))
+    (λ (h : r < end). rw (from_hit m end r h l (sym (present_at_lem m r (omega arith)) ∙ (f.here h).0)))
+    (eq-or-lt_of_le f.within))
 
-  pub searched_end : end ≤ i → end ≡ first_or end (present_from m (end - from) from)
-  unfolding first_or
-  searched_end h = sym (ap (first_or end) (from_none m end i h)) ∙ s.same
+-- the loop of `first_where`
+module _ (m : List ℕ) (says : ℕ → Bool → Type 0) (from i : ℕ) (z : NoneWhere m says from i) where
+  none_next : (present_at m i ≡ true → says i false) → NoneWhere m says from (i + 1)
+  none_next f k a b p = ⊎_elim
+      (λ (e : k ≡ i). rw e (f (rw e at p)))
+      (λ (l : k < i). z k a l p)
+      (eq-or-lt_of_le (omega arith))
+
+  module _ (end : ℕ) (h : i < end) (l : end ≤ length m) (x : Bool) (e : x ≡ present (get_or m i 0)) where
+    at_place : present_at m i ≡ x
+    at_place = present_at_lem m i (omega arith) ∙ sym e
+
+    pub where_used : x ≡ false → NoneWhere m says from (i + 1)
+    where_used g = none_next (λ p. absurd (false≢true (sym (at_place ∙ g) ∙ p)))
+
+    pub where_fails : (r : Bool) → says i r → r ≡ false → NoneWhere m says from (i + 1)
+    where_fails r s g = none_next (λ p. subst (says i) g s)
+
+    pub where_hit : from ≤ i → x ≡ true → (r : Bool) → says i r → r ≡ true → FirstWhere m says from end i
+    where_hit o g r s q = record {
+      behind = o;
+      within = omega arith;
+      before = z;
+      here = λ _. (at_place ∙ g, subst (says i) q s);
+    }
 
 -- what the search finds: a present place, before which none is
 pub record FirstAt (m : List ℕ) (k a r : ℕ) : Type 0 where

@@ -72,12 +72,7 @@ fn until_present(a: &[u16], b: &[u16], from: usize, count: usize) -> usize
     requires { (from ≤ count) × (count ≤ length a.now) × (count ≤ length b.now) }
     ensures { Until a.now b.now from count result }
 {
-    for i in from..count {
-        if is_present(a[i]) && is_present(b[i]) {
-            return i;
-        }
-    }
-    count
+    state_marks::first_where(a, from, count, |i| is_present(b[i]))
 }
 
 // From the scope's start up to the first place that is present here and in the original.
@@ -96,7 +91,7 @@ pub fn adjacent_scope(s: State, original: State) -> Option<Scope>
     })
 }
 
-// The first used place from `from` on; `count` if there is none below it: a scope goes up to there.
+// The first used place from `from` on; `count` if there is none below it. A `for`: `first_where` passes over used places.
 fn span_end(marks: &[u16], from: usize, count: usize) -> usize
     requires { (from ≤ count) × (count ≤ length marks.now) }
     ensures { SpanEnd marks.now from count result }

@@ -18,7 +18,6 @@ ghost use Rattle.take_search.specs.Items.{HasPart, part_bytes, operand_kind};
 ghost use Rattle.take_search.specs.Search.{HasNames, HasItem, HasItems, Sought};
 
 use split_arg::{Item, Part};
-use state_marks::is_present;
 
 // The names of a node: `count` records of the form from `first` on. An adjacent argument takes only an item that has its value
 // in its own word.
@@ -123,12 +122,12 @@ pub fn find_named(
     requires { HasNames form.now codes.now names.first names.count × HasItems sheet.now items.now marks.now from end }
     ensures { Sought (sheet_area sheet.now) items.now (matches_arg (named_at form.now names.first names.count) names.adjacent) marks.now from end result }
 {
-    for i in from..end {
-        if is_present(marks[i]) && matches(form, codes, sheet, items, i, names) {
-            return i;
-        }
-    }
-    end
+    state_marks::first_where(
+        marks,
+        from,
+        end,
+        |i| matches(form, codes, sheet, items, i, names),
+    )
 }
 
 // Whether record i is a Word or a PosWord.
@@ -145,10 +144,5 @@ pub fn find_operand(items: &[u32], marks: &[u16], from: usize, end: usize) -> us
     requires { (from ≤ end) × (end ≤ length marks.now) × (7 * end ≤ length items.now) }
     ensures { (area : List ℕ) → Sought area items.now is_operand marks.now from end result }
 {
-    for place in from..end {
-        if is_present(marks[place]) && is_operand(items, place) {
-            return place;
-        }
-    }
-    end
+    state_marks::first_where(marks, from, end, |i| is_operand(items, i))
 }

@@ -15,7 +15,6 @@ ghost use Rattle.take_table.specs.Owners.{NoOwners, Owners, Added, is_loose, Loo
 
 use form_layout::Kind;
 use split_arg::Item;
-use state_marks::is_present;
 
 // The words of the longest table: one of all items, then one for each item that a line can have. A shorter line needs no more than
 // one word for each of its own items.
@@ -23,7 +22,7 @@ pub const TABLE_WORDS: usize = 257;
 
 const ALL_ITEMS: usize = 0;
 
-// ---- sets of nodes as the bits of a word. Functions, not the operators in place: their callers cite what these mean for a member.
+// ---- sets of nodes as the bits of a word. Functions, as no clause of `>>`, `<<` and `|` says what each bit is.
 
 // Whether n is in the set.
 fn has(set: u64, n: usize) -> bool
@@ -115,7 +114,7 @@ fn mark_nodes(form: &[u8], count: usize, owners: &mut [u64]) -> u64
 
 // ---- the nodes that match an item
 
-// The nodes that have this character as a short name. By places: the invariant names place k of both slices, and a zip has no place.
+// The nodes that have this character as a short name. By places: in a `zip` the proof has no name for place k of both.
 fn short_owners(codes: &[u32], count: usize, owners: &[u64], character: u32) -> u64
     requires { (count ≤ length codes.now) × (count ≤ length owners.now) }
     ensures { (form : List ℕ) (loose : ℕ) → Lookup form codes.now count owners.now loose → SetOf form (has_short form character) result }
@@ -245,10 +244,5 @@ pub fn find(table: &[u64], marks: &[u16], node: usize, from: usize, end: usize) 
     if is_absent(table, node) {
         return end;
     }
-    for i in from..end {
-        if is_present(marks[i]) && has(table[i + 1], node) {
-            return i;
-        }
-    }
-    end
+    state_marks::first_where(marks, from, end, |i| has(table[i + 1], node))
 }

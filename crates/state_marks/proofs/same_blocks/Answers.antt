@@ -1,4 +1,3 @@
-use Prim.Native.Nat.{◌-◌}
 use Rattle.state_marks.proofs.Marks.{blocks_first, blocks_next}
 use Rattle.state_marks.proofs.same_blocks.Goals as goal
 
