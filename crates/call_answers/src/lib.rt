@@ -3,7 +3,7 @@
 
 ghost use Rattle.std.specs.Prelude.{◌≡◌, ◌≤◌, ◌<◌, ◌^◌};
 ghost use Rattle.utf8.specs.Utf8.{decode_at};
-ghost use Rattle.rules.specs.Reported.{number_of, place_told, told};
+ghost use Rattle.rules.specs.Reported.{number_of, place_told};
 ghost use Rattle.call_answers.specs.Answers.{coded, yes_no, answer_with, state_with, decoding};
 
 use rules::{Refusal, Refused, RefusedAt, State};
@@ -58,20 +58,6 @@ pub fn narrow(x: usize) -> u32
     x as u32
 }
 
-// A refusal as C has it: its number, and its place plus 1, or 0 for none.
-pub fn told(e: RefusedAt) -> Refused
-    requires { place_told e.place < 2 ^ 32 }
-    ensures { result ≡ told e }
-{
-    Refused {
-        number: e.refusal.number(),
-        place: match e.place {
-            Some(place) => place + 1,
-            None => 0,
-        },
-    }
-}
-
 // Refused, with no place.
 pub fn refused(e: Refusal) -> Answer
     ensures { result ≡ answer_with (number_of e) 0 (coded 0 0 0) }
@@ -90,7 +76,7 @@ pub fn refused_at(e: RefusedAt) -> Answer
     requires { place_told e.place < 2 ^ 32 }
     ensures { result ≡ answer_with (number_of e.refusal) (place_told e.place) (coded 0 0 0) }
 {
-    let r = told(e);
+    let r = e.told();
     Answer {
         number: r.number,
         place: r.place,
@@ -131,7 +117,7 @@ pub fn unchanged_at(e: RefusedAt, s: State) -> StateAnswer
     requires { place_told e.place < 2 ^ 32 }
     ensures { result ≡ state_with (number_of e.refusal) (place_told e.place) (coded 0 0 0) s }
 {
-    let r = told(e);
+    let r = e.told();
     StateAnswer {
         number: r.number,
         place: r.place,

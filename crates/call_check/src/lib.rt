@@ -43,7 +43,7 @@ pub fn form_check(form: &[u8]) -> Refused
             number: 0,
             place: 0,
         },
-        Err(e) => call_answers::told(e),
+        Err(e) => e.told(),
     }
 }
 
@@ -69,7 +69,7 @@ fn answered(answer: Result<u32, RefusedAt>) -> Told
             answer,
         },
         Err(e) => {
-            let r = call_answers::told(e);
+            let r = e.told();
             Told {
                 number: r.number,
                 place: r.place,
@@ -116,7 +116,7 @@ fn split_refused(e: RefusedAt, items: &mut [u32]) -> Ended
     ensures { SplitAnswers (ok (split_refused (length items.old) (number_of e.refusal) (place_of (place_told e.place)))) items.new result }
 {
     wire::fill(items, 0, items.len(), 0);
-    let r = call_answers::told(e);
+    let r = e.told();
     Ended {
         number: r.number,
         place: r.place,

@@ -91,7 +91,7 @@ fn unchanged(e: RefusedAt, s: State) -> RunAnswer
     requires { place_told e.place < 2 ^ 32 }
     ensures { result ≡ unchanged_by (told e) s }
 {
-    let r = call_answers::told(e);
+    let r = e.told();
     RunAnswer {
         number: r.number,
         place: r.place,

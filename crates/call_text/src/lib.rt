@@ -47,7 +47,7 @@ fn refused_at(e: RefusedAt) -> TextPart
     requires { place_told e.place < 2 ^ 32 }
     ensures { result ≡ refused_part (number_of e.refusal) (place_told e.place) }
 {
-    let r = call_answers::told(e);
+    let r = e.told();
     TextPart {
         number: r.number,
         place: r.place,
