@@ -6,7 +6,7 @@ ghost use Rattle.utf8.specs.Utf8.{decode_at};
 ghost use Rattle.rules.specs.Reported.{number_of, place_told};
 ghost use Rattle.call_answers.specs.Answers.{coded, yes_no, answer_with, state_with, decoding};
 
-use rules::{Refusal, Refused, RefusedAt, State};
+use rules::{Refusal, RefusedAt, State};
 
 // From a call that leaves the state as it was. A place is itself plus 1, or 0 for none.
 #[repr(C)]
