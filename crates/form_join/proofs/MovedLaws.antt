@@ -134,24 +134,26 @@ fallback_small f x number l m = omega (arith, m.0)
 
 module _ (f : Form) (kind : ℕ → Kind) (repeats : ℕ → Bool) (k : ℕ) (x : Node) (few : k < 64) (l : length f.names ≤ 128) where
   made_small : NodeMade f kind repeats k x → NodeWithin 128 x
-  made_small (flag_row i n r u e s) = record { p = omega (arith, n.inside); q = omega (arith, n.inside); r = omega arith }
+  made_small (flag_row i n r u e s) = record { kind = omega arith; p = omega (arith, n.inside); q = omega (arith, n.inside); r = omega arith }
   made_small (argument_row i n u r s) = record {
+    kind = omega arith;
     p = omega (arith, n.inside);
     q = omega (arith, n.inside);
     r = ⊎_elim (λ h. omega (arith, h.0)) (λ h. omega (arith, h.1)) r;
   }
   made_small (positional_row i p u r s) = record {
+    kind = omega arith;
     p = omega arith;
     q = omega (arith, u.0);
     r = ⊎_elim (λ h. omega (arith, h.0)) (λ h. omega (arith, h.0)) r;
   }
-  made_small (optional_row i p r u e s) = record { p = omega arith; q = omega (arith, u.0); r = omega arith }
-  made_small (list_row i p r u e s z) = record { p = omega arith; q = omega (arith, u.0); r = omega arith }
-  made_small (count_row i p u e s z) = record { p = omega arith; q = omega (arith, u.0); r = omega (arith, u.1.0) }
-  made_small (last_row i p u e s z) = record { p = omega arith; q = omega (arith, u.0); r = omega (arith, u.1.0) }
-  made_small (choice_row i p q u e s) = record { p = omega arith; q = omega arith; r = omega (arith, u.0) }
-  made_small (fallback_row β i p q m e g s) = record { p = omega arith; q = omega arith; r = fallback_small f x β l m }
-  made_small (guard_row i p u h e g s) = record { p = omega arith; q = omega (arith, u.0); r = omega (arith, u.1.0) }
+  made_small (optional_row i p r u e s) = record { kind = omega arith; p = omega arith; q = omega (arith, u.0); r = omega arith }
+  made_small (list_row i p r u e s z) = record { kind = omega arith; p = omega arith; q = omega (arith, u.0); r = omega arith }
+  made_small (count_row i p u e s z) = record { kind = omega arith; p = omega arith; q = omega (arith, u.0); r = omega (arith, u.1.0) }
+  made_small (last_row i p u e s z) = record { kind = omega arith; p = omega arith; q = omega (arith, u.0); r = omega (arith, u.1.0) }
+  made_small (choice_row i p q u e s) = record { kind = omega arith; p = omega arith; q = omega arith; r = omega (arith, u.0) }
+  made_small (fallback_row β i p q m e g s) = record { kind = omega arith; p = omega arith; q = omega arith; r = fallback_small f x β l m }
+  made_small (guard_row i p u h e g s) = record { kind = omega arith; p = omega arith; q = omega (arith, u.0); r = omega (arith, u.1.0) }
 
 -- ---- nodes
 
@@ -209,7 +211,7 @@ module _ (d : declared.Moves) (b : List ℕ) (k : ℕ) (has : CanMoveNode b k) (
         let there : get_elem? a.form.nodes k ≡ some (node_of x) = rw form ex in
         record {
           same = rw (moved_accepted (moves_of d) b a e) (nodes_at_lem (moves_of d) a.trees a.form.nodes k u (node_of x) eu there ∙ rw (← ep, ← eq, er, et a u e eu));
-          within = record { p = p_within; q = q_within; r = h };
+          within = record { kind = omega (arith, node_within.kind); p = p_within; q = q_within; r = h };
         }
 
     pub text_there :

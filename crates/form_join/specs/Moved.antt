@@ -53,6 +53,7 @@ pub record CanMoveField (b : List ℕ) (k : ℕ) : Type 0 where
 
 -- numbers that have room to move
 pub record NodeWithin (most : ℕ) (x : Node) : Type 0 where
+  pub kind : x.kind ≤ most
   pub p : x.p ≤ most
   pub q : x.q ≤ most
   pub r : x.r ≤ most
