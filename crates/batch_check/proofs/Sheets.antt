@@ -1,38 +1,17 @@
 -- What the tests of a batch say of it.
-use mathlib.Core.Bool.{Bool, true, false, not, ◌&&◌}
+use mathlib.Core.Bool.{Bool, true, false, ◌&&◌}
 use mathlib.Core.List.{List}
 use mathlib.Core.Logic.{inr}
 use mathlib.Core.Path.{◌≡◌, refl}
-use Prim.Native.Nat.{ℕ, ◌+◌, ◌*◌, ◌≤◌, ◌<◌}
+use Prim.Native.Nat.{ℕ, ◌+◌, ◌≤◌, ◌<◌}
 use native.Mathlib.Omega.{arith}
 use lib.Dec.{leb}
 use lib.ListN.{length}
-use borrow.Author.Tests.{le-leb, lt-leb, not-true, not-false}
 use Rattle.wire.specs.Wire.{table_good, HasEntry}
 use Rattle.wire.specs.Laws.{good_table, start_least}
 use Rattle.rules.specs.Batch.{sheet_count, batch_good, parts_fit}
 use Rattle.rules.proofs.Acceptance.{and-true}
 use Rattle.batch_check.specs.Sheets.{HasSheet}
-
--- ---- room for n sheets
-module _ (n nr ni na nl : ℕ) where
-  pub records_short : nr < 4 * n → false ≡ parts_fit n nr ni na nl
-  unfolding parts_fit
-  records_short h = rw (lt-leb (4 * n) nr h)
-
-  module _ (r : 4 * n ≤ nr) where
-    pub items_short : ni < 1792 * n → false ≡ parts_fit n nr ni na nl
-    unfolding parts_fit
-    items_short h = rw (le-leb (4 * n) nr r, lt-leb (1792 * n) ni h)
-
-    module _ (i : 1792 * n ≤ ni) where
-      pub answers_short : na < 8240 * n → false ≡ parts_fit n nr ni na nl
-      unfolding parts_fit
-      answers_short h = rw (le-leb (4 * n) nr r, le-leb (1792 * n) ni i, lt-leb (8240 * n) na h)
-
-      pub list_decides : 8240 * n ≤ na → leb (192 * n) nl ≡ parts_fit n nr ni na nl
-      unfolding parts_fit
-      list_decides a = rw (le-leb (4 * n) nr r, le-leb (1792 * n) ni i, le-leb (8240 * n) na a)
 
 -- ---- the batch
 pub record GoodBatch (b : List ℕ) : Type 0 where
@@ -57,17 +36,3 @@ module _ (b : List ℕ) (nr ni na nl : ℕ) where
       go : (g : Bool) → batch_good b ≡ g → false ≡ (g && parts_fit (sheet_count b) nr ni na nl)
       go false e = refl
       go true e = absurd (omega (arith, (good_batch b e).long))
-
-  module _ (n : ℕ) (p : n ≡ sheet_count b) where
-    pub many_sheets : 32 < n → false ≡ (batch_good b && parts_fit (sheet_count b) nr ni na nl)
-    unfolding batch_good
-    many_sheets h = rw (← p, lt-leb n 32 h)
-
-    module _ (few : n ≤ 32) (g : Bool) (e : g ≡ table_good 4 n b) where
-      pub offsets_bad : not g ≡ true → false ≡ (batch_good b && parts_fit (sheet_count b) nr ni na nl)
-      unfolding batch_good
-      offsets_bad h = rw (← p, le-leb n 32 few, ← e, not-true g h)
-
-      pub room_decides : not g ≡ false → (x : Bool) → x ≡ parts_fit n nr ni na nl → x ≡ (batch_good b && parts_fit (sheet_count b) nr ni na nl)
-      unfolding batch_good
-      room_decides h x y = rw (← p, le-leb n 32 few, ← e, not-false g h) y

@@ -25,23 +25,19 @@ pub fn sheet_count(batch: &[u8]) -> usize
 }
 
 // Whether slices of these lengths have room for n sheets.
+#[tactic(auto, unfolding(rules::specs::Batch::parts_fit))]
 fn has_room(n: usize, records: usize, items: usize, answers: usize, list: usize) -> bool
     requires { n ≤ 32 }
     ensures { result ≡ parts_fit n records items answers list }
 {
-    if records < RECORD_WORDS * n {
-        return false;
-    }
-    if items < ITEM_WORDS * n {
-        return false;
-    }
-    if answers < ANSWER_WORDS * n {
-        return false;
-    }
-    MISSING_WORDS * n <= list
+    RECORD_WORDS * n <= records
+        && ITEM_WORDS * n <= items
+        && ANSWER_WORDS * n <= answers
+        && MISSING_WORDS * n <= list
 }
 
 // Whether a batch is well made, and slices of these lengths have room for its sheets.
+#[tactic(auto, unfolding(rules::specs::Batch::batch_good))]
 pub fn fits(batch: &[u8], records: usize, items: usize, answers: usize, list: usize) -> bool
     ensures { result ≡ (batch_good batch.now && parts_fit (sheet_count batch.now) records items answers list) }
 {
@@ -49,13 +45,9 @@ pub fn fits(batch: &[u8], records: usize, items: usize, answers: usize, list: us
         return false;
     }
     let n = sheet_count(batch);
-    if SHEETS < n {
-        return false;
-    }
-    if !wire::table_good(batch, WIDE_OFFSET, n) {
-        return false;
-    }
-    has_room(n, records, items, answers, list)
+    n <= SHEETS
+        && wire::table_good(batch, WIDE_OFFSET, n)
+        && has_room(n, records, items, answers, list)
 }
 
 // Sheet k.

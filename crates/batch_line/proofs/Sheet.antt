@@ -11,7 +11,11 @@ use Rattle.rules.specs.Sheet.{arguments}
 use Rattle.rules.specs.Accept.{Checked, Accepted, check_form, letters_of}
 use Rattle.rules.specs.Run.{Report, refused_input, run}
 use Rattle.rules.specs.Batch.{sheet_record}
-use Rattle.rules.specs.declared.Refused.{Refused}
+use Rattle.rules.specs.declared.Refusal.{Refusal}
+use Rattle.rules.specs.declared.RefusedAt.{RefusedAt}
+use Rattle.rules.specs.Reported.{number_of, told}
+use Rattle.rules.proofs.ReportedLaws.{numbered, check_place}
+use Rattle.std.specs.Prelude.{None}
 use Rattle.rules.proofs.BatchSteps.{run_answered}
 use Rattle.split_arg.specs.Clusters.{letters}
 use Rattle.split_args.specs.declared.Ended.{Ended as Split}
@@ -41,11 +45,13 @@ module _ (form codes flags others : List ℕ) (f : FormKnown form codes flags ot
   accepted_code = ap (λ (x : Checked Accepted). (check_code x).number) f.accepts
 
   -- a sheet or a slice at fault
-  pub line_refused : (sheet : List ℕ) (ni na nl n : ℕ) → LineTested sheet ni na nl n → (n ≡ 0 → ⊥) → (x : Option Ended)
-      → run_answer (ok (refused_input ni na nl n (place_of 0))) ≡ x → run_answer (run form sheet ni na nl) ≡ x
-  line_refused sheet ni na nl n t z x h =
-      let q : Refused = record { number = n; place = 0 } in
-      input_refused form sheet ni na nl q (line_tested form sheet ni na nl (check_code (check_form form)) refl accepted_code n t q refl) z x h
+  pub line_refused : (sheet : List ℕ) (ni na nl : ℕ) (e : Refusal) → LineTested sheet ni na nl (number_of e) → (f : RefusedAt)
+      → f ≡ record { refusal = e; place = None } → (x : Option Ended)
+      → run_answer (ok (refused_input ni na nl (told f).number (place_of (told f).place))) ≡ x → run_answer (run form sheet ni na nl) ≡ x
+  line_refused sheet ni na nl e t f w x h =
+      input_refused form sheet ni na nl (told f)
+      (line_tested form sheet ni na nl (check_code (check_form form)) refl accepted_code (number_of e) t (told f) (ap told w))
+      (numbered f.refusal) x h
 
 -- ---- what is reported
 answered_report : (form sheet : List ℕ) (ni na nl : ℕ) (e : Ended) → run_answer (run form sheet ni na nl) ≡ some e
@@ -71,15 +77,16 @@ module _ (form sheet i a l : List ℕ) (ni na nl : ℕ) (p : length i ≡ ni) (q
 
 -- a form at fault
 pub form_reported :
-    (form sheet : List ℕ) (q : Refused)
-    → q ≡ check_code (check_form form)
-    → (q.number ≡ 0 → ⊥)
+    (form sheet : List ℕ) (e : RefusedAt)
+    → told e ≡ check_code (check_form form)
     → (i a l : List ℕ) (ni na nl : ℕ)
     → length i ≡ ni
     → length a ≡ na
     → length l ≡ nl
     → (r : Reached) (m : List ℕ)
-    → run_answer (ok (refused_input ni na nl q.number (place_of q.place))) ≡ ended (answer_of r m) i a l
+    → run_answer (ok (refused_input ni na nl (told e).number (place_of (told e).place))) ≡ ended (answer_of r m) i a l
     → SheetReported form sheet i a l r
-form_reported form sheet q e z i a l ni na nl u v w r m h =
-    reported form sheet i a l ni na nl u v w r m (input_refused form sheet ni na nl q (form_refused form sheet ni na nl q e z) z _ h)
+form_reported form sheet e c i a l ni na nl u v w r m h =
+    let z = numbered e.refusal in
+    reported form sheet i a l ni na nl u v w r m
+    (input_refused form sheet ni na nl (told e) (form_refused form sheet ni na nl (told e) c z (check_place form e c)) z _ h)

@@ -1,11 +1,13 @@
 -- Text written behind text: bytes, numbers, places, the first line, the words.
 use mathlib.Core.List.{List, [], ◌∷◌, ◌++◌, append_assoc, append-nil}
 use mathlib.Core.Path.{◌≡◌, refl, sym, ◌∙◌, ap}
-use Prim.Native.Nat.{ℕ, suc, ◌+◌, ◌-◌, ◌*◌, ◌^◌, ◌≤◌, ◌<◌}
+use Prim.Native.Nat.{ℕ, ◌+◌, ◌-◌, ◌*◌, ◌^◌, ◌≤◌, ◌<◌}
 use native.Mathlib.Omega.{arith}
 use native.Mathlib.Numerals.{add-one}
-use lib.ListN.{length, take, drop, get_or, set, length-set, length-append}
-use lib.Seq.{take-suc, take-suc-set, take_all, drop-drop, drop-set-lt}
+use lib.ListN.{length, take, drop, get_or, length-append}
+use lib.Seq.{take-suc, take_all, drop-drop}
+use borrow.Rule.Slice.PartMut.{put_mid, same_len_mid, mid_len}
+use Rattle.std.proofs.lemmas.Slice.{take-put_mid, drop-put_mid}
 use Rattle.io.specs.Counts.{IsPrefixLen}
 use Rattle.io.specs.Digits.{last_digits, IsDigitCount}
 use Rattle.rules.specs.Base.{concat_map}
@@ -20,47 +22,21 @@ use Rattle.bench.proofs.Decimal.{digits_decimal, ten_digits}
 drop_more : (k n : ℕ) (l m : List ℕ) → drop n l ≡ drop n m → drop (n + k) l ≡ drop (n + k) m
 drop_more k n l m e = sym (drop-drop k n l) ∙ ap (drop k) e ∙ drop-drop k n m
 
--- i bytes of s are written
-pub record Copied (o : List ℕ) (at : ℕ) (s o' : List ℕ) (i : ℕ) : Type 0 where
-  pub text : take (at + i) o' ≡ take at o ++ take i s
-  pub rest : drop (at + i) o' ≡ drop (at + i) o
-  pub long : length o' ≡ length o
-  pub below : i ≤ length s
-
-module _ (o : List ℕ) (at : ℕ) (s : List ℕ) (fits : at + length s ≤ length o) where
-  pub none_copied : Copied o at s o 0
-  none_copied = record {
-    text = let e : at + 0 ≡ at = omega arith in rw e (sym (append-nil (take at o)));
-    rest = refl;
-    long = refl;
-    below = omega arith;
-  }
-
-  module _ (o' : List ℕ) (i : ℕ) (h : Copied o at s o' i) where
-    pub one_more_lem : i < length s → Copied o at s (set o' (at + i) (get_or s i 0)) (i + 1)
-    one_more_lem l = record {
-      text = let long = h.long in
-          let e : at + (i + 1) ≡ suc (at + i) = omega arith in
-          rw (e, add-one i) (take-suc-set o' (at + i) (get_or s i 0) (omega arith)
-          ∙ ap (λ (t : List ℕ). t ++ (get_or s i 0 ∷ [])) h.text
-          ∙ append_assoc (take at o) (take i s) (get_or s i 0 ∷ [])
-          ∙ ap (λ (t : List ℕ). take at o ++ t) (sym (take-suc s i 0 l)));
-      rest = let e : at + (i + 1) ≡ at + i + 1 = omega arith in
-          drop-set-lt (at + (i + 1)) o' (at + i) (get_or s i 0) (omega arith) ∙ rw e (drop_more 1 (at + i) o' o h.rest);
-      long = length-set o' (at + i) (get_or s i 0) ∙ h.long;
-      below = omega arith;
+-- s stands where as many bytes were
+pub copied :
+    (o : List ℕ) (at : ℕ) (s : List ℕ)
+    → at + length s ≤ length o
+    → (x : List ℕ)
+    → x ≡ s
+    → Appends o at (put_mid at (at + length s - at) o x) (at + length s) s
+copied o at s fits x e =
+    let long : length x ≡ length s = ap length e in
+    record {
+      text = take-put_mid _ _ o x (at + length s) (omega arith) (omega arith) ∙ ap (λ (t : List ℕ). take at o ++ t) e;
+      rest = drop-put_mid _ _ o x (at + length s) (omega arith) (omega arith) (omega arith);
+      size = refl;
+      inside = omega (arith, same_len_mid at (at + length s - at) o x (omega (arith, mid_len at (at + length s) o fits)));
     }
-
-    pub all_copied : length s ≤ i → Appends o at o' (at + i) s
-    all_copied l =
-        let below = h.below in
-        let long = h.long in
-        record {
-          text = h.text ∙ rw (take_all i s l);
-          rest = h.rest;
-          size = omega arith;
-          inside = omega arith;
-        }
 
 -- ---- text behind text
 module _ (o : List ℕ) (at : ℕ) where

@@ -15,24 +15,10 @@ use std::io::{ErrorKind, Read, Result};
 mod output;
 
 // No form and sheet of more than 39,212 bytes together are accepted, so the first 39,213 bytes of an input decide its answer.
-fn input_buffer() -> [u8; 39213]
-    ensures { 39213 ≡ length result }
-{
-    [0; 39213]
-}
+const INPUT_BYTES: usize = 39213;
 
 // Room for a first line of 69 bytes and 8,240 words of 11.
-fn output_buffer() -> [u8; 90709]
-    ensures { 90709 ≡ length result }
-{
-    [0; 90709]
-}
-
-fn size(x: u32) -> usize
-    ensures { result ≡ x }
-{
-    x as usize
-}
+const OUTPUT_BYTES: usize = 90709;
 
 // The text that answers an input.
 fn answer(input: &[u8], out: &mut [u8]) -> usize
@@ -47,11 +33,12 @@ fn answer(input: &[u8], out: &mut [u8]) -> usize
     let sheet = bench_input::sheet_part(input);
     let ran = run::run(form, sheet, &mut items, &mut answers, &mut list);
     let end = output::first_line(out, ran.number, ran.place, ran.tries, ran.words);
-    let count = size(ran.words);
+    let count = ran.words as usize;
     output::append_words(out, end, &answers[..count])
 }
 
-// Reads to the start of `buffer` until it is full or the input ends, and answers how many bytes were read.
+// Reads to the start of `buffer` until it is full or the input ends, and answers how many bytes were read. The library has no such
+// method that tells of an error: `read_exact` gives no count, `read_to_end` wants a heap, and `io::read_full` takes an error for the end.
 fn read_full(input: &mut impl Read, buffer: &mut [u8]) -> Result<usize>
     ensures { ReadsAtMost result buffer.new }
 {
@@ -71,9 +58,9 @@ fn read_full(input: &mut impl Read, buffer: &mut [u8]) -> Result<usize>
 }
 
 fn main(rt: HostRuntime) -> Result<()> {
-    let mut input = input_buffer();
+    let mut input = [0; INPUT_BYTES];
     let n = read_full(&mut rt.stdin(), &mut input)?;
-    let mut out = output_buffer();
+    let mut out = [0; OUTPUT_BYTES];
     let end = answer(&input[..n], &mut out);
     rt.write_all(&out[..end])
 }

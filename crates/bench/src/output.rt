@@ -5,23 +5,14 @@ ghost use Rattle.rules.specs.Bench.{decimal, place_text, word_line};
 ghost use Rattle.rules.specs.Codes.{place_of};
 ghost use Rattle.bench.specs.Text.{Appends, line_text};
 
-fn wide(x: u32) -> u64
-    ensures { result ≡ x }
-{
-    x as u64
-}
-
 // Each function here writes a text from `at` on, and answers where it ends.
 fn append(out: &mut [u8], at: usize, part: &[u8]) -> usize
     requires { at + length part.now ≤ length out.old }
     ensures { Appends out.old at out.new result part.now }
 {
-    let mut i = 0;
-    while i < part.len() {
-        out[at + i] = part[i];
-        i += 1;
-    }
-    at + i
+    let end = at + part.len();
+    out[at..end].copy_from_slice(part);
+    end
 }
 
 fn append_number(out: &mut [u8], at: usize, n: u32) -> usize
@@ -29,7 +20,7 @@ fn append_number(out: &mut [u8], at: usize, n: u32) -> usize
     ensures { Appends out.old at out.new result (decimal n) × (result ≤ at + 10) }
 {
     let mut digits = [0u8; 20];
-    let k = io::decimal(wide(n), &mut digits);
+    let k = io::decimal(u64::from(n), &mut digits);
     append(out, at, &digits[..k])
 }
 
@@ -70,11 +61,9 @@ pub fn append_words(out: &mut [u8], at: usize, words: &[u32]) -> usize
     ensures { Appends out.old at out.new result (concat_map word_line words.now) }
 {
     let mut end = at;
-    let mut i = 0;
-    while i < words.len() {
-        let written = append_number(out, end, words[i]);
+    for word in words {
+        let written = append_number(out, end, *word);
         end = append(out, written, b"\n");
-        i += 1;
     }
     end
 }

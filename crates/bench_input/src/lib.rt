@@ -4,7 +4,8 @@
 ghost use Rattle.std.specs.Prelude.{◌≡◌, ◌≤◌, length, take, drop};
 ghost use Rattle.rules.specs.Form.{form_length, form_end};
 
-// How long the form is by the counts of its header.
+// How long the form is by the counts of its header. By `u16_at`, whose type bounds the sum: form_layout's readers of these counts give
+// a usize, and the bound of each would be proved.
 fn form_length(b: &[u8]) -> usize
     requires { 8 ≤ length b.now }
     ensures { result ≡ form_length b.now }
@@ -24,14 +25,11 @@ pub fn form_end(input: &[u8]) -> usize
         return input.len();
     }
     let end = form_length(input);
-    if input.len() < end {
+    // The first `end` bytes have the length that their counts say, so only the counts' limits are left to test.
+    if input.len() < end || !form_layout::length_good(&input[..end]) {
         return input.len();
     }
-    // These bytes have the length that their counts say, so only the counts' limits are left to test.
-    if form_layout::length_good(&input[..end]) {
-        return end;
-    }
-    input.len()
+    end
 }
 
 pub fn form_part(input: &[u8]) -> &[u8]

@@ -7,8 +7,8 @@ use Rattle.rules.specs.State.{Conflict, Picked, Scope}
 use Rattle.rules.specs.Take.{Taken, Operand}
 use Rattle.rules.specs.Calls.{Called}
 use Rattle.rules.specs.declared.State.{State as Raw}
-use Rattle.utf8.specs.declared.Decoded.{Decoded}
-use Rattle.utf8.specs.declared.Decoded.TheVariants.{Char, Bad}
+use Rattle.std.specs.Prelude.{Option as CodeOption, Some, None}
+use Rattle.utf8.specs.declared.Char.{Char}
 use Rattle.call_answers.specs.declared.Answer.{Answer}
 use Rattle.call_answers.specs.declared.StateAnswer.{StateAnswer}
 use Rattle.call_answers.specs.declared.Decoding.{Decoding}
@@ -98,6 +98,6 @@ state_answer_of code (refused e) = none
 state_answer_of code (fault x) = none
 
 -- a character and its size, or none
-abbrev pub decoding : Decoded → Decoding
-decoding (Char value size) = record { found = true; character = value; size = size }
-decoding Bad = record { found = false; character = 0; size = 0 }
+abbrev pub decoding : CodeOption Char → Decoding
+decoding (Some c) = record { found = true; character = c.value; size = c.size }
+decoding None = record { found = false; character = 0; size = 0 }

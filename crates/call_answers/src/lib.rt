@@ -1,28 +1,12 @@
 // What a single call hands back: how it ended, and its answer in three numbers. Refused, the three are 0.
 #![tactic(auto)]
 
-ghost use Rattle.std.specs.Prelude.{◌≡◌, ◌≤◌};
+ghost use Rattle.std.specs.Prelude.{◌≡◌, ◌≤◌, ◌<◌, ◌^◌};
 ghost use Rattle.utf8.specs.Utf8.{decode_at};
+ghost use Rattle.rules.specs.Reported.{number_of, place_told};
 ghost use Rattle.call_answers.specs.Answers.{coded, yes_no, answer_with, state_with, decoding};
 
-use rules::State;
-use utf8::Decoded;
-
-// The refusals of single calls: a slice, or the list, is too short; no word is left for a positional, a key has no value; there is no such
-// node, name, place or scope; a state, or an item record, breaks its rule.
-pub const SHORT_SLICE: u32 = 7;
-
-pub const SHORT_LIST: u32 = 14;
-
-pub const MISSING: u32 = 20;
-
-pub const NO_ARGUMENT: u32 = 22;
-
-pub const NOT_THERE: u32 = 28;
-
-pub const BAD_STATE: u32 = 29;
-
-pub const BAD_ITEM: u32 = 30;
+use rules::{Refusal, RefusedAt, State};
 
 // From a call that leaves the state as it was. A place is itself plus 1, or 0 for none.
 #[repr(C)]
@@ -74,13 +58,28 @@ pub fn narrow(x: usize) -> u32
     x as u32
 }
 
-// Refused under a number, at a place plus 1, or 0 for none.
-pub fn refused(number: u32, place: u32) -> Answer
-    ensures { result ≡ answer_with number place (coded 0 0 0) }
+// Refused, with no place.
+pub fn refused(e: Refusal) -> Answer
+    ensures { result ≡ answer_with (number_of e) 0 (coded 0 0 0) }
 {
     Answer {
-        number,
-        place,
+        number: e.number(),
+        place: 0,
+        found: 0,
+        first: 0,
+        second: 0,
+    }
+}
+
+// Refused at a place, if it has one.
+pub fn refused_at(e: RefusedAt) -> Answer
+    requires { place_told e.place < 2 ^ 32 }
+    ensures { result ≡ answer_with (number_of e.refusal) (place_told e.place) (coded 0 0 0) }
+{
+    let r = e.told();
+    Answer {
+        number: r.number,
+        place: r.place,
         found: 0,
         first: 0,
         second: 0,
@@ -99,13 +98,29 @@ pub fn answered(found: u32, first: u32, second: u32) -> Answer
     }
 }
 
-// Refused, with the state that was given.
-pub fn unchanged(number: u32, place: u32, s: State) -> StateAnswer
-    ensures { result ≡ state_with number place (coded 0 0 0) s }
+// Refused with no place, with the state that was given.
+pub fn unchanged(e: Refusal, s: State) -> StateAnswer
+    ensures { result ≡ state_with (number_of e) 0 (coded 0 0 0) s }
 {
     StateAnswer {
-        number,
-        place,
+        number: e.number(),
+        place: 0,
+        found: 0,
+        first: 0,
+        second: 0,
+        state: s,
+    }
+}
+
+// Refused at a place, if it has one, with the state that was given.
+pub fn unchanged_at(e: RefusedAt, s: State) -> StateAnswer
+    requires { place_told e.place < 2 ^ 32 }
+    ensures { result ≡ state_with (number_of e.refusal) (place_told e.place) (coded 0 0 0) s }
+{
+    let r = e.told();
+    StateAnswer {
+        number: r.number,
+        place: r.place,
         found: 0,
         first: 0,
         second: 0,
@@ -133,12 +148,12 @@ pub fn decode(s: &[u8], at: usize) -> Decoding
 {
     let d = utf8::decode_at(s, at);
     match d {
-        Decoded::Char(value, size) => Decoding {
+        Some(c) => Decoding {
             found: true,
-            character: value,
-            size: size as u32,
+            character: c.value,
+            size: c.size as u32,
         },
-        Decoded::Bad => Decoding {
+        None => Decoding {
             found: false,
             character: 0,
             size: 0,

@@ -19,6 +19,7 @@ use Rattle.rules.specs.Sound.{Sound}
 use Rattle.rules.proofs.Acceptance.{All-at, is_some_lem, lookup_some, accepted_form, accepted_trees, accepted_trees_sound}
 use Rattle.rules.proofs.GivenLaws.{check_accepted, form_passed}
 use Rattle.form_layout.proofs.Sizes.{nodes_length}
+use Rattle.call_answers.specs.Answers.{yes_no}
 use Rattle.call_check.specs.Reader.{told, yes_code}
 
 pub told_refused :
@@ -70,19 +71,18 @@ module _ (b : List ℕ) (k : ℕ) (r : Refused) (e : r ≡ check_code (check_for
       rw (form_passed b a (λ a. asked (get_elem? a.trees k >>? kind_of)) g, u, w, says a t κ g u w)
 
 -- ---- the portable mark
+as_yes : (v : Bool) → yes_code v ≡ yes_no v
+as_yes true = refl
+as_yes false = refl
+
 module _ (b : List ℕ) (r : Refused) (e : r ≡ check_code (check_form b)) where
   pub portable_refused : (r.number ≡ 0 → ⊥) → told yes_code (call_portable b) ≡ some (record { number = r.number; place = r.place; answer = 0 })
   unfolding call_portable
   portable_refused z = told_refused yes_code b _ r e z
 
-  portable_told : (v : Bool) → r.number ≡ 0 → v ≡ portable (read_form b) → told yes_code (call_portable b) ≡ some (record { number = 0; place = 0; answer = yes_code v })
+  pub portable_told : r.number ≡ 0 → (v : Bool) → v ≡ portable (read_form b) → (n : ℕ) → n ≡ yes_no v
+      → told yes_code (call_portable b) ≡ some (record { number = 0; place = 0; answer = n })
   unfolding call_portable
-  portable_told v z h =
+  portable_told z v h n m =
       let (a, g) = check_accepted b r e z in
-      rw (form_passed b a (λ a. ok (portable a.form)) g, accepted_form b a g, ← h)
-
-  pub portable_yes : (v : Bool) → r.number ≡ 0 → v ≡ portable (read_form b) → v ≡ true → told yes_code (call_portable b) ≡ some (record { number = 0; place = 0; answer = 1 })
-  portable_yes v z h t = rw t at (portable_told v z h)
-
-  pub portable_no : (v : Bool) → r.number ≡ 0 → v ≡ portable (read_form b) → v ≡ false → told yes_code (call_portable b) ≡ some (record { number = 0; place = 0; answer = 0 })
-  portable_no v z h t = rw t at (portable_told v z h)
+      rw (form_passed b a (λ a. ok (portable a.form)) g, accepted_form b a g, ← h, m, as_yes v)

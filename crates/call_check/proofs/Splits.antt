@@ -1,8 +1,8 @@
 -- Splitting as an entry point: what a refusal leaves, and what the items and the state are.
 use mathlib.Core.List.{List}
 use mathlib.Core.Option.{Option, some, none}
-use mathlib.Core.Path.{◌≡◌, refl, sym, ap, ◌∙◌}
-use Prim.Native.Nat.{ℕ, ◌-◌, ◌≤◌, ◌<◌}
+use mathlib.Core.Path.{◌≡◌, refl, ap, ◌∙◌}
+use Prim.Native.Nat.{ℕ, ◌≤◌, ◌<◌}
 use native.Mathlib.Omega.{arith}
 use lib.ListN.{length, replicate}
 use lib.Seq.{sets}
@@ -22,7 +22,10 @@ use Rattle.split_args.specs.Construct.{starting_state, SplitEnds, refusal_number
 use Rattle.rules.proofs.Acceptance.{accepted_form}
 use Rattle.rules.proofs.CodeLaws.{place_code_lem}
 use Rattle.rules.proofs.GivenLaws.{check_accepted, split_form, split_sheet, split_short_lem, split_goes}
-use Rattle.call_check.specs.Reader.{splitting_of, answer_of, SplitAnswers}
+use Rattle.std.specs.Prelude.{None, Err}
+use Rattle.rules.specs.Reported.{number_of}
+use Rattle.rules.specs.declared.Refusal.{Refusal as Name}
+use Rattle.call_check.specs.Reader.{splitting_of, answer_of, SplitAnswers, Admits}
 use Rattle.split_line.specs.Input.{Splittable}
 
 pub refused_splitting :
@@ -36,48 +39,33 @@ refused_splitting l o number place e = record {
 }
 
 -- ---- what is refused
-module _ (form sheet : List ℕ) (n : ℕ) (r : Refused) (e : r ≡ check_code (check_form form)) (items : List ℕ) (x : Ended) where
-  pub form_refused : (r.number ≡ 0 → ⊥)
-      → SplitAnswers (ok (split_refused n r.number (place_of r.place))) items x
-      → SplitAnswers (call_split form sheet n) items x
-  form_refused z h = go (check_form form) refl
+module _ (form sheet : List ℕ) (n : ℕ) (r : Refused) (e : r ≡ check_code (check_form form)) where
+  pub form_refused : (r.number ≡ 0 → ⊥) → call_split form sheet n ≡ ok (split_refused n r.number (place_of r.place))
+  form_refused z = go (check_form form) refl
     where
-      go : (c : Checked Accepted) → check_form form ≡ c → SplitAnswers (call_split form sheet n) items x
+      go : (c : Checked Accepted) → check_form form ≡ c → call_split form sheet n ≡ ok (split_refused n r.number (place_of r.place))
       go (accepted a) g = absurd (z (ap (λ (y : Refused). y.number) (e ∙ ap check_code g)))
       go (refused_at m k) g =
           let same = e ∙ ap check_code g in
-          rw (split_form form sheet n m k g) (rw (same, place_code_lem k) at h)
+          rw (same, place_code_lem k) (split_form form sheet n m k g)
 
-  pub sheet_refused : r.number ≡ 0 → (m : ℕ) → m ≡ sheet_fault sheet → (m ≡ 0 → ⊥)
-      → SplitAnswers (ok (split_refused n m (place_of 0))) items x
-      → SplitAnswers (call_split form sheet n) items x
-  unfolding place_of
-  sheet_refused z m f y h =
-      let (a, g) = check_accepted form r e z in
-      rw (split_sheet form sheet n a g (λ z. y (f ∙ z)), ← f) h
+  module _ (z : r.number ≡ 0) where
+    pub sheet_refused : (m : ℕ) → m ≡ sheet_fault sheet → (m ≡ 0 → ⊥) → call_split form sheet n ≡ ok (split_refused n m none)
+    sheet_refused m f y =
+        let (a, g) = check_accepted form r e z in
+        rw f (split_sheet form sheet n a g (λ z. y (f ∙ z)))
 
-  pub slice_refused : r.number ≡ 0 → (m : ℕ) → m ≡ sheet_fault sheet → m ≡ 0 → n < 1792
-      → SplitAnswers (ok (split_refused n 7 (place_of 0))) items x
-      → SplitAnswers (call_split form sheet n) items x
-  unfolding place_of
-  slice_refused z m f y k h =
-      let (a, g) = check_accepted form r e z in
-      rw (split_short_lem form sheet n a g (sym f ∙ y) k) h
+    pub slice_refused : sheet_fault sheet ≡ 0 → n < 1792 → call_split form sheet n ≡ ok (split_refused n 7 none)
+    slice_refused f k = let (a, g) = check_accepted form r e z in split_short_lem form sheet n a g f k
 
-pub splittable :
-    (form sheet : List ℕ) (n : ℕ) (r : Refused)
-    → r ≡ check_code (check_form form)
-    → r.number ≡ 0
-    → (m : ℕ)
-    → m ≡ sheet_fault sheet
-    → m ≡ 0
-    → (items : List ℕ)
-    → length items ≡ n
-    → 1792 ≤ n
-    → Splittable form sheet items
-splittable form sheet n r e z m f y items l k =
-    let (a, g) = check_accepted form r e z in
-    record { result = a; accepts = g; checked = sym f ∙ y; room = omega (arith, l, k) }
+    pub splittable : sheet_fault sheet ≡ 0 → (items : List ℕ) → 1792 ≤ length items → Splittable form sheet items
+    splittable f items k = let (a, g) = check_accepted form r e z in record { result = a; accepts = g; checked = f; room = k }
+
+-- a refusal with no place
+pub refused_with : (form sheet items : List ℕ) (e : Name) → call_split form sheet (length items) ≡ ok (split_refused (length items) (number_of e) none)
+    → Admits {A = Unit {0}} form sheet items (Err (record { refusal = e; place = None }))
+unfolding place_of
+refused_with form sheet items e h = (h, omega arith)
 
 -- ---- an accepted form and a checked sheet
 split_is :

@@ -1,17 +1,18 @@
 // The entry points. None asks anything of its input: what is not well made is refused under its number.
 #![tactic(auto)]
 
-ghost use Rattle.std.specs.Prelude.{◌≡◌, length};
+ghost use Rattle.std.specs.Prelude.{◌≡◌, ◌<◌, ◌^◌, length};
 ghost use Rattle.std.proofs.Math.Option.{some};
 ghost use Rattle.rules.specs.Outcome.{ok};
 ghost use Rattle.rules.specs.Sheet.{sheet_fault};
 ghost use Rattle.rules.specs.Accept.{check_form};
 ghost use Rattle.rules.specs.Codes.{check_code, kind_code, place_of};
 ghost use Rattle.rules.specs.Calls.{call_kind, call_portable, call_split, split_refused};
-ghost use Rattle.call_check.specs.Reader.{sheet_code, told, yes_code, splitting_of, SplitAnswers};
+ghost use Rattle.rules.specs.Reported.{number_of, place_told};
+ghost use Rattle.call_check.specs.Reader.{sheet_code, told, yes_code, splitting_of, SplitAnswers, told_of, SmallPlace, Tells, Admits};
 
-use call_answers::{NOT_THERE, SHORT_SLICE};
-use rules::{Refused, State};
+use call_answers::yes_no;
+use rules::{Refusal, Refused, RefusedAt, State};
 use split_arg::ITEM_WORDS;
 use split_args::Ended;
 
@@ -37,97 +38,111 @@ pub struct SplitAnswer {
 pub fn form_check(form: &[u8]) -> Refused
     ensures { result ≡ check_code (check_form form.now) }
 {
-    form_check::check(form)
+    match form_check::check(form) {
+        Ok(()) => Refused {
+            number: 0,
+            place: 0,
+        },
+        Err(e) => e.told(),
+    }
 }
 
 // Whether a sheet is well made: 5 or 6 if not.
 pub fn sheet_check(sheet: &[u8]) -> Refused
     ensures { result ≡ sheet_code (sheet_fault sheet.now) }
 {
-    let number = split_sheet::check(sheet);
+    let number = match split_sheet::check(sheet) {
+        Ok(()) => 0,
+        Err(e) => e.number(),
+    };
     Refused { number, place: 0 }
+}
+
+fn answered(answer: Result<u32, RefusedAt>) -> Told
+    requires { SmallPlace answer }
+    ensures { result ≡ told_of answer }
+{
+    match answer {
+        Ok(answer) => Told {
+            number: 0,
+            place: 0,
+            answer,
+        },
+        Err(e) => {
+            let r = e.told();
+            Told {
+                number: r.number,
+                place: r.place,
+                answer: 0,
+            }
+        }
+    }
+}
+
+fn kind_number(form: &[u8], node: usize) -> Result<u32, RefusedAt>
+    ensures { Tells (told kind_code (call_kind form.now node)) result }
+{
+    form_check::check(form)?;
+    if form_layout::node_count(form) <= node {
+        return Err(RefusedAt::from(Refusal::NotThere));
+    }
+    Ok(form_fields::kind(form, node))
 }
 
 // The kind of a node, by number.
 pub fn kind(form: &[u8], node: usize) -> Told
     ensures { told kind_code (call_kind form.now node) ≡ some result }
 {
-    let checked = form_check::check(form);
-    if checked.number != 0 {
-        return Told {
-            number: checked.number,
-            place: checked.place,
-            answer: 0,
-        };
-    }
-    if form_layout::node_count(form) <= node {
-        return Told {
-            number: NOT_THERE,
-            place: 0,
-            answer: 0,
-        };
-    }
-    let answer = form_fields::kind(form, node);
-    Told {
-        number: 0,
-        place: 0,
-        answer,
-    }
+    answered(kind_number(form, node))
+}
+
+fn portable_mark(form: &[u8]) -> Result<u32, RefusedAt>
+    ensures { Tells (told yes_code (call_portable form.now)) result }
+{
+    form_check::check(form)?;
+    Ok(yes_no(form_fields::is_portable(form)))
 }
 
 // The portable mark.
 pub fn portable(form: &[u8]) -> Told
     ensures { told yes_code (call_portable form.now) ≡ some result }
 {
-    let checked = form_check::check(form);
-    if checked.number != 0 {
-        return Told {
-            number: checked.number,
-            place: checked.place,
-            answer: 0,
-        };
-    }
-    if form_fields::is_portable(form) {
-        return Told {
-            number: 0,
-            place: 0,
-            answer: 1,
-        };
-    }
-    Told {
-        number: 0,
-        place: 0,
-        answer: 0,
-    }
+    answered(portable_mark(form))
 }
 
 // Refused because of the input: all 0, and no items.
-fn split_refused(number: u32, place: u32, items: &mut [u32]) -> Ended
-    ensures { SplitAnswers (ok (split_refused (length items.old) number (place_of place))) items.new result }
+fn split_refused(e: RefusedAt, items: &mut [u32]) -> Ended
+    requires { place_told e.place < 2 ^ 32 }
+    ensures { SplitAnswers (ok (split_refused (length items.old) (number_of e.refusal) (place_of (place_told e.place)))) items.new result }
 {
     wire::fill(items, 0, items.len(), 0);
+    let r = e.told();
     Ended {
-        number,
-        place,
+        number: r.number,
+        place: r.place,
         count: 0,
         marker: 0,
     }
+}
+
+// The tests of the input: 1 to 4, then 6 and 5, then 7.
+fn admit(form: &[u8], sheet: &[u8], items: &[u32]) -> Result<(), RefusedAt>
+    ensures { Admits form.now sheet.now items.now result }
+{
+    form_check::check(form)?;
+    split_sheet::check(sheet)?;
+    if items.len() < ITEM_WORDS {
+        return Err(RefusedAt::from(Refusal::ShortSlice));
+    }
+    Ok(())
 }
 
 // What the input is refused with, or its items.
 fn split_input(form: &[u8], sheet: &[u8], items: &mut [u32]) -> Ended
     ensures { SplitAnswers (call_split form.now sheet.now (length items.old)) items.new result }
 {
-    let checked = form_check::check(form);
-    if checked.number != 0 {
-        return split_refused(checked.number, checked.place, items);
-    }
-    let fault = split_sheet::check(sheet);
-    if fault != 0 {
-        return split_refused(fault, 0, items);
-    }
-    if items.len() < ITEM_WORDS {
-        return split_refused(SHORT_SLICE, 0, items);
+    if let Err(e) = admit(form, sheet, items) {
+        return split_refused(e, items);
     }
     let codes = form_codes::codes_of(form);
     split_line::split(form, &codes, sheet, items)

@@ -5,7 +5,7 @@ use mathlib.Core.Option.{Option, some, none}
 use mathlib.Core.Path.{◌≡◌, refl, sym, ap, ◌∙◌}
 use Prim.Native.Nat.{ℕ, ◌+◌, ◌-◌, ◌≤◌, ◌<◌}
 use native.Mathlib.Omega.{arith}
-use lib.ListN.{length, get_or, replicate}
+use lib.ListN.{length, get_or}
 use borrow.Author.Tests.{eq-eqb, ne_eqb, lt-leb, le-leb, lt-ltb, le-ltb, not-true, not-false}
 use Rattle.std.specs.Prelude.{if◌then◌else◌}
 use Rattle.wire.specs.Wire.{area_start}
@@ -20,7 +20,13 @@ use Rattle.rules.specs.State.{present, present_at}
 use Rattle.rules.specs.Accept.{Checked as CheckedForm, Accepted, accepted, refused_at, check_form}
 use Rattle.rules.specs.Take.{matches_arg}
 use Rattle.rules.specs.Calls.{form_in, sheet_in, item_from, state_in, from_raw}
+use Rattle.std.specs.Prelude.{None}
+use Rattle.rules.specs.Reported.{number_of, told}
+use Rattle.rules.specs.declared.Refusal.{Refusal as Name}
 use Rattle.rules.specs.declared.Refused.{Refused}
+use Rattle.rules.specs.declared.RefusedAt.{RefusedAt}
+use Rattle.rules.proofs.ReportedLaws.{numbered}
+use Rattle.call_answers.proofs.Places.{check_small}
 use Rattle.rules.specs.declared.State.{State as Raw}
 use Rattle.rules.proofs.Places.{present_below}
 use Rattle.rules.proofs.Acceptance.{is_some_lem}
@@ -32,9 +38,9 @@ use Rattle.form_codes.specs.Codes.{CodedNames, named_at}
 use Rattle.take_search.specs.Search.{HasNames, HasItem}
 use Rattle.rules.proofs.GivenLaws.{check_accepted, form_passed}
 use Rattle.call_table.proofs.Laws.{area_length_lem}
-use Rattle.call_form.specs.Keys.{no_key, Keyed}
+use Rattle.call_form.specs.Keys.{Keyed}
 use Rattle.call_form.specs.declared.Key.{Key}
-use Rattle.call_form.proofs.Keys.{form_eight, form_fields}
+use Rattle.call_form.proofs.Keys.{form_fields}
 use Rattle.form_layout.proofs.Sizes.{accepted_names}
 use Rattle.call_answers.specs.Answers.{coded, answer_with, place_or_none, plain_answer}
 use Rattle.call_answers.specs.declared.Answer.{Answer}
@@ -42,7 +48,7 @@ use Rattle.call_find.specs.declared.ItemRecord.{ItemRecord}
 use Rattle.call_find.specs.declared.Search.{Search}
 use Rattle.call_find.specs.declared.Seen.{Seen}
 use Rattle.call_find.specs.Records.{words_of}
-use Rattle.call_find.specs.Scan.{stopped_at, Started, Able, reached, ReachedAt, marked, sought, judged, seen_to, turned, place_from, ended, Finishes}
+use Rattle.call_find.specs.Scan.{StartRefused, StartReady, CanMatch, reached, ReachedAt, marked, sought, judged, seen_to, turned, place_from, ended, Finishes}
 use Rattle.call_find.proofs.Scan.{turned_zero, turned_hole, turned_next}
 
 -- ---- `is_reached`
@@ -82,73 +88,54 @@ module _ (s : Raw) (i a : ℕ) (ea : a ≡ s.start) where
 
 -- ---- `started`
 
-pub stopped_with : (n k : ℕ) (key : Key) → key ≡ no_key → (l : List ℕ) → l ≡ replicate 128 0
-    → record { number = n; place = k; area = 0; fields = 0; key = key; codes = l } ≡ stopped_at n k
-stopped_with n k key z l e = rw (z, e)
-
-module _ (form sheet : List ℕ) (k : ℕ) (r : Refused) (e : r ≡ check_code (check_form form)) where
-  pub start_form : (r.number ≡ 0 → ⊥) → (g : Search) → g ≡ stopped_at r.number r.place → Started form sheet k g
+module _ (form sheet : List ℕ) where
+  pub start_form : (r : RefusedAt) → told r ≡ check_code (check_form form) → StartRefused form sheet r
   unfolding form_in ◌>>=◌
-  start_form z g t = go (check_form form) refl
+  start_form r e = go (check_form form) refl
     where
-      go : (c : CheckedForm Accepted) → check_form form ≡ c → Started form sheet k g
-      go (accepted a) h = absurd (z (ap (λ (y : Refused). y.number) (e ∙ ap check_code h)))
+      go : (c : CheckedForm Accepted) → check_form form ≡ c → StartRefused form sheet r
+      go (accepted a) h = absurd (numbered r.refusal (ap (λ (y : Refused). y.number) (e ∙ ap check_code h)))
       go (refused_at n p) h =
-          let same : r ≡ record { number = n; place = place_code p } = e ∙ ap check_code h in
+          let same : told r ≡ record { number = n; place = place_code p } = e ∙ ap check_code h in
           record {
-            good = λ w. absurd (z (sym (ap (λ (y : Search). y.number) t) ∙ w));
-            bad = λ _. record {
-              refusal = record { number = n; place = p; missing = [] };
-              same = rw (h, form_in) refl;
-              number = ap (λ (y : Search). y.number) t ∙ ap (λ (y : Refused). y.number) same;
-              place = ap (λ (y : Search). y.place) t ∙ ap (λ (y : Refused). y.place) same;
-            };
+            refusal = record { number = n; place = p; missing = [] };
+            same = rw (h, form_in) refl;
+            number = ap (λ (y : Refused). y.number) same;
+            place = ap (λ (y : Refused). y.place) same;
+            small = check_small form (told r) e;
           }
 
-  module _ (z : r.number ≡ 0) where
+  module _ (r : Refused) (e : r ≡ check_code (check_form form)) (z : r.number ≡ 0) where
     pub start_accepted : (a : Accepted) × (check_form form ≡ accepted a)
     start_accepted = check_accepted form r e z
-
-    pub start_eight : 8 ≤ length form
-    start_eight = form_eight form start_accepted
 
     pub start_checked : GoodNames form
     start_checked = accepted_names form start_accepted.0 start_accepted.1
 
-    module _ (f : ℕ) (ef : f ≡ sheet_fault sheet) where
-      pub start_sheet : (f ≡ 0 → ⊥) → (g : Search) → g ≡ stopped_at f 0 → Started form sheet k g
-      unfolding sheet_in
-      start_sheet n g t = record {
-        good = λ w. absurd (n (sym (ap (λ (y : Search). y.number) t) ∙ w));
-        bad = λ _. record {
-          refusal = refuse f none;
-          same = form_passed form start_accepted.0 (λ _. sheet_in sheet) start_accepted.1 ∙ rw (← ef, ne_eqb f 0 n);
-          number = ap (λ (y : Search). y.number) t;
-          place = ap (λ (y : Search). y.place) t;
-        };
-      }
+    pub start_sheet : (n : Name) → number_of n ≡ sheet_fault sheet → StartRefused form sheet (record { refusal = n; place = None })
+    unfolding sheet_in
+    start_sheet n f = record {
+      refusal = refuse (number_of n) none;
+      same = form_passed form start_accepted.0 (λ _. sheet_in sheet) start_accepted.1 ∙ rw (← f, ne_eqb (number_of n) 0 (numbered n));
+      number = refl;
+      place = refl;
+      small = omega arith;
+    }
 
-      module _ (n : f ≡ 0) where
-        pub start_made : sheet_fault sheet ≡ 0
-        start_made = sym ef ∙ n
-
-        module _ (fields : ℕ) (em : fields ≡ field_count form) (key : Key) (ek : Keyed form k key) (codes : List ℕ) (ec : CodedNames form codes) (count : ℕ) (en : count ≡ argument_count sheet)
-            (a : ℕ) (ea : a ≡ area_start 2 count) where
-          pub start_ready : Started form sheet k (record { number = 0; place = 0; area = length sheet - a; fields = fields; key = key; codes = codes })
-          start_ready =
-              let at = ek.at start_accepted.0 start_accepted.1 in
-              record {
-                good = λ _. record {
-                  result = start_accepted.0;
-                  accepts = start_accepted.1;
-                  fields = em ∙ form_fields form start_accepted.0 start_accepted.1;
-                  key = at;
-                  names = record { checked = start_checked; coded = ec; inside = at.inside };
-                  made = start_made;
-                  area = area_length_lem sheet start_made count en a ea;
-                };
-                bad = λ w. absurd (w refl);
-              }
+    module _ (made : sheet_fault sheet ≡ 0) (fields : ℕ) (em : fields ≡ field_count form) (k : ℕ) (key : Key) (ek : Keyed form k key)
+        (codes : List ℕ) (ec : CodedNames form codes) (count : ℕ) (en : count ≡ argument_count sheet) (a : ℕ) (ea : a ≡ area_start 2 count) where
+      pub start_ready : StartReady form sheet k (record { area = length sheet - a; fields = fields; key = key; codes = codes })
+      start_ready =
+          let at = ek.at start_accepted.0 start_accepted.1 in
+          record {
+            result = start_accepted.0;
+            accepts = start_accepted.1;
+            fields = em ∙ form_fields form start_accepted.0 start_accepted.1;
+            key = at;
+            names = record { checked = start_checked; coded = ec; inside = at.inside };
+            made = made;
+            area = area_length_lem sheet made count en a ea;
+          }
 
 -- ---- `judge`
 
@@ -158,18 +145,14 @@ none_is none e = refl
 none_is (some a) e = absurd (false≢true (sym e))
 
 module _ (form sheet : List ℕ) (s : Raw) (g : Search) (x : ItemRecord) (i c : ℕ) where
-  pub judge_stopped : (g.number ≡ 0 → ⊥) → c ≡ judged form sheet s g x i c
-  unfolding judged
-  judge_stopped h = rw (ne_eqb g.number 0 h)
-
-  module _ (z : g.number ≡ 0) (a : Able form sheet g) (w : List ℕ) (ew : w ≡ words_of x) (b : Bool)
+  module _ (a : CanMatch form sheet g) (w : List ℕ) (ew : w ≡ words_of x) (b : Bool)
       (said : (bytes : List ℕ) → length bytes ≡ g.area → b ≡ is_some (item_from bytes w)) where
     there : b ≡ is_some (item_from (sheet_area sheet) (words_of x))
-    there = said (sheet_area sheet) (a z).area ∙ ap (λ (l : List ℕ). is_some (item_from (sheet_area sheet) l)) ew
+    there = said (sheet_area sheet) a.area ∙ ap (λ (l : List ℕ). is_some (item_from (sheet_area sheet) l)) ew
 
     judged_as : (o : Option Item) → item_from (sheet_area sheet) (words_of x) ≡ o → marked (λ y. reached s i && sought form g y) i c o ≡ judged form sheet s g x i c
     unfolding judged
-    judged_as o e = sym (rw (z, judged, e))
+    judged_as o e = ap (marked (λ y. reached s i && sought form g y) i c) (sym e)
 
     pub judge_bad : not b ≡ true → 1 ≡ judged form sheet s g x i c
     unfolding marked
@@ -195,13 +178,13 @@ module _ (form sheet : List ℕ) (s : Raw) (g : Search) (x : ItemRecord) (i c : 
           judge_near = er.near (not-false r h)
 
           pub judge_names : HasNames form g.codes g.key.names.first g.key.names.count
-          judge_names = (a z).names
+          judge_names = a.names
 
           here : item_from (sheet_area sheet) (record_at w 0) ≡ some item.0
           here = ap (λ (l : List ℕ). item_from (sheet_area sheet) (record_at l 0)) ew ∙ item.1
 
           pub judge_item : HasItem sheet w 0
-          judge_item = record { made = (a z).made; room = omega (arith, ap length ew); item = item.0; here = here }
+          judge_item = record { made = a.made; room = omega (arith, ap length ew); item = item.0; here = here }
 
           module
               _
@@ -245,39 +228,35 @@ module _ (s : Raw) (g : Search) (d : Seen) (r : Answer) where
   abbrev c : ℕ
   c = d.found
 
-  pub finish_stopped : (g.number ≡ 0 → ⊥) → r ≡ answer_with g.number g.place (coded 0 0 0) → Finishes s g d r
-  finish_stopped z e = record { good = λ w. absurd (z w); bad = λ _. e }
+  by : plain_answer place_or_none (ended s n g c) ≡ some r → Finishes s g d r
+  by e = e
 
-  module _ (z : g.number ≡ 0) where
-    by : plain_answer place_or_none (ended s n g c) ≡ some r → Finishes s g d r
-    by e = record { good = λ _. e; bad = λ w. absurd (w z) }
+  pub finish_bad : c ≡ 1 → r ≡ answer_with 30 0 (coded 0 0 0) → Finishes s g d r
+  unfolding ended plain_answer
+  finish_bad h e = by (rw (eq-eqb c 1 h) (ap some (sym e)))
 
-    pub finish_bad : c ≡ 1 → r ≡ answer_with 30 0 (coded 0 0 0) → Finishes s g d r
-    unfolding ended plain_answer
-    finish_bad h e = by (rw (eq-eqb c 1 h) (ap some (sym e)))
+  module _ (h : c ≡ 1 → ⊥) (b : Bool) (said : state_in g.fields n s ≡ (if b then ok (from_raw s) else refused (refuse 29 none))) where
+    pub finish_state : not b ≡ true → r ≡ answer_with 29 0 (coded 0 0 0) → Finishes s g d r
+    unfolding ended plain_answer ◌>>=◌
+    finish_state t e = by (rw (ne_eqb c 1 h, said, not-true b t) (ap some (sym e)))
 
-    module _ (h : c ≡ 1 → ⊥) (b : Bool) (said : state_in g.fields n s ≡ (if b then ok (from_raw s) else refused (refuse 29 none))) where
-      pub finish_state : not b ≡ true → r ≡ answer_with 29 0 (coded 0 0 0) → Finishes s g d r
+    module _ (t : not b ≡ false) where
+      pub finish_near : n ≤ 256
+      finish_near = (in_kept g.fields n s (said ∙ rw (not-false b t))).small
+
+      pub finish_node : g.key.kind ≡ 0 → r ≡ answer_with 28 0 (coded 0 0 0) → Finishes s g d r
       unfolding ended plain_answer ◌>>=◌
-      finish_state t e = by (rw (ne_eqb c 1 h, said, not-true b t) (ap some (sym e)))
+      finish_node k e = by (rw (ne_eqb c 1 h, said, not-false b t, eq-eqb g.key.kind 0 k) (ap some (sym e)))
 
-      module _ (t : not b ≡ false) where
-        pub finish_near : n ≤ 256
-        finish_near = (in_kept g.fields n s (said ∙ rw (not-false b t))).small
+      module _ (k : g.key.kind ≡ 0 → ⊥) where
+        pub finish_none : c ≡ 0 → r ≡ answer_with 0 0 (coded 0 0 0) → Finishes s g d r
+        unfolding ended plain_answer place_from ◌>>=◌
+        finish_none w e = by (rw (ne_eqb c 1 h, said, not-false b t, ne_eqb g.key.kind 0 k, eq-eqb c 0 w) (ap some (sym e)))
 
-        pub finish_node : g.key.kind ≡ 0 → r ≡ answer_with 28 0 (coded 0 0 0) → Finishes s g d r
-        unfolding ended plain_answer ◌>>=◌
-        finish_node k e = by (rw (ne_eqb c 1 h, said, not-false b t, eq-eqb g.key.kind 0 k) (ap some (sym e)))
+        module _ (w : c ≡ 0 → ⊥) where
+          pub finish_narrow : c ≤ n + 1 → c - 2 ≤ 256
+          finish_narrow l = let m = finish_near in omega arith
 
-        module _ (k : g.key.kind ≡ 0 → ⊥) where
-          pub finish_none : c ≡ 0 → r ≡ answer_with 0 0 (coded 0 0 0) → Finishes s g d r
+          pub finish_some : (v : ℕ) → v ≡ c - 2 → r ≡ answer_with 0 0 (coded 1 v 0) → Finishes s g d r
           unfolding ended plain_answer place_from ◌>>=◌
-          finish_none w e = by (rw (ne_eqb c 1 h, said, not-false b t, ne_eqb g.key.kind 0 k, eq-eqb c 0 w) (ap some (sym e)))
-
-          module _ (w : c ≡ 0 → ⊥) where
-            pub finish_narrow : c ≤ n + 1 → c - 2 ≤ 256
-            finish_narrow l = let m = finish_near in omega arith
-
-            pub finish_some : (v : ℕ) → v ≡ c - 2 → r ≡ answer_with 0 0 (coded 1 v 0) → Finishes s g d r
-            unfolding ended plain_answer place_from ◌>>=◌
-            finish_some v ev e = by (rw (ne_eqb c 1 h, said, not-false b t, ne_eqb g.key.kind 0 k, ne_eqb c 0 w, ← ev) (ap some (sym e)))
+          finish_some v ev e = by (rw (ne_eqb c 1 h, said, not-false b t, ne_eqb g.key.kind 0 k, ne_eqb c 0 w, ← ev) (ap some (sym e)))

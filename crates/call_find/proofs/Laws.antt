@@ -23,6 +23,8 @@ use Rattle.rules.specs.Tree.{zeros}
 use Rattle.rules.specs.Accept.{Accepted, accepted, check_form}
 use Rattle.rules.specs.Take.{matches_arg}
 use Rattle.rules.specs.Calls.{Key, form_in, sheet_in, item_from, items_from, records_in, trimmed, state_in, from_raw, asked, key_of}
+use Rattle.rules.specs.Reported.{number_of, place_told}
+use Rattle.rules.specs.declared.RefusedAt.{RefusedAt}
 use Rattle.rules.specs.declared.State.{State as Raw}
 use Rattle.state_marks.proofs.Laws.{in_kept}
 use Rattle.state_marks.proofs.Marks.{from_take}
@@ -37,7 +39,7 @@ use Rattle.call_find.specs.declared.ItemRecord.{ItemRecord}
 use Rattle.call_find.specs.declared.Search.{Search}
 use Rattle.call_find.specs.declared.Seen.{Seen}
 use Rattle.call_find.specs.Records.{words_of, items_or30, record_items, place_of, call_find}
-use Rattle.call_find.specs.Scan.{Started, StartReady, sought, seen_to, unseen, scan, place_from, ended, Finishes}
+use Rattle.call_find.specs.Scan.{StartRefused, StartReady, sought, seen_to, unseen, scan, place_from, ended, Finishes}
 use Rattle.call_find.proofs.Scan.{over, over_one, scan_items, scan_bad, from_first}
 
 -- ---- refused before the records
@@ -98,7 +100,7 @@ module _ (fields n : ℕ) (x : Raw) (good : state_in fields n x ≡ ok (from_raw
 
 -- ---- for `find`
 
-module _ (form sheet : List ℕ) (xs : List ItemRecord) (x : Raw) (k : ℕ) (g : Search) (z : g.number ≡ 0) (y : StartReady form sheet k g) (c : Seen)
+module _ (form sheet : List ℕ) (xs : List ItemRecord) (x : Raw) (k : ℕ) (g : Search) (y : StartReady form sheet k g) (c : Seen)
     (ec : c ≡ scan form sheet x g xs 0 unseen) where
   abbrev node : Option Key
   node = get_elem? y.result.trees k >>? key_of
@@ -127,7 +129,7 @@ module _ (form sheet : List ℕ) (xs : List ItemRecord) (x : Raw) (k : ℕ) (g :
 
   module _ (is : List Item) (e : items_from (sheet_area sheet) (trimmed (map words_of xs)) ≡ some is) where
     scanned : c ≡ seen_to (over x (sought form g) is 0 0) (length is)
-    scanned = ec ∙ scan_items form sheet x g z xs is e 0 0 ∙ rw (zero-add (length is))
+    scanned = ec ∙ scan_items form sheet x g xs is e 0 0 ∙ rw (zero-add (length is))
 
     as_over : c.found ≡ over x (sought form g) is 0 0
     as_over = ap (λ (d : Seen). d.found) scanned
@@ -167,29 +169,21 @@ module _ (form sheet : List ℕ) (xs : List ItemRecord) (x : Raw) (k : ℕ) (g :
       go : (o : Option (List Item)) → items_from (sheet_area sheet) (trimmed (map words_of xs)) ≡ o → call_find form sheet xs x k ≡ ended x c.count g c.found
       go none e =
           opened form sheet xs x k y.result y.accepts y.made none e
-          ∙ sym (ended_bad (ap (λ (d : Seen). d.found) ec ∙ scan_bad form sheet x g z xs e 0 0))
+          ∙ sym (ended_bad (ap (λ (d : Seen). d.found) ec ∙ scan_bad form sheet x g xs e 0 0))
       go (some is) e = over_items is e
 
-module _ (form sheet : List ℕ) (xs : List ItemRecord) (x : Raw) (k : ℕ) (g : Search) (st : Started form sheet k g)
-    (c : Seen) (ec : c ≡ scan form sheet x g xs 0 unseen) (r : Answer) (fin : Finishes x g c r) where
-  stopped : (g.number ≡ 0 → ⊥) → plain_answer place_or_none (call_find form sheet xs x k) ≡ some r
-  unfolding call_find plain_answer
-  stopped z =
-      let b = st.bad z in
-      let e : call_find form sheet xs x k ≡ refused b.refusal =
-      goes_on b.refusal (form_in form) _ _ (λ a h. then_refused b.refusal (sheet_in sheet) _ h) b.same in
-      let n : answer_with b.refusal.number (place_code b.refusal.place) (coded 0 0 0) ≡ r =
-      sym (rw (← b.number, ← b.place) (fin.bad z)) in
-      ap (plain_answer place_or_none) e ∙ ap some n
+pub stopped : (form sheet : List ℕ) (xs : List ItemRecord) (x : Raw) (k : ℕ) (e : RefusedAt) → StartRefused form sheet e
+    → (r : Answer) → r ≡ answer_with (number_of e.refusal) (place_told e.place) (coded 0 0 0) → plain_answer place_or_none (call_find form sheet xs x k) ≡ some r
+unfolding call_find plain_answer
+stopped form sheet xs x k e b r h =
+    let f : call_find form sheet xs x k ≡ refused b.refusal =
+    goes_on b.refusal (form_in form) _ _ (λ a h. then_refused b.refusal (sheet_in sheet) _ h) b.same in
+    let n : answer_with b.refusal.number (place_code b.refusal.place) (coded 0 0 0) ≡ r = sym (rw (← b.number, ← b.place) h) in
+    ap (plain_answer place_or_none) f ∙ ap some n
 
-  pub found_by : plain_answer place_or_none (call_find form sheet xs x k) ≡ some r
-  found_by = go (eqb g.number 0) refl
-    where
-      go : (b : Bool) → eqb g.number 0 ≡ b → plain_answer place_or_none (call_find form sheet xs x k) ≡ some r
-      go true w =
-          let z = eqb-true g.number 0 w in
-          ap (plain_answer place_or_none) (call_ended form sheet xs x k g z (st.good z) c ec) ∙ fin.good z
-      go false w = stopped (eqb-false g.number 0 w)
+pub found_by : (form sheet : List ℕ) (xs : List ItemRecord) (x : Raw) (k : ℕ) (g : Search) → StartReady form sheet k g
+    → (c : Seen) → c ≡ scan form sheet x g xs 0 unseen → (r : Answer) → Finishes x g c r → plain_answer place_or_none (call_find form sheet xs x k) ≡ some r
+found_by form sheet xs x k g st c ec r fin = ap (plain_answer place_or_none) (call_ended form sheet xs x k g st c ec) ∙ fin
 
 -- ---- over a table of words
 

@@ -27,12 +27,10 @@ use Rattle.call_find.specs.declared.ItemRecord.{ItemRecord}
 use Rattle.call_find.specs.declared.Search.{Search}
 use Rattle.call_find.specs.declared.Seen.{Seen}
 use Rattle.call_find.specs.Records.{words_of, place_of}
-use Rattle.call_find.specs.Scan.{Started, Able, reached, marked, sought, judged, seen_to, turned, scan, place_from}
+use Rattle.call_find.specs.Scan.{StartReady, CanMatch, reached, marked, sought, judged, seen_to, turned, scan, place_from}
 
-pub started_able : (form sheet : List ℕ) (k : ℕ) (g : Search) → Started form sheet k g → Able form sheet g
-started_able form sheet k g t z =
-    let r = t.good z in
-    record { names = r.names; made = r.made; area = r.area }
+pub started_able : (form sheet : List ℕ) (k : ℕ) (g : Search) → StartReady form sheet k g → CanMatch form sheet g
+started_able form sheet k g r = record { names = r.names; made = r.made; area = r.area }
 
 -- ---- for the loop
 
@@ -49,14 +47,7 @@ marked_most test i c (some y) h = go (eqb c 0) (test y)
 module _ (form sheet : List ℕ) (s : Raw) (g : Search) where
   judged_most : (x : ItemRecord) (i c : ℕ) → c ≤ i + 1 → judged form sheet s g x i c ≤ i + 1 + 1
   unfolding judged
-  judged_most x i c h = go (eqb g.number 0)
-    where
-      m : ℕ
-      m = marked (λ y. reached s i && sought form g y) i c (item_from (sheet_area sheet) (words_of x))
-
-      go : (b : Bool) → (if b then m else c) ≤ i + 1 + 1
-      go true = marked_most _ i c _ h
-      go false = omega arith
+  judged_most x i c h = marked_most _ i c _ h
 
   module _ (x : ItemRecord) (i : ℕ) (c : Seen) where
     pub turned_zero : zeros (words_of x) ≡ true → turned form sheet s g x i c ≡ c
@@ -172,14 +163,14 @@ module _ (r : List ℕ) (rs : List (List ℕ)) where
 not_nil : {A : Type 0} (x : A) (xs : List A) → x ∷ xs ≡ [] → ⊥
 not_nil x xs e = let z : suc (length xs) ≡ 0 = ap length e in omega arith
 
-module _ (form sheet : List ℕ) (s : Raw) (g : Search) (z : g.number ≡ 0) where
+module _ (form sheet : List ℕ) (s : Raw) (g : Search) where
   abbrev area : List ℕ
   area = sheet_area sheet
 
   judged_as : (x : ItemRecord) (i c : ℕ) (o : Option Item) → item_from area (words_of x) ≡ o
       → judged form sheet s g x i c ≡ marked (λ y. reached s i && sought form g y) i c o
   unfolding judged
-  judged_as x i c o e = rw (z, judged, e)
+  judged_as x i c o e = ap (marked (λ y. reached s i && sought form g y) i c) e
 
   judged_one : (x : ItemRecord) (i : ℕ) → judged form sheet s g x i 1 ≡ 1
   judged_one x i = go (item_from area (words_of x)) refl

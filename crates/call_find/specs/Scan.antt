@@ -1,5 +1,6 @@
 -- What the functions of the search say: how it starts, one record, and how it ends.
-use Rattle.std.specs.Prelude.{Bool, true, ◌&&◌, List, [], ◌∷◌, ◌≡◌, ℕ, suc, ◌+◌, ◌-◌, ◌<◌, eqb, leb, ltb, length, replicate}
+use Rattle.std.specs.Prelude.{Bool, true, ◌&&◌, List, [], ◌∷◌, ◌≡◌, ℕ, suc, ◌+◌, ◌-◌, ◌<◌, eqb, leb, ltb, length}
+use Rattle.std.specs.Prelude.{Result, Ok, Err}
 use Rattle.std.proofs.Math.Option.{Option, some, none}
 use Rattle.std.specs.Prelude.{if◌then◌else◌}
 use Rattle.rules.specs.Outcome.{Outcome, ok, refused, refuse, Refusal, ◌>>=◌}
@@ -11,10 +12,12 @@ use Rattle.rules.specs.State.{present_at}
 use Rattle.rules.specs.Accept.{Accepted, accepted, check_form}
 use Rattle.rules.specs.Take.{matches_arg}
 use Rattle.rules.specs.Calls.{form_in, sheet_in, item_from, state_in}
+use Rattle.rules.specs.Reported.{number_of, place_told}
+use Rattle.rules.specs.declared.RefusedAt.{RefusedAt}
 use Rattle.rules.specs.declared.State.{State as Raw}
 use Rattle.take_search.specs.Search.{HasNames}
-use Rattle.call_form.specs.Keys.{key_names, no_key, KeyAt}
-use Rattle.call_answers.specs.Answers.{coded, answer_with, place_or_none, plain_answer}
+use Rattle.call_form.specs.Keys.{key_names, KeyAt}
+use Rattle.call_answers.specs.Answers.{place_or_none, plain_answer}
 use Rattle.call_answers.specs.declared.Answer.{Answer}
 use Rattle.call_find.specs.Records.{words_of}
 use Rattle.call_find.specs.declared.ItemRecord.{ItemRecord}
@@ -22,14 +25,12 @@ use Rattle.call_find.specs.declared.Search.{Search}
 use Rattle.call_find.specs.declared.Seen.{Seen}
 
 -- ---- the start: 1 to 4, then 6 and 5
-abbrev pub stopped_at : ℕ → ℕ → Search
-stopped_at n k = record { number = n; place = k; area = 0; fields = 0; key = no_key; codes = replicate 128 0 }
-
-pub record StartRefused (form sheet : List ℕ) (g : Search) : Type 0 where
+pub record StartRefused (form sheet : List ℕ) (e : RefusedAt) : Type 0 where
   pub refusal : Refusal
   pub same : (form_in form >>= λ _. sheet_in sheet) ≡ refused refusal
-  pub number : g.number ≡ refusal.number
-  pub place : g.place ≡ place_code refusal.place
+  pub number : number_of e.refusal ≡ refusal.number
+  pub place : place_told e.place ≡ place_code refusal.place
+  pub small : place_told e.place < 4294967296
 
 -- the number of fields, the names of the node, and what the matching asks
 pub record StartReady (form sheet : List ℕ) (k : ℕ) (g : Search) : Type 0 where
@@ -41,18 +42,15 @@ pub record StartReady (form sheet : List ℕ) (k : ℕ) (g : Search) : Type 0 wh
   pub made : sheet_fault sheet ≡ 0
   pub area : length (sheet_area sheet) ≡ g.area
 
-pub record Started (form sheet : List ℕ) (k : ℕ) (g : Search) : Type 0 where
-  pub good : g.number ≡ 0 → StartReady form sheet k g
-  pub bad : (g.number ≡ 0 → ⊥) → StartRefused form sheet g
+abbrev pub Started : List ℕ → List ℕ → ℕ → Result Search RefusedAt → Type 0
+Started form sheet k (Ok g) = StartReady form sheet k g
+Started form sheet k (Err e) = StartRefused form sheet e
 
 -- what one record needs of the start
 pub record CanMatch (form sheet : List ℕ) (g : Search) : Type 0 where
   pub names : HasNames form g.codes g.key.names.first g.key.names.count
   pub made : sheet_fault sheet ≡ 0
   pub area : length (sheet_area sheet) ≡ g.area
-
-abbrev pub Able : List ℕ → List ℕ → Search → Type 0
-Able form sheet g = g.number ≡ 0 → CanMatch form sheet g
 
 -- ---- one record
 -- a place that is present and in scope
@@ -72,10 +70,7 @@ abbrev pub sought : List ℕ → Search → Item → Bool
 sought form g = matches_arg (key_names form g.key) g.key.names.adjacent
 
 unfoldable pub judged : List ℕ → List ℕ → Raw → Search → ItemRecord → ℕ → ℕ → ℕ
-judged form sheet s g x i c =
-    if eqb g.number 0
-    then marked (λ y. reached s i && sought form g y) i c (item_from (sheet_area sheet) (words_of x))
-    else c
+judged form sheet s g x i c = marked (λ y. reached s i && sought form g y) i c (item_from (sheet_area sheet) (words_of x))
 
 abbrev pub seen_to : ℕ → ℕ → Seen
 seen_to c n = record { found = c; count = n }
@@ -105,6 +100,5 @@ ended s n g c =
     then refused (refuse 30 none)
     else (state_in g.fields n s >>= λ _. if eqb g.key.kind 0 then refused (refuse 28 none) else ok (place_from c))
 
-pub record Finishes (s : Raw) (g : Search) (c : Seen) (r : Answer) : Type 0 where
-  pub good : g.number ≡ 0 → plain_answer place_or_none (ended s c.count g c.found) ≡ some r
-  pub bad : (g.number ≡ 0 → ⊥) → r ≡ answer_with g.number g.place (coded 0 0 0)
+abbrev pub Finishes : Raw → Search → Seen → Answer → Type 0
+Finishes s g c r = plain_answer place_or_none (ended s c.count g c.found) ≡ some r

@@ -7,13 +7,12 @@ ghost use Rattle.std.specs.Prelude.{◌≡◌, ◌+◌, ◌≤◌, ◌<◌};
 ghost use Rattle.std.proofs.Math.Option.{some};
 ghost use Rattle.call_answers.specs.Answers.{place_or_none, plain_answer};
 ghost use Rattle.call_find.specs.Records.{words_of, call_find};
-ghost use Rattle.call_find.specs.Scan.{stopped_at, Started, ReachedAt, Able, judged, unseen, turned, Finishes};
+ghost use Rattle.call_find.specs.Scan.{Started, ReachedAt, CanMatch, judged, unseen, turned, Finishes};
 
-use call_answers::{Answer, BAD_ITEM, BAD_STATE, NOT_THERE, answered, narrow, refused};
+use call_answers::{Answer, answered, narrow, refused, refused_at};
 use call_form::Key;
-use rules::State;
+use rules::{Refusal, RefusedAt, State};
 use state_marks::is_present;
-use wire::wide;
 
 // An item as the seven words of its record.
 #[repr(C)]
@@ -28,11 +27,9 @@ pub struct ItemRecord {
     pub text_length: u32,
 }
 
-// What the records are searched for, or a refusal that comes before them: number 0 is none.
+// What the records are searched for.
 #[derive(Clone, Copy)]
 struct Search {
-    number: u32,
-    place: u32,
     area: usize,
     fields: usize,
     key: Key,
@@ -61,59 +58,29 @@ fn words_of(x: ItemRecord) -> [u32; 7]
     ]
 }
 
-// Refused before the records.
-fn stopped(number: u32, place: u32) -> Search
-    ensures { result ≡ stopped_at number place }
-{
-    let key = call_form::no_key();
-    let codes = form_codes::no_codes();
-    Search {
-        number,
-        place,
-        area: 0,
-        fields: 0,
-        key,
-        codes,
-    }
-}
-
-// Refusals 1 to 4, then 6 and 5; and then the number of fields and the names of the node.
-fn started(form: &[u8], sheet: &[u8], node: usize) -> Search
+// Refusals 1 to 4, then 6 and 5; else the number of fields and the names of the node.
+fn started(form: &[u8], sheet: &[u8], node: usize) -> Result<Search, RefusedAt>
     ensures { Started form.now sheet.now node result }
 {
-    let checked = form_check::check(form);
-    if checked.number != 0 {
-        return stopped(checked.number, checked.place);
-    }
-    let fault = split_sheet::check(sheet);
-    if fault != 0 {
-        return stopped(fault, 0);
-    }
+    form_check::check(form)?;
+    split_sheet::check(sheet)?;
     let fields = form_layout::field_count(form);
     let key = call_form::key_at(form, node);
     let codes = form_codes::codes_of(form);
     let area = sheet.len() - wire::area_start(2, split_sheet::count(sheet));
-    Search {
-        number: 0,
-        place: 0,
+    Ok(Search {
         area,
         fields,
         key,
         codes,
-    }
+    })
 }
 
 // Whether a place is present and in scope.
 fn is_reached(s: State, i: usize) -> bool
     ensures { ReachedAt s i result }
 {
-    if i < wide(s.start) {
-        return false;
-    }
-    if wide(s.end) <= i {
-        return false;
-    }
-    if 256 <= i {
+    if i < s.start as usize || s.end as usize <= i || 256 <= i {
         return false;
     }
     is_present(s.marks[i])
@@ -135,12 +102,9 @@ fn judge(
     search: Search,
     found: usize,
 ) -> usize
-    requires { Able form.now sheet.now search }
+    requires { CanMatch form.now sheet.now search }
     ensures { result ≡ judged form.now sheet.now s search item i found }
 {
-    if search.number != 0 {
-        return found;
-    }
     let words = words_of(item);
     if !call_table::record_good(&words, search.area) {
         return 1;
@@ -151,8 +115,7 @@ fn judge(
     if !is_reached(s, i) {
         return 0;
     }
-    let key = search.key;
-    if take_search::matches(form, &search.codes, sheet, &words, 0, key.names) {
+    if take_search::matches(form, &search.codes, sheet, &words, 0, search.key.names) {
         return i + 2;
     }
     0
@@ -168,7 +131,7 @@ fn turn(
     search: Search,
     seen: Seen,
 ) -> Seen
-    requires { Able form.now sheet.now search × (i + 1 < 18446744073709551616) }
+    requires { CanMatch form.now sheet.now search × (i + 1 < 18446744073709551616) }
     ensures { result ≡ turned form.now sheet.now s search item i seen }
 {
     let words = words_of(item);
@@ -193,17 +156,14 @@ fn finish(s: State, search: Search, seen: Seen) -> Answer
     requires { seen.found ≤ seen.count + 1 }
     ensures { Finishes s search seen result }
 {
-    if search.number != 0 {
-        return refused(search.number, search.place);
-    }
     if seen.found == 1 {
-        return refused(BAD_ITEM, 0);
+        return refused(Refusal::BadItem);
     }
     if !state_marks::good(s, seen.count, search.fields) {
-        return refused(BAD_STATE, 0);
+        return refused(Refusal::BadState);
     }
     if search.key.kind == 0 {
-        return refused(NOT_THERE, 0);
+        return refused(Refusal::NotThere);
     }
     if seen.found == 0 {
         return answered(0, 0, 0);
@@ -216,12 +176,13 @@ fn finish(s: State, search: Search, seen: Seen) -> Answer
 pub fn find(form: &[u8], sheet: &[u8], items: &[ItemRecord], s: State, node: usize) -> Answer
     ensures { plain_answer place_or_none (call_find form.now sheet.now items.now s node) ≡ some result }
 {
-    let search = started(form, sheet, node);
+    let search = match started(form, sheet, node) {
+        Ok(search) => search,
+        Err(e) => return refused_at(e),
+    };
     let mut seen = nothing_seen();
-    let mut i = 0;
-    while i < items.len() {
-        seen = turn(form, sheet, items[i], i, s, search, seen);
-        i += 1;
+    for (i, item) in items.iter().enumerate() {
+        seen = turn(form, sheet, *item, i, s, search, seen);
     }
     finish(s, search, seen)
 }

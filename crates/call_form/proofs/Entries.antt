@@ -16,7 +16,8 @@ use Rattle.rules.specs.State.{State, command_mark, field_mark}
 use Rattle.rules.specs.Accept.{accepted, Accepted, check_form}
 use Rattle.rules.specs.Take.{Took, took, matches_arg, take_flag, take_arg, take_cmd}
 use Rattle.rules.specs.Calls.{from_raw, item_from, asked, mark_in, handed, on_form, flag_names, argument_key, key_of, call_matches, call_take_flag, call_take_arg, call_take_cmd}
-use Rattle.rules.specs.declared.Refused.{Refused}
+use Rattle.rules.specs.Reported.{number_of, place_told}
+use Rattle.rules.specs.declared.RefusedAt.{RefusedAt}
 use Rattle.rules.specs.declared.State.{State as Raw}
 use Rattle.rules.proofs.Acceptance.{lookup_some}
 use Rattle.form_layout.specs.Layout.{HasName, name_bytes_at, GoodNames}
@@ -30,7 +31,7 @@ use Rattle.call_answers.specs.declared.Answer.{Answer}
 use Rattle.call_answers.specs.declared.StateAnswer.{StateAnswer}
 use Rattle.call_table.specs.Given.{HasState}
 use Rattle.rules.proofs.GivenLaws.{no_field, field_there}
-use Rattle.call_form.specs.Given.{HasForm, Tests}
+use Rattle.call_form.specs.Given.{HasForm, given_in, Refuses}
 use Rattle.call_form.specs.Keys.{key_names, rules_key, KeyAt, Keyed, command_at}
 use Rattle.call_form.specs.Answered.{TakeAnswer, TestAnswer}
 use Rattle.call_form.specs.declared.Key.{Key}
@@ -60,182 +61,178 @@ unfolding is_some
 is_none none e = refl
 is_none (some a) e = absurd (false≢true (sym e))
 
-module _ (form sheet words : List ℕ) (x : Raw) (r : Refused) (t : Tests form sheet words x r) where
-  -- ---- refused by a test
-  module _ (z : r.number ≡ 0 → ⊥) (k : ℕ) where
-    module _ (y : StateAnswer) (h : y ≡ state_with r.number r.place (coded 0 0 0) x) where
-      pub flag_refused : (j : ℕ) → state_answer_of yes_code (call_take_flag form sheet words x k j) ≡ some y
+-- ---- refused by a test
+module _ (form sheet words : List ℕ) (x : Raw) (r : RefusedAt) (t : Refuses (given_in form sheet words x) r) (k : ℕ) where
+  module _ (y : StateAnswer) (h : y ≡ state_with (number_of r.refusal) (place_told r.place) (coded 0 0 0) x) where
+    pub flag_refused : (j : ℕ) → state_answer_of yes_code (call_take_flag form sheet words x k j) ≡ some y
+    unfolding call_take_flag
+    flag_refused j = refused_state form sheet words x _ yes_code r t ∙ ap some (sym h)
+
+    pub arg_refused : (j : ℕ) → state_answer_of taken_code (call_take_arg form sheet words x k j) ≡ some y
+    unfolding call_take_arg
+    arg_refused j = refused_state form sheet words x _ taken_code r t ∙ ap some (sym h)
+
+    pub cmd_refused : state_answer_of yes_code (call_take_cmd form sheet words x k) ≡ some y
+    unfolding call_take_cmd
+    cmd_refused = refused_state form sheet words x _ yes_code r t ∙ ap some (sym h)
+
+  pub matches_refused : (i : ℕ) (y : Answer) → y ≡ answer_with (number_of r.refusal) (place_told r.place) (coded 0 0 0) → answer_of yes_code (call_matches form sheet words x k i) ≡ some y
+  unfolding call_matches
+  matches_refused i y h = refused_answer form sheet words x _ yes_code r t ∙ ap some (sym h)
+
+-- ---- past the tests
+module _ (form sheet words : List ℕ) (x : Raw) (t : HasForm form sheet words x) where
+  pub tests_state : HasState (length t.result.fields) sheet words x
+  tests_state = t.state
+
+  pub tests_accepted : (a : Accepted) × (check_form form ≡ accepted a)
+  tests_accepted = (t.result, t.accepts)
+
+  pub tests_eight : 8 ≤ length form
+  tests_eight = form_eight form tests_accepted
+
+  -- the mark of a field, as the code has it
+  pub mark_small : (j fields : ℕ) → fields ≡ field_count form → j < fields → 512 + j < 65536
+  mark_small j fields e h = omega (arith, (sized form (form_long form tests_accepted)).counts.fields.1)
+
+  pub tests_names : GoodNames form
+  tests_names = accepted_names form t.result t.accepts
+
+  abbrev these : List Item
+  these = t.state.table.holds.items
+
+  table_here : Table (sheet_area sheet) words these
+  table_here = t.state.table.holds.table
+
+  count_here : length these ≡ x.count
+  count_here = t.state.table.holds.count
+
+  items_here : Items (sheet_area sheet) words (numbers_of x) these
+  items_here = (table_here, count_here)
+
+  module _ {A : Type 0} (f : Accepted → List Item → State → Outcome (Took A)) where
+    done : {B : Type 0} (g : Outcome _ → B) (o : Outcome (Took A)) → f t.result these (from_raw x) ≡ o → g (on_form form sheet words x f) ≡ g (handed x o)
+    done g o e = ap g (passed form sheet words x f t ∙ ap (handed x) e)
+
+    none_state : (code : A → Coded) → f t.result these (from_raw x) ≡ refused (refuse 28 none)
+        → (y : StateAnswer) → y ≡ state_with 28 0 (coded 0 0 0) x → state_answer_of code (on_form form sheet words x f) ≡ some y
+    unfolding state_answer_of handed coded_or0
+    none_state code e y h = done (state_answer_of code) _ e ∙ ap some (sym h)
+
+    none_answer : (code : A → Coded) → f t.result these (from_raw x) ≡ refused (refuse 28 none)
+        → (y : Answer) → y ≡ answer_with 28 0 (coded 0 0 0) → answer_of code (on_form form sheet words x f) ≡ some y
+    unfolding answer_of handed coded_or0
+    none_answer code e y h = done (answer_of code) _ e ∙ ap some (sym h)
+
+  -- ---- nodes
+  module _ (k : ℕ) (key : Key) (n : Keyed form k key) where
+    here : KeyAt form t.result k key
+    here = n.at t.result t.accepts
+
+    pub key_inside : key.names.first + key.names.count ≤ name_count form
+    key_inside = here.inside
+
+    module _ (j : ℕ) (y : StateAnswer) where
+      pub flag_none : (key.kind ≡ 1 → ⊥) → y ≡ state_with 28 0 (coded 0 0 0) x → state_answer_of yes_code (call_take_flag form sheet words x k j) ≡ some y
       unfolding call_take_flag
-      flag_refused j = refused_state form sheet words x _ yes_code r t z ∙ ap some (sym h)
+      flag_none w = none_state _ yes_code (asked_none _ _ (here.flag ∙ rw (ne_eqb key.kind 1 w))) y
 
-      pub arg_refused : (j : ℕ) → state_answer_of taken_code (call_take_arg form sheet words x k j) ≡ some y
+      pub arg_none : (key.kind ≡ 2 → ⊥) → y ≡ state_with 28 0 (coded 0 0 0) x → state_answer_of taken_code (call_take_arg form sheet words x k j) ≡ some y
       unfolding call_take_arg
-      arg_refused j = refused_state form sheet words x _ taken_code r t z ∙ ap some (sym h)
+      arg_none w = none_state _ taken_code (asked_none _ _ (here.argument ∙ rw (ne_eqb key.kind 2 w))) y
 
-      pub cmd_refused : state_answer_of yes_code (call_take_cmd form sheet words x k) ≡ some y
-      unfolding call_take_cmd
-      cmd_refused = refused_state form sheet words x _ yes_code r t z ∙ ap some (sym h)
+      module _ (fields : ℕ) (count : fields ≡ field_count form) where
+        of_form : fields ≡ length t.result.fields
+        of_form = count ∙ form_fields form t.result t.accepts
 
-    pub matches_refused : (i : ℕ) (y : Answer) → y ≡ answer_with r.number r.place (coded 0 0 0) → answer_of yes_code (call_matches form sheet words x k i) ≡ some y
-    unfolding call_matches
-    matches_refused i y h = refused_answer form sheet words x _ yes_code r t z ∙ ap some (sym h)
+        module _ (w : key.kind ≡ 1) where
+          flag_names_lem : (get_elem? t.result.trees k >>? flag_names) ≡ some (key_names form key)
+          flag_names_lem = here.flag ∙ rw (eq-eqb key.kind 1 w)
 
-  -- ---- past the tests
-  module _ (z : r.number ≡ 0) where
-    pub tests_given : HasForm form sheet words x
-    tests_given = t.good z
+          pub flag_beyond : fields ≤ j → y ≡ state_with 28 0 (coded 0 0 0) x → state_answer_of yes_code (call_take_flag form sheet words x k j) ≡ some y
+          unfolding call_take_flag
+          flag_beyond h = none_state _ yes_code
+              (asked_some _ _ (key_names form key) flag_names_lem ∙ marked_none _ j _ (omega (arith, h, of_form))) y
 
-    pub tests_state : HasState (length tests_given.result.fields) sheet words x
-    tests_state = tests_given.state
+          pub flag_some : j < fields → (mark : ℕ) → mark ≡ field_mark j
+              → TakeAnswer yes_code sheet words x (λ is. take_flag mark is (key_names form key) (from_raw x)) y
+              → state_answer_of yes_code (call_take_flag form sheet words x k j) ≡ some y
+          unfolding call_take_flag
+          flag_some h mark e says =
+              done _ (state_answer_of yes_code) _
+              (asked_some _ _ (key_names form key) flag_names_lem ∙ marked_some _ j _ (omega (arith, h, of_form)) mark e)
+              ∙ says.same these items_here
 
-    pub tests_accepted : (a : Accepted) × (check_form form ≡ accepted a)
-    tests_accepted = (tests_given.result, tests_given.accepts)
+        module _ (w : key.kind ≡ 2) where
+          argument_key_lem : (get_elem? t.result.trees k >>? argument_key) ≡ some (rules_key form key)
+          argument_key_lem = here.argument ∙ rw (eq-eqb key.kind 2 w)
 
-    pub tests_eight : 8 ≤ length form
-    tests_eight = form_eight form tests_accepted
+          pub arg_beyond : fields ≤ j → y ≡ state_with 28 0 (coded 0 0 0) x → state_answer_of taken_code (call_take_arg form sheet words x k j) ≡ some y
+          unfolding call_take_arg
+          arg_beyond h = none_state _ taken_code
+              (asked_some _ _ (rules_key form key) argument_key_lem ∙ marked_none _ j _ (omega (arith, h, of_form))) y
 
-    -- the mark of a field, as the code has it
-    pub mark_small : (j fields : ℕ) → fields ≡ field_count form → j < fields → 512 + j < 65536
-    mark_small j fields e h = omega (arith, (sized form (form_long form tests_accepted)).counts.fields.1)
+          pub arg_some : j < fields → (mark : ℕ) → mark ≡ field_mark j
+              → TakeAnswer taken_code sheet words x (λ is. take_arg mark is (key_names form key) key.names.adjacent (from_raw x)) y
+              → state_answer_of taken_code (call_take_arg form sheet words x k j) ≡ some y
+          unfolding call_take_arg
+          arg_some h mark e says =
+              done _ (state_answer_of taken_code) _
+              (asked_some _ _ (rules_key form key) argument_key_lem ∙ marked_some _ j _ (omega (arith, h, of_form)) mark e)
+              ∙ says.same these items_here
 
-    pub tests_names : GoodNames form
-    tests_names = accepted_names form tests_given.result tests_given.accepts
+    module _ (i : ℕ) (y : Answer) where
+      pub matches_none : key.kind ≡ 0 → y ≡ answer_with 28 0 (coded 0 0 0) → answer_of yes_code (call_matches form sheet words x k i) ≡ some y
+      unfolding call_matches
+      matches_none w = none_answer _ yes_code (asked_none _ _ (here.any ∙ rw (eq-eqb key.kind 0 w))) y
 
-    abbrev these : List Item
-    these = (t.good z).state.table.holds.items
+      module _ (w : key.kind ≡ 0 → ⊥) (c : ℕ) (e : c ≡ x.count) where
+        key_some : (get_elem? t.result.trees k >>? key_of) ≡ some (rules_key form key)
+        key_some = here.any ∙ rw (ne_eqb key.kind 0 w)
 
-    table_here : Table (sheet_area sheet) words these
-    table_here = (t.good z).state.table.holds.table
-
-    count_here : length these ≡ x.count
-    count_here = (t.good z).state.table.holds.count
-
-    items_here : Items (sheet_area sheet) words (numbers_of x) these
-    items_here = (table_here, count_here)
-
-    module _ {A : Type 0} (f : Accepted → List Item → State → Outcome (Took A)) where
-      done : {B : Type 0} (g : Outcome _ → B) (o : Outcome (Took A)) → f (t.good z).result these (from_raw x) ≡ o → g (on_form form sheet words x f) ≡ g (handed x o)
-      done g o e = ap g (passed form sheet words x f (t.good z) ∙ ap (handed x) e)
-
-      none_state : (code : A → Coded) → f (t.good z).result these (from_raw x) ≡ refused (refuse 28 none)
-          → (y : StateAnswer) → y ≡ state_with 28 0 (coded 0 0 0) x → state_answer_of code (on_form form sheet words x f) ≡ some y
-      unfolding state_answer_of handed coded_or0
-      none_state code e y h = done (state_answer_of code) _ e ∙ ap some (sym h)
-
-      none_answer : (code : A → Coded) → f (t.good z).result these (from_raw x) ≡ refused (refuse 28 none)
-          → (y : Answer) → y ≡ answer_with 28 0 (coded 0 0 0) → answer_of code (on_form form sheet words x f) ≡ some y
-      unfolding answer_of handed coded_or0
-      none_answer code e y h = done (answer_of code) _ e ∙ ap some (sym h)
-
-    -- ---- nodes
-    module _ (k : ℕ) (key : Key) (n : Keyed form k key) where
-      here : KeyAt form (t.good z).result k key
-      here = n.at (t.good z).result (t.good z).accepts
-
-      pub key_inside : key.names.first + key.names.count ≤ name_count form
-      key_inside = here.inside
-
-      module _ (j : ℕ) (y : StateAnswer) where
-        pub flag_none : (key.kind ≡ 1 → ⊥) → y ≡ state_with 28 0 (coded 0 0 0) x → state_answer_of yes_code (call_take_flag form sheet words x k j) ≡ some y
-        unfolding call_take_flag
-        flag_none w = none_state _ yes_code (asked_none _ _ (here.flag ∙ rw (ne_eqb key.kind 1 w))) y
-
-        pub arg_none : (key.kind ≡ 2 → ⊥) → y ≡ state_with 28 0 (coded 0 0 0) x → state_answer_of taken_code (call_take_arg form sheet words x k j) ≡ some y
-        unfolding call_take_arg
-        arg_none w = none_state _ taken_code (asked_none _ _ (here.argument ∙ rw (ne_eqb key.kind 2 w))) y
-
-        module _ (fields : ℕ) (count : fields ≡ field_count form) where
-          of_form : fields ≡ length (t.good z).result.fields
-          of_form = count ∙ form_fields form (t.good z).result (t.good z).accepts
-
-          module _ (w : key.kind ≡ 1) where
-            flag_names_lem : (get_elem? (t.good z).result.trees k >>? flag_names) ≡ some (key_names form key)
-            flag_names_lem = here.flag ∙ rw (eq-eqb key.kind 1 w)
-
-            pub flag_beyond : fields ≤ j → y ≡ state_with 28 0 (coded 0 0 0) x → state_answer_of yes_code (call_take_flag form sheet words x k j) ≡ some y
-            unfolding call_take_flag
-            flag_beyond h = none_state _ yes_code
-                (asked_some _ _ (key_names form key) flag_names_lem ∙ marked_none _ j _ (omega (arith, h, of_form))) y
-
-            pub flag_some : j < fields → (mark : ℕ) → mark ≡ field_mark j
-                → TakeAnswer yes_code sheet words x (λ is. take_flag mark is (key_names form key) (from_raw x)) y
-                → state_answer_of yes_code (call_take_flag form sheet words x k j) ≡ some y
-            unfolding call_take_flag
-            flag_some h mark e says =
-                done _ (state_answer_of yes_code) _
-                (asked_some _ _ (key_names form key) flag_names_lem ∙ marked_some _ j _ (omega (arith, h, of_form)) mark e)
-                ∙ says.same these items_here
-
-          module _ (w : key.kind ≡ 2) where
-            argument_key_lem : (get_elem? (t.good z).result.trees k >>? argument_key) ≡ some (rules_key form key)
-            argument_key_lem = here.argument ∙ rw (eq-eqb key.kind 2 w)
-
-            pub arg_beyond : fields ≤ j → y ≡ state_with 28 0 (coded 0 0 0) x → state_answer_of taken_code (call_take_arg form sheet words x k j) ≡ some y
-            unfolding call_take_arg
-            arg_beyond h = none_state _ taken_code
-                (asked_some _ _ (rules_key form key) argument_key_lem ∙ marked_none _ j _ (omega (arith, h, of_form))) y
-
-            pub arg_some : j < fields → (mark : ℕ) → mark ≡ field_mark j
-                → TakeAnswer taken_code sheet words x (λ is. take_arg mark is (key_names form key) key.names.adjacent (from_raw x)) y
-                → state_answer_of taken_code (call_take_arg form sheet words x k j) ≡ some y
-            unfolding call_take_arg
-            arg_some h mark e says =
-                done _ (state_answer_of taken_code) _
-                (asked_some _ _ (rules_key form key) argument_key_lem ∙ marked_some _ j _ (omega (arith, h, of_form)) mark e)
-                ∙ says.same these items_here
-
-      module _ (i : ℕ) (y : Answer) where
-        pub matches_none : key.kind ≡ 0 → y ≡ answer_with 28 0 (coded 0 0 0) → answer_of yes_code (call_matches form sheet words x k i) ≡ some y
+        pub matches_past : c ≤ i → y ≡ answer_with 28 0 (coded 0 0 0) → answer_of yes_code (call_matches form sheet words x k i) ≡ some y
         unfolding call_matches
-        matches_none w = none_answer _ yes_code (asked_none _ _ (here.any ∙ rw (eq-eqb key.kind 0 w))) y
+        matches_past h = none_answer _ yes_code
+            (asked_some _ _ (rules_key form key) key_some ∙ asked_none _ _ (past these i (omega (arith, h, e, count_here)))) y
 
-        module _ (w : key.kind ≡ 0 → ⊥) (c : ℕ) (e : c ≡ x.count) where
-          key_some : (get_elem? (t.good z).result.trees k >>? key_of) ≡ some (rules_key form key)
-          key_some = here.any ∙ rw (ne_eqb key.kind 0 w)
+        module _ (h : i < c) where
+          item : (v : Item) × (get_elem? these i ≡ some v)
+          item = lookup_some these i (omega (arith, h, e, count_here))
 
-          pub matches_past : c ≤ i → y ≡ answer_with 28 0 (coded 0 0 0) → answer_of yes_code (call_matches form sheet words x k i) ≡ some y
-          unfolding call_matches
-          matches_past h = none_answer _ yes_code
-              (asked_some _ _ (rules_key form key) key_some ∙ asked_none _ _ (past these i (omega (arith, h, e, count_here)))) y
+          from_here : item_from (sheet_area sheet) (record_at words i) ≡ some item.0
+          from_here = table_here.at i item.0 item.1
 
-          module _ (h : i < c) where
-            item : (v : Item) × (get_elem? these i ≡ some v)
-            item = lookup_some these i (omega (arith, h, e, count_here))
+          pub has_item : HasItem sheet words i
+          has_item = record {
+            made = t.state.table.made;
+            room = omega (arith, h, e, count_here, table_here.room);
+            item = item.0;
+            here = from_here;
+          }
 
-            from_here : item_from (sheet_area sheet) (record_at words i) ≡ some item.0
-            from_here = table_here.at i item.0 item.1
+          pub matches_some : TestAnswer sheet words i (matches_arg (key_names form key) key.names.adjacent) y
+              → answer_of yes_code (call_matches form sheet words x k i) ≡ some y
+          unfolding call_matches answer_of handed took coded_or0
+          matches_some says =
+              done _ (answer_of yes_code) _ (asked_some _ _ (rules_key form key) key_some ∙ asked_some _ _ item.0 item.1)
+              ∙ ap some (sym (says.same item.0 from_here))
 
-            pub has_item : HasItem sheet words i
-            has_item = record {
-              made = (t.good z).state.table.made;
-              room = omega (arith, h, e, count_here, table_here.room);
-              item = item.0;
-              here = from_here;
-            }
+  -- ---- commands
+  module _ (k : ℕ) (b : Bool) (e : b ≡ is_some (command_at form k)) where
+    pub cmd_none : not b ≡ true → (y : StateAnswer) → y ≡ state_with 28 0 (coded 0 0 0) x → state_answer_of yes_code (call_take_cmd form sheet words x k) ≡ some y
+    unfolding call_take_cmd
+    cmd_none w = none_state _ yes_code (asked_none _ _ (command_name_lem form k t.result t.accepts ∙ is_none (command_at form k) (sym e ∙ not-true b w)))
 
-            pub matches_some : TestAnswer sheet words i (matches_arg (key_names form key) key.names.adjacent) y
-                → answer_of yes_code (call_matches form sheet words x k i) ≡ some y
-            unfolding call_matches answer_of handed took coded_or0
-            matches_some says =
-                done _ (answer_of yes_code) _ (asked_some _ _ (rules_key form key) key_some ∙ asked_some _ _ item.0 item.1)
-                ∙ ap some (sym (says.same item.0 from_here))
+    module _ (w : not b ≡ false) where
+      pub cmd_there : is_some (command_at form k) ≡ true
+      cmd_there = sym e ∙ not-false b w
 
-    -- ---- commands
-    module _ (k : ℕ) (b : Bool) (e : b ≡ is_some (command_at form k)) where
-      pub cmd_none : not b ≡ true → (y : StateAnswer) → y ≡ state_with 28 0 (coded 0 0 0) x → state_answer_of yes_code (call_take_cmd form sheet words x k) ≡ some y
+      pub cmd_name : HasName form k
+      cmd_name = has_name form k cmd_there t.result t.accepts
+
+      pub cmd_some : (word : List ℕ) → name_bytes_at (read_form form) k ≡ some word → (y : StateAnswer) → TakeAnswer yes_code sheet words x (λ is. take_cmd command_mark is word (from_raw x)) y
+          → state_answer_of yes_code (call_take_cmd form sheet words x k) ≡ some y
       unfolding call_take_cmd
-      cmd_none w = none_state _ yes_code (asked_none _ _ (command_name_lem form k (t.good z).result (t.good z).accepts ∙ is_none (command_at form k) (sym e ∙ not-true b w)))
-
-      module _ (w : not b ≡ false) where
-        pub cmd_there : is_some (command_at form k) ≡ true
-        cmd_there = sym e ∙ not-false b w
-
-        pub cmd_name : HasName form k
-        cmd_name = has_name form k cmd_there (t.good z).result (t.good z).accepts
-
-        pub cmd_some : (word : List ℕ) → name_bytes_at (read_form form) k ≡ some word → (y : StateAnswer) → TakeAnswer yes_code sheet words x (λ is. take_cmd command_mark is word (from_raw x)) y
-            → state_answer_of yes_code (call_take_cmd form sheet words x k) ≡ some y
-        unfolding call_take_cmd
-        cmd_some word v y h =
-            done _ (state_answer_of yes_code) _ (asked_some _ _ word (command_name_lem form k (t.good z).result (t.good z).accepts ∙ command_word form k cmd_there word v))
-            ∙ h.same these items_here
+      cmd_some word v y h =
+          done _ (state_answer_of yes_code) _ (asked_some _ _ word (command_name_lem form k t.result t.accepts ∙ command_word form k cmd_there word v))
+          ∙ h.same these items_here

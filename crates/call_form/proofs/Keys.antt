@@ -5,9 +5,9 @@ use mathlib.Core.Option.{Option, some, none}
 use mathlib.Core.Path.{◌≡◌, refl, sym, ap, ◌∙◌}
 use Prim.Native.Nat.{ℕ, zero, suc, ◌+◌, ◌%◌, ◌≤◌, ◌<◌}
 use native.Mathlib.Omega.{arith}
-use lib.Dec.{eqb, leb}
+use lib.Dec.{eqb, leb, ltb}
 use lib.ListN.{length, take, get_elem?, drop}
-use borrow.Author.Tests.{eq-eqb, ne_eqb}
+use borrow.Author.Tests.{eq-eqb, ne_eqb, le-ltb}
 use Rattle.std.specs.Prelude.{if◌then◌else◌}
 use Rattle.rules.specs.Base.{is_some, ◌>>?◌}
 use Rattle.rules.specs.Form.{Node, Name, Form, node_count, field_count, name_count, read_form, name_bytes}
@@ -21,6 +21,9 @@ use Rattle.rules.proofs.WellMadeLaws.{well_made}
 use Rattle.form_names.specs.Names.{name_of}
 use Rattle.form_names.specs.declared.Name as names
 use Rattle.form_layout.specs.declared.Node as layout
+use Rattle.form_layout.specs.declared.Kind.TheVariants.{Flag, Argument}
+use Rattle.form_layout.specs.Kinds.{kind_number}
+use Rattle.form_layout.proofs.KindNumbers.{not_kind}
 use Rattle.form_layout.specs.Layout.{node_of, HasName, name_bytes_at}
 use Rattle.form_layout.proofs.Sizes.{fields_length, nodes_length, names_length}
 use Rattle.form_codes.specs.Codes.{names_from, named_at}
@@ -152,20 +155,20 @@ module _ (b : List ℕ) (k : ℕ) where
   key_past n m h r e = record { at = λ a g. rw e (past_nodes (omega (arith, m, h)) a g) }
 
   module _ (x : layout.Node) (at : get_elem? (read_form b).nodes k ≡ some (node_of x)) where
-    pub key_flag : x.kind ≡ 1 → Keyed b k (key_with 1 x.p x.q false)
-    key_flag e = record { at = λ a g. flag_here (node_of x) at a g e }
+    pub key_flag : x.kind ≡ Flag → Keyed b k (key_with 1 x.p x.q false)
+    key_flag e = record { at = λ a g. flag_here (node_of x) at a g (ap kind_number e) }
 
-    pub key_argument : x.kind ≡ 2 → Keyed b k (key_with 2 x.p x.q (eqb (x.r % 2) 1))
-    key_argument e = record { at = λ a g. argument_here (node_of x) at a g e }
+    pub key_argument : x.kind ≡ Argument → Keyed b k (key_with 2 x.p x.q (eqb (x.r % 2) 1))
+    key_argument e = record { at = λ a g. argument_here (node_of x) at a g (ap kind_number e) }
 
-    pub key_other : (x.kind ≡ 1 → ⊥) → (x.kind ≡ 2 → ⊥) → (r : Key) → r ≡ no_key → Keyed b k r
-    key_other p q r e = record { at = λ a g. rw e (other_here (node_of x) at a g p q) }
+    pub key_other : (x.kind ≡ Flag → ⊥) → (x.kind ≡ Argument → ⊥) → (r : Key) → r ≡ no_key → Keyed b k r
+    key_other p q r e = record { at = λ a g. rw e (other_here (node_of x) at a g (not_kind x.kind 1 refl p) (not_kind x.kind 2 refl q)) }
 
 -- ---- the name of a command
 module _ (b : List ℕ) (k : ℕ) where
-  pub name_past : (n : ℕ) → n ≡ name_count b → n ≤ k → false ≡ is_some (command_at b k)
+  pub name_past : (n : ℕ) → n ≡ name_count b → n ≤ k → ltb k n ≡ is_some (command_at b k)
   unfolding command_at is_some ◌>>?◌
-  name_past n m h = rw (past (read_form b).names k (omega (arith, names_length b, m, h)))
+  name_past n m h = rw (le-ltb k n h, past (read_form b).names k (omega (arith, names_length b, m, h)))
 
   pub name_here : (x : names.Name) → get_elem? (read_form b).names k ≡ some (name_of x) → leb x.kind 1 ≡ is_some (command_at b k)
   unfolding command_at is_some ◌>>?◌

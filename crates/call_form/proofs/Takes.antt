@@ -29,12 +29,12 @@ use Rattle.form_codes.specs.Codes.{CodedNames}
 use Rattle.take_search.specs.Items.{part_bytes}
 use Rattle.take_search.specs.Search.{HasNames}
 use Rattle.take_search.specs.States.{CanTake, Items}
-use Rattle.take.specs.Takes.{TakesFlag, TakesArg, TakesCmd, value_of}
+use Rattle.take.specs.Takes.{Value, TakesFlag, TakesArg, TakesCmd, value_of}
 use Rattle.take.specs.declared.Flag.{Flag}
-use Rattle.take.specs.declared.Value.{Value}
-use Rattle.take.specs.declared.Value.TheVariants.{Missing, Taken as Value-as-Taken, NoArgument}
+use Rattle.std.specs.Prelude.{Some, None, Ok, Err}
+use Rattle.take.specs.declared.Word.{Word}
+use Rattle.take.specs.declared.NoArgument.{NoArgument}
 use Rattle.take.specs.declared.Argument.{Argument}
-use Rattle.split_arg.specs.declared.Part.{Part}
 use Rattle.split_arg.specs.Items.{record_at}
 use Rattle.call_answers.specs.Answers.{Coded, coded, coded_or0, yes_no, yes_code, taken_code, answer_with, state_with, state_answer_of}
 use Rattle.call_answers.specs.declared.Answer.{Answer}
@@ -114,13 +114,13 @@ module _ (sheet words : List ℕ) (x : Raw) (p : Numbers) (e : p ≡ numbers_of 
         arg_same = let o = h.same is (rw e i) in rw e at o
 
         arg_told : (v : Value) → t.value ≡ v → state_answer_of taken_code (handed x (take_arg mark is n adjacent (from_raw x))) ≡ some r
-        arg_told Missing k =
+        arg_told (Ok None) k =
             took_hands taken_code x _ none m t.numbers (arg_same ∙ rw k refl) h.left.fine (h.left.long ∙ long) ∙ rw (c, j, k) refl
-        arg_told (Value-as-Taken a b) k =
-            took_hands taken_code x _ (some (record { place = a; text = part_bytes (sheet_area sheet) b })) m t.numbers (arg_same ∙ rw k refl)
+        arg_told (Ok (Some w)) k =
+            took_hands taken_code x _ (some (record { place = w.place; text = part_bytes (sheet_area sheet) w.text })) m t.numbers (arg_same ∙ rw k refl)
             h.left.fine (h.left.long ∙ long)
             ∙ rw (c, j, k) refl
-        arg_told (NoArgument a) k = refused_hands taken_code x _ 22 a (arg_same ∙ rw k refl) ∙ rw (c, k) refl
+        arg_told (Err a) k = refused_hands taken_code x _ 22 a.key (arg_same ∙ rw k refl) ∙ rw (c, k) refl
 
       pub arg_hands : TakeAnswer taken_code sheet words x (λ is. take_arg mark is n adjacent (from_raw x)) r
       arg_hands = record { same = λ is i. arg_told is i t.value refl }
@@ -174,27 +174,27 @@ arg_small mark area words n adjacent m p m' t q h = go t.value refl
     few = omega (arith, q.same, q.fine.small)
 
     go : (v : Value) → t.value ≡ v → SmallValue t.value
-    go Missing k = rw k tt
-    go (Value-as-Taken a b) k = let w = rw k at within in rw k (omega (arith, few, w (record { place = a; text = part_bytes area b }) refl))
-    go (NoArgument a) k = let w = rw k at within in rw k (omega (arith, few, w a refl))
+    go (Ok None) k = rw k tt
+    go (Ok (Some v)) k = let w = rw k at within in rw k (omega (arith, few, w (record { place = v.place; text = part_bytes area v.text }) refl))
+    go (Err a) k = let w = rw k at within in rw k (omega (arith, few, w a.key refl))
 
 -- ---- `value_answer`
 module _ (v : Value) where
-  pub small_taken : (i : ℕ) (b : Part) → SmallValue v → v ≡ Value-as-Taken i b → i ≤ 256
-  small_taken i b h e = rw e at h
+  pub small_taken : (w : Word) → SmallValue v → v ≡ Ok (Some w) → w.place ≤ 256
+  small_taken w h e = rw e at h
 
-  pub small_refused : (i : ℕ) → SmallValue v → v ≡ NoArgument i → i ≤ 256
-  small_refused i h e = rw e at h
+  pub small_refused : (k : NoArgument) → SmallValue v → v ≡ Err k → k.key ≤ 256
+  small_refused k h e = rw e at h
 
   module _ (left x : Raw) (r : StateAnswer) where
-    pub answer_missing : v ≡ Missing → r ≡ state_with 0 0 (coded 0 0 0) left → r ≡ value_answer v left x
+    pub answer_missing : v ≡ Ok None → r ≡ state_with 0 0 (coded 0 0 0) left → r ≡ value_answer v left x
     answer_missing e h = rw e h
 
-    pub answer_taken : (i : ℕ) (b : Part) → v ≡ Value-as-Taken i b → (n : ℕ) → n ≡ i → r ≡ state_with 0 0 (coded 1 n 0) left → r ≡ value_answer v left x
-    answer_taken i b e n f h = rw (e, ← f) h
+    pub answer_taken : (w : Word) → v ≡ Ok (Some w) → (n : ℕ) → n ≡ w.place → r ≡ state_with 0 0 (coded 1 n 0) left → r ≡ value_answer v left x
+    answer_taken w e n f h = rw (e, ← f) h
 
-    pub answer_refused : (i : ℕ) → v ≡ NoArgument i → (n : ℕ) → n ≡ i + 1 → r ≡ state_with 22 n (coded 0 0 0) x → r ≡ value_answer v left x
-    answer_refused i e n f h = rw (e, ← f) h
+    pub answer_refused : (k : NoArgument) → v ≡ Err k → r ≡ state_with 22 (k.key + 1) (coded 0 0 0) x → r ≡ value_answer v left x
+    answer_refused k e h = rw e h
 
 -- ---- `matches_arg`
 pub matched_says :

@@ -2,7 +2,8 @@
 use mathlib.Core.List.{List, []}
 use mathlib.Core.Option.{some, none}
 use mathlib.Core.Path.{◌≡◌, refl, ap, subst, ◌∙◌}
-use Prim.Native.Nat.{ℕ, ◌≤◌}
+use Prim.Native.Nat.{ℕ}
+use native.Mathlib.Omega.{arith}
 use lib.ListN.{length}
 use Rattle.rules.specs.Outcome.{Outcome, ok, refused, fault, ◌>>=◌, Refusal, refuse}
 use Rattle.rules.specs.Form.{field_count}
@@ -12,14 +13,20 @@ use Rattle.rules.specs.Accept.{Checked as CheckedForm, accepted, refused_at, Acc
 use Rattle.rules.specs.Codes.{place_code, check_code}
 use Rattle.rules.specs.Take.{Took}
 use Rattle.rules.specs.Calls.{form_in, state_in, from_raw, handed, on_form}
+use Rattle.std.specs.Prelude.{None, Err}
+use Rattle.rules.specs.Reported.{number_of, place_told, told}
+use Rattle.rules.specs.declared.Refusal.{Refusal as Name}
 use Rattle.rules.specs.declared.Refused.{Refused}
+use Rattle.rules.specs.declared.RefusedAt.{RefusedAt}
+use Rattle.rules.proofs.ReportedLaws.{numbered}
+use Rattle.call_answers.proofs.Places.{check_small}
 use Rattle.rules.specs.declared.State.{State as Raw}
 use Rattle.call_answers.specs.Answers.{Coded, coded, coded_or0, answer_with, state_with, answer_of, state_answer_of}
 use Rattle.rules.proofs.GivenLaws.{check_accepted, form_passed}
-use Rattle.call_table.specs.Given.{items_given, GivesState}
+use Rattle.call_table.specs.Given.{items_given, HasState, GivesState}
 use Rattle.call_table.proofs.Laws.{on_table, on_table_lem, state_given}
-use Rattle.call_form.specs.Given.{HasForm, given_in, Tests}
-use Rattle.call_form.proofs.Keys.{form_eight, form_fields}
+use Rattle.call_form.specs.Given.{HasForm, given_in, Refuses}
+use Rattle.call_form.proofs.Keys.{form_fields}
 
 -- ---- refused before the end
 abbrev refusal_of : {A : Type 0} → Refusal → Outcome A → Refusal
@@ -56,58 +63,53 @@ module _ (e : Refusal) where
       on_table_lem sheet words _ ∙ goes_on (items_given sheet words) _ _ (λ is. then_refused (state_in (length a.fields) (length is) x) (f a is)) k) h)
 
 -- ---- `given`
-module _ (form sheet words : List ℕ) (x : Raw) (r : Refused) (e : r ≡ check_code (check_form form)) where
-  pub form_tests : (r.number ≡ 0 → ⊥) → Tests form sheet words x r
+module _ (form sheet words : List ℕ) (x : Raw) where
+  pub form_tests : (r : RefusedAt) → told r ≡ check_code (check_form form) → Refuses (given_in form sheet words x) r
   unfolding given_in form_in ◌>>=◌
-  form_tests z = go (check_form form) refl
+  form_tests r e = go (check_form form) refl
     where
-      go : (c : CheckedForm Accepted) → check_form form ≡ c → Tests form sheet words x r
-      go (accepted a) h = absurd (z (ap (λ (y : Refused). y.number) (e ∙ ap check_code h)))
+      go : (c : CheckedForm Accepted) → check_form form ≡ c → Refuses (given_in form sheet words x) r
+      go (accepted a) h = absurd (numbered r.refusal (ap (λ (y : Refused). y.number) (e ∙ ap check_code h)))
       go (refused_at n k) h =
-          let same : r ≡ record { number = n; place = place_code k } = e ∙ ap check_code h in
+          let same : told r ≡ record { number = n; place = place_code k } = e ∙ ap check_code h in
           record {
-            good = λ w. absurd (z w);
-            bad = λ _. record {
-              refusal = record { number = n; place = k; missing = [] };
-              same = rw (h, form_in) refl;
-              number = ap (λ (y : Refused). y.number) same;
-              place = ap (λ (y : Refused). y.place) same;
-            };
+            refusal = record { number = n; place = k; missing = [] };
+            same = rw (h, form_in) refl;
+            number = ap (λ (y : Refused). y.number) same;
+            place = ap (λ (y : Refused). y.place) same;
+            small = check_small form (told r) e;
           }
 
-  pub checked_eight : r.number ≡ 0 → 8 ≤ length form
-  checked_eight z = form_eight form (check_accepted form r e z)
+  module _ (r : Refused) (e : r ≡ check_code (check_form form)) (z : r.number ≡ 0) (fields : ℕ) (count : fields ≡ field_count form) where
+    pub state_tests : HasState fields sheet words x → HasForm form sheet words x
+    state_tests said =
+        let (a, h) = check_accepted form r e z in
+        record { result = a; accepts = h; state = subst (λ (k : ℕ). HasState k sheet words x) (count ∙ form_fields form a h) said }
 
-  pub state_tests : r.number ≡ 0 → (fields n : ℕ) → GivesState fields sheet words x n → fields ≡ field_count form
-      → Tests form sheet words x (record { number = n; place = 0 })
-  unfolding given_in
-  state_tests z fields n said count =
-      let (a, h) = check_accepted form r e z in
-      let g = subst (λ (k : ℕ). GivesState k sheet words x n) (count ∙ form_fields form a h) said in
-      record {
-        good = λ w. record { result = a; accepts = h; state = g.good w };
-        bad = λ w. record {
-          refusal = refuse n none;
-          same = form_passed form a (λ b. items_given sheet words >>= λ is. state_in (length b.fields) (length is) x) h ∙ g.bad w;
+    pub state_fails : (n : Name) → GivesState {A = Unit {0}} fields sheet words x (Err n)
+        → Refuses (given_in form sheet words x) (record { refusal = n; place = None })
+    unfolding given_in
+    state_fails n said =
+        let (a, h) = check_accepted form r e z in
+        let g = subst (λ (k : ℕ). GivesState {A = Unit {0}} k sheet words x (Err n)) (count ∙ form_fields form a h) said in
+        record {
+          refusal = refuse (number_of n) none;
+          same = form_passed form a (λ b. items_given sheet words >>= λ is. state_in (length b.fields) (length is) x) h ∙ g;
           number = refl;
           place = refl;
-        };
-      }
+          small = omega arith;
+        }
 
 -- ---- a call that is refused, and one that goes on
 module _ {A : Type 0} (form sheet words : List ℕ) (x : Raw) (f : Accepted → List Item → State → Outcome (Took A)) where
-  module _ (code : A → Coded) (r : Refused) (t : Tests form sheet words x r) (z : r.number ≡ 0 → ⊥) where
-    pub refused_state : state_answer_of code (on_form form sheet words x f) ≡ some (state_with r.number r.place (coded 0 0 0) x)
+  module _ (code : A → Coded) (r : RefusedAt) (b : Refuses (given_in form sheet words x) r) where
+    pub refused_state : state_answer_of code (on_form form sheet words x f) ≡ some (state_with (number_of r.refusal) (place_told r.place) (coded 0 0 0) x)
     unfolding state_answer_of handed coded_or0
-    refused_state =
-        let b = t.bad z in
-        rw (call_refused b.refusal form sheet words x f b.same, b.number, b.place) refl
+    refused_state = rw (call_refused b.refusal form sheet words x f b.same, b.number, b.place) refl
 
-    pub refused_answer : answer_of code (on_form form sheet words x f) ≡ some (answer_with r.number r.place (coded 0 0 0))
+    pub refused_answer : answer_of code (on_form form sheet words x f) ≡ some (answer_with (number_of r.refusal) (place_told r.place) (coded 0 0 0))
     unfolding answer_of handed coded_or0
-    refused_answer =
-        let b = t.bad z in
-        rw (call_refused b.refusal form sheet words x f b.same, b.number, b.place) refl
+    refused_answer = rw (call_refused b.refusal form sheet words x f b.same, b.number, b.place) refl
 
   pub passed : (g : HasForm form sheet words x) → on_form form sheet words x f ≡ handed x (f g.result g.state.table.holds.items (from_raw x))
   unfolding on_form

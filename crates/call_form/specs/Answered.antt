@@ -1,5 +1,5 @@
 -- What a call hands back.
-use Rattle.std.specs.Prelude.{Bool, List, ◌≡◌, ℕ, ◌+◌, ◌≤◌}
+use Rattle.std.specs.Prelude.{Some, None, Ok, Err, Bool, List, ◌≡◌, ℕ, ◌+◌, ◌≤◌}
 use Rattle.std.proofs.Math.Option.{some}
 use Rattle.rules.specs.Outcome.{Outcome}
 use Rattle.rules.specs.Sheet.{sheet_area}
@@ -10,23 +10,22 @@ use Rattle.rules.specs.declared.State.{State as Raw}
 use Rattle.split_arg.specs.Items.{record_at}
 use Rattle.state_marks.specs.Lent.{numbers_of}
 use Rattle.take_search.specs.States.{Items}
-use Rattle.take.specs.declared.Value.{Value}
-use Rattle.take.specs.declared.Value.TheVariants.{Missing, Taken as Value-as-Taken, NoArgument}
+use Rattle.take.specs.Takes.{Value}
 use Rattle.call_answers.specs.Answers.{Coded, coded, yes_code, answer_with, state_with, state_answer_of}
 use Rattle.call_answers.specs.declared.Answer.{Answer}
 use Rattle.call_answers.specs.declared.StateAnswer.{StateAnswer}
 
 -- a place fits in a word
 abbrev pub SmallValue : Value → Type 0
-SmallValue Missing = Unit {0}
-SmallValue (Value-as-Taken i t) = i ≤ 256
-SmallValue (NoArgument i) = i ≤ 256
+SmallValue (Ok None) = Unit {0}
+SmallValue (Ok (Some w)) = w.place ≤ 256
+SmallValue (Err e) = e.key ≤ 256
 
 -- the value's place; or 22 at the key, with the state that was given
 abbrev pub value_answer : Value → Raw → Raw → StateAnswer
-value_answer Missing left x = state_with 0 0 (coded 0 0 0) left
-value_answer (Value-as-Taken i t) left x = state_with 0 0 (coded 1 i 0) left
-value_answer (NoArgument i) left x = state_with 22 (i + 1) (coded 0 0 0) x
+value_answer (Ok None) left x = state_with 0 0 (coded 0 0 0) left
+value_answer (Ok (Some w)) left x = state_with 0 0 (coded 1 w.place 0) left
+value_answer (Err e) left x = state_with 22 (e.key + 1) (coded 0 0 0) x
 
 -- what a take makes of the items of the slice
 pub record TakeAnswer {A : Type 0} (code : A → Coded) (sheet words : List ℕ) (x : Raw) (f : List Item → Outcome (Took A)) (r : StateAnswer) : Type 0 where

@@ -20,15 +20,15 @@ ghost use Rattle.call_form.specs.Keys.{key_names, no_key, Keyed, command_at};
 ghost use Rattle.call_form.specs.Answered.{SmallValue, value_answer, TakeAnswer, TestAnswer};
 
 use call_answers::{
-    Answer, NO_ARGUMENT, NOT_THERE, StateAnswer, answered, changed, narrow, refused, unchanged,
+    Answer, StateAnswer, answered, changed, narrow, refused, refused_at, unchanged, unchanged_at,
     yes_no,
 };
 use form_codes::codes_of;
-use rules::{Refused, State};
+use form_layout::Kind;
+use rules::{Refusal, RefusedAt, State};
 use state_marks::{COMMAND, field_mark, joined, numbers_of};
-use take::Value;
+use take::{NoArgument, Word};
 use take_search::Names;
-use wire::wide;
 
 // What a node looks for. Kind 1 is a flag, 2 an argument, 0 neither.
 #[derive(Clone, Copy)]
@@ -37,25 +37,14 @@ pub struct Key {
     pub names: Names,
 }
 
-// A place as a number: itself plus 1.
-fn place_code(x: usize) -> u32
-    requires { x ≤ 256 }
-    ensures { result ≡ x + 1 }
-{
-    x as u32 + 1
-}
-
 // The tests of the input, in the order of the numbers: 1 to 4, then 6, 5, 7, 30 and 29, for the fields of the form.
-fn given(form: &[u8], sheet: &[u8], items: &[u32], s: State) -> Refused
+fn given(form: &[u8], sheet: &[u8], items: &[u32], s: State) -> Result<(), RefusedAt>
     ensures { Tests form.now sheet.now items.now s result }
 {
-    let checked = form_check::check(form);
-    if checked.number != 0 {
-        return checked;
-    }
+    form_check::check(form)?;
     let fields = form_layout::field_count(form);
-    let number = call_table::given_state(sheet, items, s, fields);
-    Refused { number, place: 0 }
+    call_table::given_state(sheet, items, s, fields)?;
+    Ok(())
 }
 
 pub fn no_key() -> Key
@@ -78,24 +67,23 @@ pub fn key_at(form: &[u8], k: usize) -> Key
         return no_key();
     }
     let x = form_layout::node_at(form, k);
-    let kind = x.kind;
-    match kind {
-        1 => {
-            let names = Names {
+    match x.kind {
+        Kind::Flag => Key {
+            kind: 1,
+            names: Names {
                 first: x.p,
                 count: x.q,
                 adjacent: false,
-            };
-            Key { kind: 1, names }
-        }
-        2 => {
-            let names = Names {
+            },
+        },
+        Kind::Argument => Key {
+            kind: 2,
+            names: Names {
                 first: x.p,
                 count: x.q,
                 adjacent: x.r % 2 == 1,
-            };
-            Key { kind: 2, names }
-        }
+            },
+        },
         _ => no_key(),
     }
 }
@@ -105,11 +93,7 @@ fn is_command(form: &[u8], k: usize) -> bool
     requires { (a : Accepted) × (check_form form.now ≡ accepted a) }
     ensures { result ≡ is_some (command_at form.now k) }
 {
-    if form_layout::name_count(form) <= k {
-        return false;
-    }
-    let x = form_layout::name_at(form, k);
-    x.kind <= 1
+    k < form_layout::name_count(form) && form_layout::name_at(form, k).kind <= 1
 }
 
 // Whether item i has one of the names.
@@ -146,20 +130,19 @@ fn flag_taken(
         key.names.count,
         mark,
     );
-    let left = taken.numbers;
-    changed(yes_no(taken.found), 0, 0, joined(marks, left))
+    changed(yes_no(taken.found), 0, 0, joined(marks, taken.numbers))
 }
 
 // What is told of a value, with the state that is left. Refused with 22, the place is the key's, and the state is the one that
 // was given.
-fn value_answer(value: Value, left: State, s: State) -> StateAnswer
+fn value_answer(value: Result<Option<Word>, NoArgument>, left: State, s: State) -> StateAnswer
     requires { SmallValue value }
     ensures { result ≡ value_answer value left s }
 {
     match value {
-        Value::Missing => changed(0, 0, 0, left),
-        Value::Taken(place, _) => changed(1, narrow(place), 0, left),
-        Value::NoArgument(place) => unchanged(NO_ARGUMENT, place_code(place), s),
+        Ok(None) => changed(0, 0, 0, left),
+        Ok(Some(word)) => changed(1, narrow(word.place), 0, left),
+        Err(e) => unchanged_at(RefusedAt::at(Refusal::NoArgument, e.key), s),
     }
 }
 
@@ -179,9 +162,7 @@ fn arg_taken(form: &[u8], sheet: &[u8], items: &[u32], s: State, key: Key, mark:
         key.names,
         mark,
     );
-    let left = taken.numbers;
-    let value = taken.value;
-    value_answer(value, joined(marks, left), s)
+    value_answer(taken.value, joined(marks, taken.numbers), s)
 }
 
 fn cmd_taken(sheet: &[u8], items: &[u32], s: State, word: &[u8]) -> StateAnswer
@@ -190,8 +171,7 @@ fn cmd_taken(sheet: &[u8], items: &[u32], s: State, word: &[u8]) -> StateAnswer
 {
     let mut marks = s.marks;
     let taken = take::take_cmd(sheet, items, &mut marks, numbers_of(s), word, COMMAND);
-    let left = taken.numbers;
-    changed(yes_no(taken.found), 0, 0, joined(marks, left))
+    changed(yes_no(taken.found), 0, 0, joined(marks, taken.numbers))
 }
 
 // Whether the item at a place has one of the names of a flag or an argument.
@@ -205,16 +185,12 @@ pub fn matches_arg(
 ) -> Answer
     ensures { answer_of yes_code (call_matches form.now sheet.now items.now s node place) ≡ some result }
 {
-    let checked = given(form, sheet, items, s);
-    if checked.number != 0 {
-        return refused(checked.number, checked.place);
+    if let Err(e) = given(form, sheet, items, s) {
+        return refused_at(e);
     }
     let key = key_at(form, node);
-    if key.kind == 0 {
-        return refused(NOT_THERE, 0);
-    }
-    if wide(s.count) <= place {
-        return refused(NOT_THERE, 0);
+    if key.kind == 0 || s.count as usize <= place {
+        return refused(Refusal::NotThere);
     }
     matched(form, sheet, items, place, key)
 }
@@ -230,16 +206,12 @@ pub fn take_flag(
 ) -> StateAnswer
     ensures { state_answer_of yes_code (call_take_flag form.now sheet.now items.now s node field) ≡ some result }
 {
-    let checked = given(form, sheet, items, s);
-    if checked.number != 0 {
-        return unchanged(checked.number, checked.place, s);
+    if let Err(e) = given(form, sheet, items, s) {
+        return unchanged_at(e, s);
     }
     let key = key_at(form, node);
-    if key.kind != 1 {
-        return unchanged(NOT_THERE, 0, s);
-    }
-    if form_layout::field_count(form) <= field {
-        return unchanged(NOT_THERE, 0, s);
+    if key.kind != 1 || form_layout::field_count(form) <= field {
+        return unchanged(Refusal::NotThere, s);
     }
     flag_taken(form, sheet, items, s, key, field_mark(field))
 }
@@ -255,16 +227,12 @@ pub fn take_arg(
 ) -> StateAnswer
     ensures { state_answer_of taken_code (call_take_arg form.now sheet.now items.now s node field) ≡ some result }
 {
-    let checked = given(form, sheet, items, s);
-    if checked.number != 0 {
-        return unchanged(checked.number, checked.place, s);
+    if let Err(e) = given(form, sheet, items, s) {
+        return unchanged_at(e, s);
     }
     let key = key_at(form, node);
-    if key.kind != 2 {
-        return unchanged(NOT_THERE, 0, s);
-    }
-    if form_layout::field_count(form) <= field {
-        return unchanged(NOT_THERE, 0, s);
+    if key.kind != 2 || form_layout::field_count(form) <= field {
+        return unchanged(Refusal::NotThere, s);
     }
     arg_taken(form, sheet, items, s, key, field_mark(field))
 }
@@ -273,12 +241,11 @@ pub fn take_arg(
 pub fn take_cmd(form: &[u8], sheet: &[u8], items: &[u32], s: State, record: usize) -> StateAnswer
     ensures { state_answer_of yes_code (call_take_cmd form.now sheet.now items.now s «record») ≡ some result }
 {
-    let checked = given(form, sheet, items, s);
-    if checked.number != 0 {
-        return unchanged(checked.number, checked.place, s);
+    if let Err(e) = given(form, sheet, items, s) {
+        return unchanged_at(e, s);
     }
     if !is_command(form, record) {
-        return unchanged(NOT_THERE, 0, s);
+        return unchanged(Refusal::NotThere, s);
     }
     cmd_taken(sheet, items, s, form_layout::name_bytes(form, record))
 }

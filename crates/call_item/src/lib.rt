@@ -7,16 +7,12 @@ ghost use Rattle.std.proofs.Math.Option.{some};
 ghost use Rattle.rules.specs.Calls.{call_conflict, call_take_positional, call_only_once};
 ghost use Rattle.split_arg.specs.Items.{record_at};
 ghost use Rattle.call_answers.specs.Answers.{answer_of, state_answer_of, plain_answer, conflict_code, operand_code, place_or_none};
+ghost use Rattle.rules.specs.Reported.{number_of};
 ghost use Rattle.call_item.specs.Calls.{free_at, Gets, nothing_got};
 
-use call_answers::{
-    Answer, MISSING, NOT_THERE, StateAnswer, answered, changed, refused, unchanged, yes_no,
-};
-use rules::State;
+use call_answers::{Answer, StateAnswer, answered, changed, refused, unchanged, yes_no};
+use rules::{Refusal, State};
 use state_marks::{MOST_FIELDS, field_mark, is_present, joined, numbers_of};
-use state_value::ConflictOption;
-use take::Operand;
-use wire::wide;
 
 // The record of the item that was found, or all 0.
 #[repr(C)]
@@ -31,14 +27,12 @@ pub struct Got {
 pub fn conflict(sheet: &[u8], items: &[u32], s: State) -> Answer
     ensures { answer_of conflict_code (call_conflict sheet.now items.now s) ≡ some result }
 {
-    let number = call_table::given_state(sheet, items, s, MOST_FIELDS);
-    if number != 0 {
-        return refused(number, 0);
+    if let Err(e) = call_table::given_state(sheet, items, s, MOST_FIELDS) {
+        return refused(e);
     }
-    let c = state_value::conflict(s);
-    match c {
-        ConflictOption::Some(place, winner) => answered(1, place, winner),
-        ConflictOption::None => answered(0, 0, 0),
+    match state_value::conflict(s) {
+        Some(c) => answered(1, c.place, c.winner),
+        None => answered(0, 0, 0),
     }
 }
 
@@ -46,23 +40,21 @@ pub fn conflict(sheet: &[u8], items: &[u32], s: State) -> Answer
 pub fn take_positional_word(sheet: &[u8], items: &[u32], s: State, field: usize) -> StateAnswer
     ensures { state_answer_of operand_code (call_take_positional sheet.now items.now s field) ≡ some result }
 {
-    let number = call_table::given_state(sheet, items, s, MOST_FIELDS);
-    if number != 0 {
-        return unchanged(number, 0, s);
+    if let Err(e) = call_table::given_state(sheet, items, s, MOST_FIELDS) {
+        return unchanged(e, s);
     }
     if MOST_FIELDS <= field {
-        return unchanged(NOT_THERE, 0, s);
+        return unchanged(Refusal::NotThere, s);
     }
     let mut marks = s.marks;
     let taken = take::take_positional_word(items, &mut marks, numbers_of(s), field_mark(field));
-    let operand = taken.operand;
-    let Operand::Taken(place, strict, _) = operand else {
-        return unchanged(MISSING, 0, s);
+    let Some(word) = taken.operand else {
+        return unchanged(Refusal::Missing, s);
     };
     changed(
         1,
-        place as u32,
-        yes_no(strict),
+        word.place as u32,
+        yes_no(word.strict),
         joined(marks, taken.numbers),
     )
 }
@@ -71,15 +63,12 @@ pub fn take_positional_word(sheet: &[u8], items: &[u32], s: State, field: usize)
 pub fn only_once(sheet: &[u8], items: &[u32], place: usize) -> Answer
     ensures { plain_answer place_or_none (call_only_once sheet.now items.now place) ≡ some result }
 {
-    let g = call_table::given(sheet, items);
-    if g.number != 0 {
-        return refused(g.number, 0);
-    }
-    if g.count <= place {
-        return refused(NOT_THERE, 0);
-    }
-    if 0xffff_ffff < place {
-        return refused(NOT_THERE, 0);
+    let count = match call_table::given(sheet, items) {
+        Ok(count) => count,
+        Err(e) => return refused(e),
+    };
+    if count <= place || 0xffff_ffff < place {
+        return refused(Refusal::NotThere);
     }
     let found = take_once::earlier(sheet, items, place);
     if found == 0 {
@@ -88,12 +77,12 @@ pub fn only_once(sheet: &[u8], items: &[u32], place: usize) -> Answer
     answered(1, found as u32 - 1, 0)
 }
 
-// No item: refused, or none found.
-fn nothing(number: u32) -> Got
-    ensures { result ≡ nothing_got number }
+// Refused: no item.
+fn nothing(e: Refusal) -> Got
+    ensures { result ≡ nothing_got (number_of e) }
 {
     Got {
-        number,
+        number: e.number(),
         place: 0,
         item: [0u32; 7],
     }
@@ -117,34 +106,29 @@ fn record_words(items: &[u32], i: usize) -> [u32; 7]
 }
 
 // Whether a place is in scope and present.
+#[tactic(auto, unfolding(crate::specs::Calls::free_at))]
 fn is_free(s: State, i: usize) -> bool
     requires { s.end ≤ 256 }
     ensures { result ≡ free_at s i }
 {
-    if i < wide(s.start) {
-        return false;
-    }
-    if wide(s.end) <= i {
-        return false;
-    }
-    is_present(s.marks[i])
+    s.start as usize <= i && i < s.end as usize && is_present(s.marks[i])
 }
 
 // The item at a place that is in scope and present.
 pub fn get(sheet: &[u8], items: &[u32], s: State, place: usize) -> Got
     ensures { Gets sheet.now items.now s place result }
 {
-    let number = call_table::given_state(sheet, items, s, MOST_FIELDS);
-    if number != 0 {
-        return nothing(number);
+    if let Err(e) = call_table::given_state(sheet, items, s, MOST_FIELDS) {
+        return nothing(e);
     }
-    if wide(s.count) <= place {
-        return nothing(28);
+    if s.count as usize <= place {
+        return nothing(Refusal::NotThere);
     }
-    if !is_free(s, place) {
-        return nothing(0);
-    }
-    let item = record_words(items, place);
+    let item = if is_free(s, place) {
+        record_words(items, place)
+    } else {
+        [0u32; 7]
+    };
     Got {
         number: 0,
         place: 0,

@@ -3,7 +3,7 @@ use mathlib.Core.Bool.{true}
 use mathlib.Core.List.{List, [], ◌++◌, append-nil}
 use mathlib.Core.Option.{Option, some, some-injective, none-ne-some}
 use mathlib.Core.Path.{◌≡◌, refl, sym, ap, subst, ◌∙◌}
-use Prim.Native.Nat.{ℕ, zero, suc, ◌+◌, ◌-◌, ◌≤◌}
+use Prim.Native.Nat.{ℕ, zero, suc, ◌-◌, ◌≤◌}
 use native.Mathlib.Nat.{zero-add, sub-zero, zero-sub}
 use native.Mathlib.Omega.{arith}
 use lib.ListN.{length, get_or, drop, replicate, get_elem?, length-replicate}
@@ -22,7 +22,7 @@ use Rattle.rules.specs.Codes.{place_code}
 use Rattle.rules.specs.Eval.{Ran as Run, eval}
 use Rattle.rules.specs.Run.{padded}
 use Rattle.rules.specs.Missing.{lacking}
-use Rattle.rules.specs.Calls.{items_in, from_raw, to_raw, evaluated_with, evaluated, unchanged, call_eval}
+use Rattle.rules.specs.Calls.{items_in, from_raw, to_raw, evaluated_with, evaluated, unchanged, eval_in, call_eval}
 use Rattle.rules.specs.declared.Refused.{Refused}
 use Rattle.rules.specs.declared.State.{State as Raw}
 use Rattle.rules.proofs.Acceptance.{accepted_length, accepted_passed, good_no_fault}
@@ -45,7 +45,7 @@ use Rattle.eval_told.proofs.NodeLaw.{at_tree}
 use Rattle.eval_list.specs.Lists.{Writes}
 use Rattle.eval_missing.specs.Missing.{Listing, Lists}
 use Rattle.run_fields.specs.Line.{FieldReady}
-use Rattle.call_node.specs.Node.{Answered, evaluated_answer, unchanged_by, answer_of, Admits, ClearedAnswers, node_mark, Runs}
+use Rattle.call_node.specs.Node.{Answered, evaluated_answer, unchanged_by, answer_of, Admitted, ClearedAnswers, node_mark, Runs}
 use Rattle.run_fields.specs.declared.RunAnswer.{RunAnswer}
 use Rattle.call_node.proofs.Leaves.{few_leaves}
 use Rattle.call_node.proofs.Tests.{admitted_runs}
@@ -267,16 +267,16 @@ module _ (b s words o l : List ℕ) (x : Raw) (k : ℕ) (c : ClearedAnswers b s 
           ap (padded (length l)) same ∙ sym (sets_zeros y.entries (length l) (omega arith)) ∙ ap (λ (z : List ℕ). sets z 0 y.entries) (sym c.unlisted) ∙ sym y.put)
 
 -- ---- the call
-module _ (b s words o l : List ℕ) (x : Raw) (k : ℕ) (q : Refused) (a : Admits b s words o l x k q) where
-  pub call_refused : (q.number ≡ 0 → ⊥) → (r : RunAnswer) → r ≡ unchanged_by q x
+module _ (b s words o l : List ℕ) (x : Raw) (k : ℕ) where
+  pub call_refused : (q : Refused) → eval_in b s words o l x k ≡ refused (refusal_of q) → (r : RunAnswer) → r ≡ unchanged_by q x
       → evaluated_answer (call_eval b s words o l x k) ≡ some (record { answer = r; answers = o; list = l })
   unfolding call_eval unchanged evaluated_answer refused_of
-  call_refused z r e =
+  call_refused q h r e =
       let place : place_code (refusal_of q).place ≡ q.place = ap (λ (y : Refused). y.place) (refused_refusal q) in
       let number : (refusal_of q).number ≡ q.number = ap (λ (y : Refused). y.number) (refused_refusal q) in
-      rw (a.bad z, call_eval, place, number, e) refl
+      rw (h, call_eval, place, number, e) refl
 
-  module _ (z : q.number ≡ 0) (p : List ℕ) (ep : p ≡ sets o 0 (replicate (length o) 0)) (e : List ℕ) (ee : e ≡ sets l 0 (replicate (length l) 0)) where
+  module _ (i : Admitted b s words (length o) (length l) x k) (p : List ℕ) (ep : p ≡ sets o 0 (replicate (length o) 0)) (e : List ℕ) (ee : e ≡ sets l 0 (replicate (length l) 0)) where
     clear_long : length p ≡ length o
     clear_long = ap length ep ∙ length-sets o 0 (replicate (length o) 0)
 
@@ -285,7 +285,7 @@ module _ (b s words o l : List ℕ) (x : Raw) (k : ℕ) (q : Refused) (a : Admit
 
     pub call_cleared : ClearedAnswers b s words p e x k
     call_cleared = record {
-      input = rw (clear_long, list_long) (a.good z);
+      input = rw (clear_long, list_long) i;
       zeros = ep ∙ all_zero o ∙ ap (λ (n : ℕ). replicate {A = ℕ} n 0) (sym clear_long);
       unlisted = ee ∙ all_zero l ∙ ap (λ (n : ℕ). replicate {A = ℕ} n 0) (sym list_long);
     }
@@ -294,5 +294,4 @@ module _ (b s words o l : List ℕ) (x : Raw) (k : ℕ) (q : Refused) (a : Admit
         → evaluated_answer (call_eval b s words o l x k) ≡ some (record { answer = r; answers = o'; list = l' })
     unfolding call_eval
     call_runs o' l' r h =
-        let i = a.good z in
         rw (admitted_runs b s words o l x k i, call_eval, ← clear_long, ← list_long) (h i.holds.items i.tree i.holds.read i.node)

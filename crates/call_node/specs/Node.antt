@@ -1,5 +1,6 @@
 -- What the evaluation of one node asks for, and what it hands back.
-use Rattle.std.specs.Prelude.{List, ◌≡◌, ℕ, ◌≤◌, length, replicate}
+use Rattle.std.specs.Prelude.{List, ◌≡◌, ℕ, ◌≤◌, ◌<◌, length, replicate}
+use Rattle.std.specs.Prelude.{Result, Ok, Err}
 use Rattle.std.proofs.Math.Option.{Option, some, none}
 use Rattle.rules.specs.Outcome.{Outcome, ok, refused, fault}
 use Rattle.rules.specs.Codes.{place_code}
@@ -11,7 +12,9 @@ use Rattle.rules.specs.Split.{Item}
 use Rattle.rules.specs.Eval.{eval}
 use Rattle.rules.specs.State.{field_mark}
 use Rattle.rules.specs.Calls.{Evaluated, from_raw, items_in, state_in, eval_in, evaluated}
+use Rattle.rules.specs.Reported.{place_told, told}
 use Rattle.rules.specs.declared.Refused.{Refused}
+use Rattle.rules.specs.declared.RefusedAt.{RefusedAt}
 use Rattle.rules.specs.declared.State.{State as Raw}
 use Rattle.eval_error.specs.Refusals.{refusal_of}
 use Rattle.state_marks.specs.Lent.{raw_of}
@@ -69,10 +72,10 @@ pub record Admitted (b s words : List ℕ) (na nl : ℕ) (x : Raw) (k : ℕ) : T
   pub tree : Tree
   pub node : tree_at b k ≡ some tree
 
--- what the tests tell: number 0, or the refusal
-pub record Admits (b s words answers list : List ℕ) (x : Raw) (k : ℕ) (r : Refused) : Type 0 where
-  pub good : r.number ≡ 0 → Admitted b s words (length answers) (length list) x k
-  pub bad : (r.number ≡ 0 → ⊥) → eval_in b s words answers list x k ≡ refused (refusal_of r)
+-- what the tests tell: all passed, or the refusal, whose place plus 1 fits in a word
+abbrev pub Admits : {A : Type 0} → List ℕ → List ℕ → List ℕ → List ℕ → List ℕ → Raw → ℕ → Result A RefusedAt → Type 0
+Admits b s words answers list x k (Ok a) = Admitted b s words (length answers) (length list) x k
+Admits b s words answers list x k (Err e) = (eval_in b s words answers list x k ≡ refused (refusal_of (told e))) × (place_told e.place < 4294967296)
 
 -- and an answer slice and a list that are all 0
 pub record ClearedAnswers (b s words o l : List ℕ) (x : Raw) (k : ℕ) : Type 0 where

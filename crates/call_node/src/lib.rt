@@ -1,10 +1,11 @@
 // `eval` of one node of a form on a state, as an entry point.
 #![tactic(auto)]
 
-ghost use Rattle.std.specs.Prelude.{◌≡◌, true, ◌≤◌, length};
+ghost use Rattle.std.specs.Prelude.{◌≡◌, true, ◌≤◌, ◌<◌, ◌^◌, length};
 ghost use Rattle.std.proofs.Math.Option.{some};
 ghost use Rattle.rules.specs.Sheet.{sheet_area, sheet_fault};
 ghost use Rattle.rules.specs.Form.{read_form};
+ghost use Rattle.rules.specs.Reported.{place_told, told};
 ghost use Rattle.rules.specs.Accept.{length_good, field_of};
 ghost use Rattle.rules.specs.State.{field_mark};
 ghost use Rattle.rules.specs.Calls.{call_eval};
@@ -13,15 +14,13 @@ ghost use Rattle.take_table.specs.Known.{Known};
 ghost use Rattle.call_table.specs.Given.{Holds};
 ghost use Rattle.call_node.specs.Node.{evaluated_answer, unchanged_by, answer_of, Admits, ClearedAnswers, Runs};
 
-use call_answers::{SHORT_LIST, SHORT_SLICE};
 use eval_list::Field;
 use eval_missing::{MISSING, MISSING_WORDS};
-use eval_told::Ran;
-use rules::{Refused, State};
+use eval_told::{Line, Ran};
+use rules::{Refusal, RefusedAt, State};
 use run_fields::{ANSWER_WORDS, RunAnswer};
 use split_arg::ITEM_WORDS;
 use take_table::TABLE_WORDS;
-use wire::wide;
 
 // Which nodes each of the items matches.
 fn known_of(form: &[u8], sheet: &[u8], items: &[u32], count: usize) -> [u64; TABLE_WORDS]
@@ -34,13 +33,7 @@ fn known_of(form: &[u8], sheet: &[u8], items: &[u32], count: usize) -> [u64; TAB
     known
 }
 
-fn refused(number: u32) -> Refused
-    ensures { result ≡ record { number = number; place = 0 } }
-{
-    Refused { number, place: 0 }
-}
-
-// Refusals 1 to 7, then 14, 30, 29 and 28, in this order; number 0 if there is none.
+// Refusals 1 to 7, then 14, 30, 29 and 28, in this order.
 fn admit(
     form: &[u8],
     sheet: &[u8],
@@ -49,38 +42,28 @@ fn admit(
     list: &[u32],
     s: State,
     node: usize,
-) -> Refused
+) -> Result<(), RefusedAt>
     ensures { Admits form.now sheet.now items.now answers.now list.now s node result }
 {
-    let checked = form_check::check(form);
-    if checked.number != 0 {
-        return checked;
-    }
-    let fault = split_sheet::check(sheet);
-    if fault != 0 {
-        return refused(fault);
-    }
-    if items.len() < ITEM_WORDS {
-        return refused(SHORT_SLICE);
-    }
-    if answers.len() < ANSWER_WORDS {
-        return refused(SHORT_SLICE);
+    form_check::check(form)?;
+    split_sheet::check(sheet)?;
+    if items.len() < ITEM_WORDS || answers.len() < ANSWER_WORDS {
+        return Err(RefusedAt::from(Refusal::ShortSlice));
     }
     if list.len() < MISSING_WORDS {
-        return refused(SHORT_LIST);
+        return Err(RefusedAt::from(Refusal::ShortList));
     }
-    let held = call_table::check(sheet, items);
-    if !held.good {
-        return refused(30);
-    }
+    let Some(count) = call_table::check(sheet, items) else {
+        return Err(RefusedAt::from(Refusal::BadItem));
+    };
     let fields = form_layout::field_count(form);
-    if !state_marks::good(s, held.count, fields) {
-        return refused(29);
+    if !state_marks::good(s, count, fields) {
+        return Err(RefusedAt::from(Refusal::BadState));
     }
     if form_layout::node_count(form) <= node {
-        return refused(28);
+        return Err(RefusedAt::from(Refusal::NotThere));
     }
-    refused(0)
+    Ok(())
 }
 
 // The mark of what a node uses: that of the field whose tree has it.
@@ -88,28 +71,27 @@ fn node_mark(form: &[u8], node: usize) -> u16
     requires { length_good form.now ≡ true }
     ensures { result ≡ field_mark (field_of (read_form form.now) node) }
 {
-    let field = form_fields::field_of(form, node);
-    state_marks::field_mark(field)
+    state_marks::field_mark(form_fields::field_of(form, node))
 }
 
 fn answered(ran: Ran, marks: [u16; 256]) -> RunAnswer
     ensures { result ≡ answer_of ran marks }
 {
-    let left = ran.numbers;
-    let state = state_marks::joined(marks, left);
     RunAnswer {
         number: ran.number,
         place: ran.place,
         tries: ran.tries,
         words: ran.len,
-        state,
+        state: state_marks::joined(marks, ran.numbers),
     }
 }
 
 // Refused before the run: nothing is tried, and the state is the one that was given.
-fn unchanged(r: Refused, s: State) -> RunAnswer
-    ensures { result ≡ unchanged_by r s }
+fn unchanged(e: RefusedAt, s: State) -> RunAnswer
+    requires { place_told e.place < 2 ^ 32 }
+    ensures { result ≡ unchanged_by (told e) s }
 {
+    let r = e.told();
     RunAnswer {
         number: r.number,
         place: r.place,
@@ -133,17 +115,20 @@ fn run_admitted(
     requires { ClearedAnswers form.now sheet.now items.now answers.old list.old s node }
     ensures { Runs form.now sheet.now items.now (length answers.old) (length list.old) s node answers.new list.new result }
 {
-    let known = known_of(form, sheet, items, wide(s.count));
+    let known = known_of(form, sheet, items, s.count as usize);
     let mut marks = s.marks;
     let p = state_marks::numbers_of(s);
     let field = Field { node, at: 0 };
     let mark = node_mark(form, node);
-    let ran = run_fields::run_value(
-        form, &known, sheet, items, &mut marks, p, field, answers, mark,
-    );
+    let line = Line {
+        form,
+        known: &known,
+        sheet,
+        items,
+    };
+    let ran = run_fields::run_value(&line, &mut marks, p, field, answers, mark);
     if ran.number == MISSING {
-        let left = ran.numbers;
-        eval_missing::list_missing(form, &known, sheet, items, &marks, left, node, list, mark);
+        eval_missing::list_missing(&line, &marks, ran.numbers, node, list, mark);
         return answered(ran, marks);
     }
     answered(ran, marks)
@@ -162,9 +147,8 @@ pub fn eval(
 ) -> RunAnswer
     ensures { evaluated_answer (call_eval form.now sheet.now items.now answers.old list.old s node) ≡ some (record { answer = result; answers = answers.new; list = list.new }) }
 {
-    let tested = admit(form, sheet, items, answers, list, s, node);
-    if tested.number != 0 {
-        return unchanged(tested, s);
+    if let Err(e) = admit(form, sheet, items, answers, list, s, node) {
+        return unchanged(e, s);
     }
     wire::fill(answers, 0, answers.len(), 0);
     wire::fill(list, 0, list.len(), 0);

@@ -1,5 +1,5 @@
 -- The search for a place that was used, the one or two that there are, and what is handed back of a take.
-use mathlib.Core.Bool.{Bool, true, false, not, ◌&&◌}
+use mathlib.Core.Bool.{Bool, true, false, ◌&&◌}
 use mathlib.Core.List.{List, [], ◌∷◌}
 use mathlib.Core.Logic.{◌⊎◌, inl, inr}
 use mathlib.Core.Option.{some, none, some-injective, none-ne-some}
@@ -7,7 +7,6 @@ use mathlib.Core.Path.{◌≡◌, refl, sym, ap, ◌∙◌, subst}
 use Prim.Native.Nat.{ℕ, zero, suc, ◌+◌, ◌-◌, ◌≤◌, ◌<◌}
 use native.Mathlib.Numerals.{add-one}
 use native.Mathlib.Omega.{arith}
-use borrow.Author.Tests.{not-true, not-false}
 use lib.ListN.{length, get_or, drop, drop_of_length-le}
 use lib.Seq.{drop-cons}
 use Rattle.std.specs.Prelude.{if◌then◌else◌}
@@ -35,11 +34,11 @@ abbrev pub rest : List ℕ → List ℕ → ℕ → List ℕ
 rest b a i = used_from i (drop i b) (drop i a)
 
 -- by the mark before, and then by the mark after
-pub not_present : (m u : ℕ) (x : Bool) → x ≡ present m → not x ≡ true → false ≡ (present m && parsed u)
-not_present m u x e h = rw (← e, not-true x h)
+pub not_present : (m u : ℕ) (x : Bool) → x ≡ present m → x ≡ false → x ≡ (present m && parsed u)
+not_present m u x e h = h ∙ rw (← e, h)
 
-pub then_parsed : (m u : ℕ) (x y : Bool) → x ≡ present m → not x ≡ false → y ≡ parsed u → y ≡ (present m && parsed u)
-then_parsed m u x y e h f = rw (← e, not-false x h, ← f)
+pub then_parsed : (m u : ℕ) (x y : Bool) → x ≡ present m → x ≡ true → y ≡ parsed u → y ≡ (present m && parsed u)
+then_parsed m u x y e h f = rw (← e, h, ← f)
 
 -- no place from the first to this one
 pub record Looking (b a : List ℕ) (from i : ℕ) : Type 0 where
@@ -78,11 +77,9 @@ module _ (b a : List ℕ) (from i : ℕ) (l : Looking b a from i) where
   unfolding first_or
   found_here h x e g = sym (ap (first_or 256) (rest_hit b a l.marks i h (sym e ∙ g))) ∙ l.same
 
-  pub found_none : 256 ≤ i → i ≡ first_or 256 (rest b a from)
+  pub found_none : 256 ≤ i → 256 ≡ first_or 256 (rest b a from)
   unfolding first_or
-  found_none h =
-      let z : i ≡ 256 = omega (arith, l.within) in
-      z ∙ sym (ap (first_or 256) (rest_end b a l.marks i h)) ∙ l.same
+  found_none h = sym (ap (first_or 256) (rest_end b a l.marks i h)) ∙ l.same
 
 -- ---- what a search found
 module _ (b a : List ℕ) (marks : Marks b a) where

@@ -45,10 +45,7 @@ fn is_used(before: &[u16; 256], after: &[u16; 256], i: usize) -> bool
     requires { i < 256 }
     ensures { result ≡ (present (get_or before.now i 0) && parsed (get_or after.now i 0)) }
 {
-    if !is_present(before[i]) {
-        return false;
-    }
-    is_parsed(after[i])
+    is_present(before[i]) && is_parsed(after[i])
 }
 
 // The lowest such place from one on; 256 if there is none.
@@ -56,14 +53,12 @@ fn next_used(before: &[u16; 256], after: &[u16; 256], from: usize) -> usize
     requires { Marks before.now after.now × (from ≤ 256) }
     ensures { (result ≡ first_or 256 (used_from from (drop from before.now) (drop from after.now))) × (result ≤ 256) }
 {
-    let mut i = from;
-    while i < MARKS {
+    for i in from..MARKS {
         if is_used(before, after, i) {
             return i;
         }
-        i += 1;
     }
-    i
+    MARKS
 }
 
 // The places used between the marks before and those after.
@@ -113,6 +108,8 @@ fn shown(s: State, taken: StateAnswer) -> PreviewAnswer
         state: left,
     }
 }
+
+// The four previews. One generic function would be no plainer: each passes its take the arguments that this take has.
 
 // What `take_flag` would do.
 pub fn preview_flag(

@@ -3,11 +3,12 @@ use mathlib.Core.Path.{◌≡◌, refl, sym, ap, ◌∙◌}
 use mathlib.Core.Bool.{Bool, true, false, not, ◌&&◌}
 use mathlib.Core.Logic.{◌⊎◌, inl, inr, ⊎_elim}
 use mathlib.Core.Option.{some, none}
-use Prim.Native.Nat.{ℕ, suc, ◌≤◌, ◌<◌}
+use Prim.Native.Nat.{ℕ, suc, ◌+◌, ◌≤◌, ◌<◌}
+use native.Mathlib.Numerals.{add-one}
 use native.Mathlib.Omega.{arith}
 use lib.Dec.{leb, ltb}
 use borrow.Author.Tests.{lt-ltb, le-ltb, le-leb, lt-leb, ltb-true, ltb-false, not-true, not-false}
-use Rattle.std.specs.Prelude.{if◌then◌else◌}
+use Rattle.std.specs.Prelude.{if◌then◌else◌, Option, Some, None}
 use Rattle.rules.specs.Outcome.{Outcome, ok, refused, refuse, ◌>>=◌}
 use Rattle.rules.specs.State.{State, field_mark, remove, set_scope, save_conflicts, pick_winner, adjacent_scope, adjacently_available_from}
 use Rattle.rules.specs.Take.{Took, took}
@@ -17,11 +18,8 @@ use Rattle.rules.specs.declared.State.{State as Raw}
 use Rattle.rules.proofs.GivenLaws.{no_field, field_there}
 use Rattle.state_marks.specs.Lent.{FineState, pick_of}
 use Rattle.state_marks.specs.declared.Picked.{Picked}
-use Rattle.rules.proofs.CodeLaws.{code_place}
 use Rattle.state_value.specs.Options.{handed_over, range_of, scope_of}
 use Rattle.state_value.specs.declared.Scope.{Scope}
-use Rattle.state_value.specs.declared.ScopeOption.{ScopeOption}
-use Rattle.state_value.specs.declared.ScopeOption.TheVariants as scope
 use Rattle.state_value.proofs.Given.{ok_handed, given_fine, given_count}
 use Rattle.call_answers.specs.Answers.{Coded, coded, yes_no, yes_code, pick_code, scope_code, scope_or_none, coded_or0, answer_with, state_with, answer_of, state_answer_of}
 use Rattle.call_answers.specs.declared.Answer.{Answer}
@@ -233,11 +231,20 @@ module _ (x y : Raw) (b : Bool) (g : Tested (both_in x y) y b) where
     adjacent_bad r f = refused_answer scope_or_none x _ 29 (both_bad bad _) r f
 
   module _ (good : not b ≡ false) where
-    pub pick_done : (p : Picked) (a : ℕ) (r : Answer) → pick_of p ≡ pick_winner (from_raw x) (from_raw y) → a ≡ yes_no p.first
-        → r ≡ answer_with 0 0 (coded a p.place 0) → answer_of pick_code (call_pick_winner x y) ≡ some r
-    unfolding call_pick_winner pick_of ◌>>=◌
-    pick_done p a r d h f =
-        accepted_answer pick_code x _ (pick_of p) (from_raw x) (rw ((both_good good).0, (both_good good).1, d)) r (rw (code_place p.place, ← h) f)
+    module _ (p : Picked) (d : pick_of p ≡ pick_winner (from_raw x) (from_raw y)) (r : Answer) where
+      pick_done : r ≡ answer_with 0 0 (pick_code (pick_of p)) → answer_of pick_code (call_pick_winner x y) ≡ some r
+      unfolding call_pick_winner ◌>>=◌
+      pick_done f = accepted_answer pick_code x _ (pick_of p) (from_raw x) (rw ((both_good good).0, (both_good good).1, d)) r f
+
+      pub pick_some : (a i : ℕ) → a ≡ yes_no p.first → p.place ≡ Some i → r ≡ answer_with 0 0 (coded a (i + 1) 0)
+          → answer_of pick_code (call_pick_winner x y) ≡ some r
+      unfolding pick_of
+      pick_some a i h k f = pick_done (f ∙ rw (h, k, add-one i))
+
+      pub pick_none : (a : ℕ) → a ≡ yes_no p.first → p.place ≡ None → r ≡ answer_with 0 0 (coded a 0 0)
+          → answer_of pick_code (call_pick_winner x y) ≡ some r
+      unfolding pick_of
+      pick_none a h k f = pick_done (f ∙ rw (h, k))
 
     module _ (n w : ℕ) (e : n ≡ x.count) (r : StateAnswer) where
       pub conflicts_past : n ≤ w → r ≡ state_with 28 0 (coded 0 0 0) x → state_answer_of yes_code (call_save_conflicts x y w) ≡ some r
@@ -252,14 +259,14 @@ module _ (x y : Raw) (b : Bool) (g : Tested (both_in x y) y b) where
           accepted_state yes_code x _ true (save_conflicts (from_raw x) (from_raw y) w)
           (rw ((both_good good).0, (both_good good).1, place_there x.count w (omega arith))) r (rw (← d) f)
 
-    module _ (o : ScopeOption) (r : Answer) (d : adjacent_scope (from_raw x) (from_raw y) ≡ ok (scope_of o)) where
+    module _ (o : Option Scope) (r : Answer) (d : adjacent_scope (from_raw x) (from_raw y) ≡ ok (scope_of o)) where
       adjacent_done : r ≡ answer_with 0 0 (scope_or_none (scope_of o)) → answer_of scope_or_none (call_adjacent_scope x y) ≡ some r
       unfolding call_adjacent_scope ◌>>=◌
       adjacent_done f =
           accepted_answer scope_or_none x _ (scope_of o) (from_raw x) (rw ((both_good good).0, (both_good good).1, d)) r f
 
-      pub adjacent_some : (i j : ℕ) → o ≡ scope.Some i j → r ≡ answer_with 0 0 (coded 1 i j) → answer_of scope_or_none (call_adjacent_scope x y) ≡ some r
-      adjacent_some i j k f = adjacent_done (f ∙ ap (λ (q : ScopeOption). answer_with 0 0 (scope_or_none (scope_of q))) (sym k))
+      pub adjacent_some : (s : Scope) → o ≡ Some s → r ≡ answer_with 0 0 (coded 1 s.start s.end) → answer_of scope_or_none (call_adjacent_scope x y) ≡ some r
+      adjacent_some s k f = adjacent_done (f ∙ ap (λ (q : Option Scope). answer_with 0 0 (scope_or_none (scope_of q))) (sym k))
 
-      pub adjacent_none : o ≡ scope.None → r ≡ answer_with 0 0 (coded 0 0 0) → answer_of scope_or_none (call_adjacent_scope x y) ≡ some r
-      adjacent_none k f = adjacent_done (f ∙ ap (λ (q : ScopeOption). answer_with 0 0 (scope_or_none (scope_of q))) (sym k))
+      pub adjacent_none : o ≡ None → r ≡ answer_with 0 0 (coded 0 0 0) → answer_of scope_or_none (call_adjacent_scope x y) ≡ some r
+      adjacent_none k f = adjacent_done (f ∙ ap (λ (q : Option Scope). answer_with 0 0 (scope_or_none (scope_of q))) (sym k))

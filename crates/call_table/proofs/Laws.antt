@@ -1,13 +1,13 @@
 -- What a slice holds, and what a caller has of the input that was given.
 use mathlib.Core.Path.{◌≡◌, refl, sym, ap, subst, ◌∙◌}
-use mathlib.Core.Bool.{Bool, true, false, not, false≢true}
+use mathlib.Core.Bool.{Bool, true, false, false≢true}
 use mathlib.Core.List.{List, [], ◌∷◌}
 use mathlib.Core.Logic.{inl}
 use mathlib.Core.Option.{Option, some, none}
 use Prim.Native.Nat.{ℕ, zero, suc, ◌-◌, ◌*◌, ◌/◌, ◌≤◌, ◌<◌}
 use native.Mathlib.Omega.{arith}
 use lib.ListN.{length, drop, get_elem?, length-drop}
-use borrow.Author.Tests.{eq-eqb, ne_eqb, le-leb, lt-leb, not-true, not-false}
+use borrow.Author.Tests.{eq-eqb, ne_eqb, le-leb, lt-leb}
 use Rattle.std.specs.Prelude.{if◌then◌else◌}
 use Rattle.wire.specs.Wire.{area_start, area as wire_area}
 use Rattle.wire.specs.Laws.{good_table, start_most}
@@ -19,6 +19,11 @@ use Rattle.rules.specs.State.{State}
 use Rattle.rules.specs.Tree.{zeros}
 use Rattle.rules.specs.Given.{room_in}
 use Rattle.rules.specs.Calls.{item_from, records_in, whole_records, trimmed, items_from, items_in, sheet_in, slice_in, from_raw, state_in}
+use Rattle.std.specs.Prelude.{Option as CodeOption, Some, None, Err}
+use Rattle.std.specs.Option.{ok_or}
+use Rattle.rules.specs.Reported.{number_of}
+use Rattle.rules.specs.declared.Refusal.{Refusal as Name}
+use Rattle.rules.specs.declared.Refusal.TheVariants.{BadItem}
 use Rattle.rules.specs.declared.State.{State as Raw}
 use Rattle.rules.proofs.Acceptance.{bind_some, lookup_some}
 use Rattle.rules.proofs.Formats.{good_sheet}
@@ -26,8 +31,6 @@ use Rattle.split_arg.specs.Items.{record_at}
 use Rattle.state_marks.proofs.Laws.{in_kept}
 use Rattle.take_search.specs.Items.{Table}
 use Rattle.take_search.proofs.Tables.{table_in_lem}
-use Rattle.call_table.specs.declared.Checked.{Checked}
-use Rattle.call_table.specs.declared.Input.{Input}
 use Rattle.call_table.specs.Given.{Trims, Holds, Checks, items_given, HasTable, Gives, HasState, GivesState}
 
 -- ---- the area
@@ -108,56 +111,28 @@ module _ (area words : List ℕ) (n : ℕ) (t : Trims words n) where
         go true = refl
         go false = refl
 
-    pub checks_tail : b ≡ false → Checks area words (record { good = b; count = n })
-    checks_tail h = record {
-      good = λ e. absurd (false≢true (sym h ∙ e));
-      bad = λ _. read_as none (found_as false (sym z ∙ h) (items_from area (records_in n words)) refl);
-    }
-
-    pub checks : b ≡ true → (c : Bool) → c ≡ is_some (items_from area (records_in n words)) → Checks area words (record { good = c; count = n })
-    checks h c e = record { good = λ k. holds h (sym e ∙ k); bad = λ k. holds_not (sym e ∙ k) }
+    -- the words behind the records are not all 0
+    pub checks_tail : b ≡ false → items_in area words ≡ refused (refuse 30 none)
+    checks_tail h = read_as none (found_as false (sym z ∙ h) (items_from area (records_in n words)) refl)
 
 -- ---- the input, in the order of its tests
 
 module _ (s words : List ℕ) where
-  given_fault : (sheet_fault s ≡ 0 → ⊥) → items_given s words ≡ refused (refuse (sheet_fault s) none)
+  pub given_fault : (sheet_fault s ≡ 0 → ⊥) → items_given s words ≡ refused (refuse (sheet_fault s) none)
   unfolding items_given sheet_in ◌>>=◌
   given_fault h = rw (ne_eqb (sheet_fault s) 0 h)
 
-  given_short : sheet_fault s ≡ 0 → length words < 1792 → items_given s words ≡ refused (refuse 7 none)
+  pub given_short : sheet_fault s ≡ 0 → length words < 1792 → items_given s words ≡ refused (refuse 7 none)
   unfolding items_given sheet_in slice_in room_in ◌>>=◌
   given_short e h = rw (eq-eqb (sheet_fault s) 0 e, lt-leb 1792 (length words) h)
 
-  given_long : sheet_fault s ≡ 0 → 1792 ≤ length words → items_given s words ≡ items_in (sheet_area s) words
+  pub given_long : sheet_fault s ≡ 0 → 1792 ≤ length words → items_given s words ≡ items_in (sheet_area s) words
   unfolding items_given sheet_in slice_in room_in ◌>>=◌
   given_long e h = rw (eq-eqb (sheet_fault s) 0 e, le-leb 1792 (length words) h)
 
-  module _ (f : ℕ) (ef : f ≡ sheet_fault s) where
-    pub gives_fault : (f ≡ 0 → ⊥) → Gives s words (record { number = f; count = 0 })
-    gives_fault h = record {
-      good = λ e. absurd (h e);
-      bad = λ _. rw ef (given_fault (λ e. h (ef ∙ e)));
-      nothing = λ _. refl;
-    }
-
-    module _ (e : f ≡ 0) where
-      pub gives_short : length words < 1792 → Gives s words (record { number = 7; count = 0 })
-      gives_short h = record { good = λ z. absurd (omega arith); bad = λ _. given_short (sym ef ∙ e) h; nothing = λ _. refl }
-
-      module _ (long : 1792 ≤ length words) (r : Checked) (c : Checks (sheet_area s) words r) where
-        pub gives_bad : not r.good ≡ true → Gives s words (record { number = 30; count = 0 })
-        gives_bad h = record {
-          good = λ z. absurd (omega arith);
-          bad = λ _. given_long (sym ef ∙ e) long ∙ c.bad (not-true r.good h);
-          nothing = λ _. refl;
-        }
-
-        pub gives_good : not r.good ≡ false → Gives s words (record { number = 0; count = r.count })
-        gives_good h = record {
-          good = λ _. record { made = sym ef ∙ e; room = long; holds = c.good (not-false r.good h) };
-          bad = λ z. absurd (z refl);
-          nothing = λ z. absurd (z refl);
-        }
+  pub given_checked : sheet_fault s ≡ 0 → 1792 ≤ length words → (o : CodeOption ℕ) → Checks (sheet_area s) words o → Gives s words (ok_or o BadItem)
+  given_checked e h (Some n) c = record { made = e; room = h; holds = c }
+  given_checked e h None c = given_long e h ∙ c
 
   -- the items that were read
   pub items_given_lem : (n : ℕ) (t : HasTable s words n) → items_given s words ≡ ok t.holds.items
@@ -173,32 +148,20 @@ bind_refused : {A B : Type 0} (o : Outcome A) (f : A → Outcome B) {x : Refusal
 unfolding ◌>>=◌
 bind_refused o f e = rw e
 
-module _ (fields : ℕ) (s words : List ℕ) (x : Raw) (r : Input) (g : Gives s words r) where
-  pub state_fault : (r.number ≡ 0 → ⊥) → GivesState fields s words x r.number
-  state_fault h = record { good = λ e. absurd (h e); bad = λ _. bind_refused (items_given s words) _ (g.bad h) }
+module _ (fields : ℕ) (s words : List ℕ) (x : Raw) where
+  pub state_fault : (e : Name) → Gives s words (Err e) → GivesState {A = Unit {0}} fields s words x (Err e)
+  state_fault e g = bind_refused (items_given s words) _ g
 
-  module _ (e : r.number ≡ 0) (b : Bool) (said : state_in fields r.count x ≡ (if b then ok (from_raw x) else refused (refuse 29 none))) where
-    table : HasTable s words r.count
-    table = g.good e
+  module _ (n : ℕ) (table : HasTable s words n) where
+    pub state_bad : state_in fields n x ≡ refused (refuse 29 none) → (items_given s words >>= λ is. state_in fields (length is) x) ≡ refused (refuse 29 none)
+    state_bad h = bind_ok (items_given s words) _ (items_given_lem s words n table) ∙ ap (λ (m : ℕ). state_in fields m x) table.holds.count ∙ h
 
-    pub state_bad : not b ≡ true → GivesState fields s words x 29
-    state_bad h = record {
-      good = λ z. absurd (omega arith);
-      bad = λ _.
-          bind_ok (items_given s words) _ (items_given_lem s words r.count table)
-          ∙ ap (λ (n : ℕ). state_in fields n x) table.holds.count ∙ said ∙ rw (not-true b h);
-    }
-
-    pub state_good_lem : not b ≡ false → GivesState fields s words x 0
+    pub state_good_lem : state_in fields n x ≡ ok (from_raw x) → HasState fields s words x
     state_good_lem h =
-        let k : state_in fields r.count x ≡ ok (from_raw x) = said ∙ rw (not-false b h) in
-        let z : r.count ≡ x.count = sym (in_kept fields r.count x k).count in
+        let z : n ≡ x.count = sym (in_kept fields n x h).count in
         record {
-          good = λ _. record {
-            table = subst (HasTable s words) z table;
-            good = subst (λ (n : ℕ). state_in fields n x ≡ ok (from_raw x)) z k;
-          };
-          bad = λ i. absurd (i refl);
+          table = subst (HasTable s words) z table;
+          good = subst (λ (m : ℕ). state_in fields m x ≡ ok (from_raw x)) z h;
         }
 
 -- ---- for callers: a call on items goes on with them, or is refused
@@ -220,16 +183,17 @@ on_table_lem s words f =
     ∙ bind_bind (sheet_in s) (λ area. slice_in 1792 words >>= λ l. items_in area l) f
 
 module _ {B : Type 0} (s words : List ℕ) (f : List Item → Outcome B) where
-  pub table_refused : (r : Input) → Gives s words r → (r.number ≡ 0 → ⊥) → on_table s words f ≡ refused (refuse r.number none)
-  table_refused r g h = on_table_lem s words f ∙ bind_refused (items_given s words) f (g.bad h)
+  pub table_refused : (e : Name) → Gives s words (Err e) → on_table s words f ≡ refused (refuse (number_of e) none)
+  table_refused e g = on_table_lem s words f ∙ bind_refused (items_given s words) f g
 
   pub table_given : (n : ℕ) (t : HasTable s words n) → on_table s words f ≡ f t.holds.items
   table_given n t = on_table_lem s words f ∙ bind_ok (items_given s words) f (items_given_lem s words n t)
 
 module _ {B : Type 0} (fields : ℕ) (s words : List ℕ) (x : Raw) (f : List Item → State → Outcome B) where
-  pub state_refused : (n : ℕ) → GivesState fields s words x n → (n ≡ 0 → ⊥) → on_table s words (λ is. state_in fields (length is) x >>= f is) ≡ refused (refuse n none)
+  pub state_refused : (n : ℕ) → (items_given s words >>= λ is. state_in fields (length is) x) ≡ refused (refuse n none)
+      → on_table s words (λ is. state_in fields (length is) x >>= f is) ≡ refused (refuse n none)
   unfolding ◌>>=◌
-  state_refused n g h = on_table_lem s words _ ∙ go (items_given s words) (g.bad h)
+  state_refused n g = on_table_lem s words _ ∙ go (items_given s words) g
     where
       go : (o : Outcome (List Item)) → (o >>= λ is. state_in fields (length is) x) ≡ refused (refuse n none)
           → (o >>= λ is. state_in fields (length is) x >>= f is) ≡ refused (refuse n none)

@@ -6,6 +6,7 @@ use mathlib.Core.Logic.{⊎_elim}
 use mathlib.Core.Option.{Option, some, none}
 use Prim.Native.Nat.{ℕ, zero, suc, ◌+◌, ◌-◌, ◌*◌, ◌/◌, ◌≤◌, ◌<◌}
 use native.Mathlib.Nat.{eq-or-lt_of_le, sub-zero}
+use native.Mathlib.Numerals.{add-one}
 use native.Mathlib.Omega.{arith}
 use lib.Dec.{leb, eqb}
 use lib.ListN.{length, get_or, take, drop, length-drop}
@@ -40,7 +41,7 @@ module _ (r : List ℕ) (h : length r ≡ 7) where
 
 -- ---- tests
 
-pub above : (a : ℕ) (b : Bool) → 1 < a → false ≡ (leb a 1 && b)
+pub above : (a : ℕ) (b : Bool) → 1 < a → leb a 1 ≡ (leb a 1 && b)
 above a b h = rw (lt-leb a 1 h)
 
 pub within : (a : ℕ) (b c : Bool) → a ≤ 1 → c ≡ b → c ≡ (leb a 1 && b)
@@ -217,18 +218,18 @@ module _ (words : List ℕ) (n : ℕ) (z : Trimming words n) (h : 0 < n) (t : Bo
     same = z.same ∙ ap (λ (m : ℕ). trimmed (records_in m words)) less ∙ trim_zero (n - 1) words (sym e ∙ not-false t k);
   }
 
-  pub trimming_last : not t ≡ true → Trims words n
+  pub trimming_last : not t ≡ true → Trims words (n - 1 + 1)
   trimming_last k = record {
-    within = z.within;
+    within = omega (arith, z.within);
     same = z.same ∙ ap (λ (m : ℕ). trimmed (records_in m words)) less ∙ trim_last (n - 1) words (sym e ∙ not-true t k)
-        ∙ ap (λ (m : ℕ). records_in m words) (sym less);
+        ∙ ap (λ (m : ℕ). records_in m words) (sym (add-one (n - 1)));
   }
 
-pub trimming_none : (words : List ℕ) (n : ℕ) → Trimming words n → n ≤ 0 → Trims words n
+pub trimming_none : (words : List ℕ) (n : ℕ) → Trimming words n → n ≤ 0 → Trims words 0
 unfolding trimmed records_in
 trimming_none words n z h =
     let e : n ≡ 0 = omega arith in
-    record { within = z.within; same = z.same ∙ rw e }
+    record { within = omega arith; same = z.same ∙ rw e }
 
 -- ---- each record is an item
 

@@ -9,75 +9,47 @@ ghost use Rattle.rules.specs.Calls.{item_from, items_from, records_in};
 ghost use Rattle.split_arg.specs.Items.{record_at};
 ghost use Rattle.call_table.specs.Given.{Trims, Checks, Gives, GivesState};
 
-use call_answers::{BAD_ITEM, BAD_STATE, SHORT_SLICE};
-use rules::State;
+use rules::{Refusal, State};
 use split_arg::ITEM_WORDS;
-use wire::wide;
-
-// Whether each record is well made, and then how many items there are.
-#[derive(Clone, Copy)]
-pub struct Checked {
-    pub good: bool,
-    pub count: usize,
-}
-
-// The number of a refusal, or 0 and how many items there are.
-#[derive(Clone, Copy)]
-pub struct Input {
-    pub number: u32,
-    pub count: usize,
-}
 
 // Record i, as a part of the slice.
 fn words_at(items: &[u32], i: usize) -> &[u32]
     requires { 7 * i + 7 ≤ length items.now }
     ensures { result.now ≡ record_at items.now i }
 {
-    let from = 7 * i;
-    let to = from + 7;
-    &items[from..to]
+    &items[7 * i..7 * i + 7]
 }
 
 pub fn all_zero(words: &[u32]) -> bool
     ensures { result ≡ zeros words.now }
 {
-    let mut k = 0;
-    while k < words.len() {
-        if words[k] != 0 {
-            return false;
-        }
-        k += 1;
-    }
-    true
+    words.iter().all(|w| *w == 0)
 }
 
 // Whether the words behind the last whole record are all 0.
 fn tail_good(items: &[u32]) -> bool
     ensures { result ≡ zeros (drop (7 * (length items.now / 7)) items.now) }
 {
-    let from = 7 * (items.len() / 7);
-    all_zero(&items[from..])
+    all_zero(&items[7 * (items.len() / 7)..])
 }
 
 // The whole records up to the last that is not all 0: their number.
 fn trimmed_count(items: &[u32]) -> usize
     ensures { Trims items.now result }
 {
-    let mut n = items.len() / 7;
-    while 0 < n {
-        if !all_zero(words_at(items, n - 1)) {
-            return n;
+    for i in (0..items.len() / 7).rev() {
+        if !all_zero(words_at(items, i)) {
+            return i + 1;
         }
-        n -= 1;
     }
-    n
+    0
 }
 
 // Whether a part lies in an area. The sum is taken wide.
 fn part_good(offset: u32, size: u32, area: usize) -> bool
     ensures { result ≡ leb (offset + size) area }
 {
-    wide(offset) + wide(size) <= area
+    offset as usize + size as usize <= area
 }
 
 // A Short has no name.
@@ -85,10 +57,7 @@ fn short_good(r: &[u32]) -> bool
     requires { length r.now ≡ 7 }
     ensures { result ≡ (leb (get_or r.now 1 0) 1 && zeros (get_or r.now 3 0 ∷ get_or r.now 4 0 ∷ [])) }
 {
-    if 1 < r[1] {
-        return false;
-    }
-    all_zero(&r[3..5])
+    r[1] <= 1 && all_zero(&r[3..5])
 }
 
 // A Long has no character, and its name lies in the area.
@@ -96,13 +65,7 @@ fn long_good(r: &[u32], area: usize) -> bool
     requires { length r.now ≡ 7 }
     ensures { result ≡ ((leb (get_or r.now 1 0) 1 && zeros (get_or r.now 2 0 ∷ [])) && leb (get_or r.now 3 0 + get_or r.now 4 0) area) }
 {
-    if 1 < r[1] {
-        return false;
-    }
-    if r[2] != 0 {
-        return false;
-    }
-    part_good(r[3], r[4], area)
+    r[1] <= 1 && r[2] == 0 && part_good(r[3], r[4], area)
 }
 
 // Whether a record is an item over an area of this length.
@@ -126,67 +89,45 @@ fn records_good(items: &[u32], n: usize, area: usize) -> bool
     requires { 7 * n ≤ length items.now }
     ensures { (bytes : List ℕ) → length bytes ≡ area → result ≡ is_some (items_from bytes (records_in n items.now)) }
 {
-    let mut i = 0;
-    while i < n {
+    for i in 0..n {
         if !record_good(words_at(items, i), area) {
             return false;
         }
-        i += 1;
     }
     true
 }
 
-// Refusal 30: what the slice holds, over the sheet's area.
-pub fn check(sheet: &[u8], items: &[u32]) -> Checked
+// How many items the slice holds over the sheet's area, if each record is well made.
+pub fn check(sheet: &[u8], items: &[u32]) -> Option<usize>
     requires { sheet_fault sheet.now ≡ 0 }
     ensures { Checks (sheet_area sheet.now) items.now result }
 {
     let area = sheet.len() - wire::area_start(2, split_sheet::count(sheet));
     let count = trimmed_count(items);
-    let good = tail_good(items) && records_good(items, count, area);
-    Checked { good, count }
+    if tail_good(items) && records_good(items, count, area) {
+        return Some(count);
+    }
+    None
 }
 
-// Refusals 5, 6, 7 and 30, in the order of the calls.
-pub fn given(sheet: &[u8], items: &[u32]) -> Input
+// How many items there are, or refusals 5, 6, 7 and 30, in the order of the calls.
+pub fn given(sheet: &[u8], items: &[u32]) -> Result<usize, Refusal>
     ensures { Gives sheet.now items.now result }
 {
-    let fault = split_sheet::check(sheet);
-    if fault != 0 {
-        return Input {
-            number: fault,
-            count: 0,
-        };
-    }
+    split_sheet::check(sheet)?;
     if items.len() < ITEM_WORDS {
-        return Input {
-            number: SHORT_SLICE,
-            count: 0,
-        };
+        return Err(Refusal::ShortSlice);
     }
-    let c = check(sheet, items);
-    if !c.good {
-        return Input {
-            number: BAD_ITEM,
-            count: 0,
-        };
-    }
-    Input {
-        number: 0,
-        count: c.count,
-    }
+    check(sheet, items).ok_or(Refusal::BadItem)
 }
 
-// The same, and then 29, for a state over these items, used by fields below `fields`: the number, or 0.
-pub fn given_state(sheet: &[u8], items: &[u32], s: State, fields: usize) -> u32
+// The same, and then 29, for a state over these items, used by fields below `fields`.
+pub fn given_state(sheet: &[u8], items: &[u32], s: State, fields: usize) -> Result<(), Refusal>
     ensures { GivesState fields sheet.now items.now s result }
 {
-    let g = given(sheet, items);
-    if g.number != 0 {
-        return g.number;
+    let count = given(sheet, items)?;
+    if !state_marks::good(s, count, fields) {
+        return Err(Refusal::BadState);
     }
-    if !state_marks::good(s, g.count, fields) {
-        return BAD_STATE;
-    }
-    0
+    Ok(())
 }

@@ -27,7 +27,10 @@ use Rattle.form_kinds.proofs.Steps.{lookup_none}
 use Rattle.form_layout.proofs.Sizes.{has_name}
 use Rattle.take_search.specs.Search.{HasItem}
 use Rattle.call_table.specs.Given.{HasTable, Gives}
-use Rattle.call_table.specs.declared.Input.{Input}
+use Rattle.std.specs.Prelude.{Err}
+use Rattle.rules.specs.Reported.{number_of}
+use Rattle.rules.specs.declared.Refusal.{Refusal as Name}
+use Rattle.rules.proofs.ReportedLaws.{numbered}
 use Rattle.call_table.proofs.Laws.{on_table, table_refused, table_given}
 use Rattle.rules.proofs.GivenLaws.{check_accepted, form_passed}
 use Rattle.form_layout.proofs.Sizes.{check_names}
@@ -115,101 +118,98 @@ module _ (b s words : List ℕ) (w : ℕ) where
       goes_on : {A : Type 0} (f : Accepted → List Item → Option A) → on_word f ≡ on_table s words (λ is. asked (f passed.0 is))
       goes_on f = form_passed b passed.0 (λ a. on_table s words (λ is. asked (f a is))) passed.1
 
-      module _ (g : Input) (given : Gives s words g) where
-        -- 6, 5, 7 and 30
-        table_stops : {A : Type 0} (f : Accepted → List Item → Option A) → (g.number ≡ 0 → ⊥) → on_word f ≡ refused (refuse g.number none)
-        table_stops f y = goes_on f ∙ table_refused s words (λ is. asked (f passed.0 is)) g given y
+      -- 6, 5, 7 and 30
+      module _ (g : Name) (given : Gives s words (Err g)) where
+        table_stops : {A : Type 0} (f : Accepted → List Item → Option A) → on_word f ≡ refused (refuse (number_of g) none)
+        table_stops f = goes_on f ∙ table_refused s words (λ is. asked (f passed.0 is)) g given
 
-        pub table_refuses : (g.number ≡ 0 → ⊥) → (x : TextPart) → x ≡ refused_part g.number 0 → PartOf b s words w x
+        pub table_refuses : (x : TextPart) → x ≡ refused_part (number_of g) 0 → PartOf b s words w x
         unfolding call_text call_part place_of
-        table_refuses y = part_refused g.number 0 y (table_stops (word_text w) y) (table_stops (word_part b s words w) y)
+        table_refuses = part_refused (number_of g) 0 (numbered g) (table_stops (word_text w)) (table_stops (word_part b s words w))
 
-        module _ (y : g.number ≡ 0) where
-          table : HasTable s words g.count
-          table = given.good y
+      module _ (count : ℕ) (table : HasTable s words count) where
+        abbrev is : List Item
+        is = table.holds.items
 
-          abbrev is : List Item
-          is = table.holds.items
+        table_gives : {A : Type 0} (f : Accepted → List Item → Option A) → on_word f ≡ asked (f passed.0 is)
+        table_gives f = goes_on f ∙ table_given s words (λ is. asked (f passed.0 is)) count table
 
-          table_gives : {A : Type 0} (f : Accepted → List Item → Option A) → on_word f ≡ asked (f passed.0 is)
-          table_gives f = goes_on f ∙ table_given s words (λ is. asked (f passed.0 is)) g.count table
+        text_asked : call_text b s words w ≡ asked (word_text w passed.0 is)
+        unfolding call_text
+        text_asked = table_gives (word_text w)
 
-          text_asked : call_text b s words w ≡ asked (word_text w passed.0 is)
-          unfolding call_text
-          text_asked = table_gives (word_text w)
+        part_asked : call_part b s words w ≡ asked (word_part b s words w passed.0 is)
+        unfolding call_part
+        part_asked = table_gives (word_part b s words w)
 
-          part_asked : call_part b s words w ≡ asked (word_part b s words w passed.0 is)
-          unfolding call_part
-          part_asked = table_gives (word_part b s words w)
+        module _ (n : ℕ) (en : n ≡ w) where
+          module _ (below : n < 256) where
+            text_by_item : call_text b s words w ≡ asked (get_elem? is n >>? λ x. some (text_of x))
+            text_by_item = text_asked ∙ rw (lt-ltb w 256 (omega arith), en)
 
-          module _ (n : ℕ) (en : n ≡ w) where
-            module _ (below : n < 256) where
-              text_by_item : call_text b s words w ≡ asked (get_elem? is n >>? λ x. some (text_of x))
-              text_by_item = text_asked ∙ rw (lt-ltb w 256 (omega arith), en)
+            part_by_item : call_part b s words w ≡ asked (get_elem? is n >>? λ _. some (item_part s words n))
+            part_by_item = part_asked ∙ rw (lt-ltb w 256 (omega arith), en)
 
-              part_by_item : call_part b s words w ≡ asked (get_elem? is n >>? λ _. some (item_part s words n))
-              part_by_item = part_asked ∙ rw (lt-ltb w 256 (omega arith), en)
+            from_sheet : (o : Option (List ℕ)) (p : Option TextPart) (x : TextPart)
+                → (get_elem? is n >>? λ x. some (text_of x)) ≡ o
+                → (get_elem? is n >>? λ _. some (item_part s words n)) ≡ p
+                → TellsText s 0 o p x
+                → PartOf b s words w x
+            unfolding source_of
+            from_sheet o p x k q t =
+                part_told_lem s 0 o p x (text_by_item ∙ ap asked k) (part_by_item ∙ ap asked q) refl (rw (lt-ltb w 256 (omega arith))) t
 
-              from_sheet : (o : Option (List ℕ)) (p : Option TextPart) (x : TextPart)
-                  → (get_elem? is n >>? λ x. some (text_of x)) ≡ o
-                  → (get_elem? is n >>? λ _. some (item_part s words n)) ≡ p
-                  → TellsText s 0 o p x
+            pub no_item : count ≤ n → (x : TextPart) → x ≡ refused_part 28 0 → PartOf b s words w x
+            unfolding ◌>>?◌
+            no_item h x q =
+                let gone : get_elem? is n ≡ none = lookup_none is n (omega (arith, table.holds.count)) in
+                from_sheet none none x (rw gone) (rw gone) (refl, q)
+
+            module _ (h : n < count) where
+              there : (y : Item) × (get_elem? is n ≡ some y)
+              there = lookup_some is n (omega (arith, table.holds.count))
+
+              here : item_from (sheet_area s) (record_at words n) ≡ some there.0
+              here = table.holds.table.at n there.0 there.1
+
+              pub has_item : HasItem s words n
+              has_item = record {
+                made = table.made;
+                room = omega (arith, table.holds.table.room, table.holds.count);
+                item = there.0;
+                here = here;
+              }
+
+              pub item_part_lem : (x : TextPart)
+                  → ((y : Item) → item_from (sheet_area s) (record_at words n) ≡ some y → FindsText s 0 (text_of y) (some (item_part s words n)) x)
                   → PartOf b s words w x
-              unfolding source_of
-              from_sheet o p x k q t =
-                  part_told_lem s 0 o p x (text_by_item ∙ ap asked k) (part_by_item ∙ ap asked q) refl (rw (lt-ltb w 256 (omega arith))) t
-
-              pub no_item : g.count ≤ n → (x : TextPart) → x ≡ refused_part 28 0 → PartOf b s words w x
               unfolding ◌>>?◌
-              no_item h x q =
-                  let gone : get_elem? is n ≡ none = lookup_none is n (omega (arith, table.holds.count)) in
-                  from_sheet none none x (rw gone) (rw gone) (refl, q)
+              item_part_lem x f =
+                  from_sheet (some (text_of there.0)) (some (item_part s words n)) x (rw there.1) (rw there.1) (f there.0 here)
 
-              module _ (h : n < g.count) where
-                there : (y : Item) × (get_elem? is n ≡ some y)
-                there = lookup_some is n (omega (arith, table.holds.count))
+          module _ (above : 256 ≤ n) where
+            from_form : (x : TextPart) → TellsText b 1 (record_text passed.0 (n - 256)) (record_part b passed.0 (n - 256)) x → PartOf b s words w x
+            unfolding source_of
+            from_form x t =
+                part_told_lem b 1 (record_text passed.0 (n - 256)) (record_part b passed.0 (n - 256)) x
+                (text_asked ∙ rw (le-ltb w 256 (omega arith), en)) (part_asked ∙ rw (le-ltb w 256 (omega arith), en)) refl (rw (le-ltb w 256 (omega arith))) t
 
-                here : item_from (sheet_area s) (record_at words n) ≡ some there.0
-                here = table.holds.table.at n there.0 there.1
+            module _ (m : ℕ) (em : m ≡ name_count b) where
+              pub no_record : m ≤ n - 256 → (x : TextPart) → x ≡ refused_part 28 0 → PartOf b s words w x
+              unfolding record_text record_part ◌>>?◌
+              no_record h x q =
+                  let gone : get_elem? passed.0.form.names (n - 256) ≡ none =
+                  rw (accepted_form b passed.0 passed.1) (lookup_none (read_form b).names (n - 256) (omega (arith, names_length b))) in
+                  let none_there : record_text passed.0 (n - 256) ≡ none = rw gone in
+                  from_form x (subst (λ (o : Option (List ℕ)). TellsText b 1 o (record_part b passed.0 (n - 256)) x) (sym none_there) (rw gone, q))
 
-                pub has_item : HasItem s words n
-                has_item = record {
-                  made = table.made;
-                  room = omega (arith, table.holds.table.room, table.holds.count);
-                  item = there.0;
-                  here = here;
-                }
+              pub has_record : n - 256 < m → HasName b (n - 256)
+              has_record h = has_name b (check_names b r e z) (n - 256) m em h
 
-                pub item_part_lem : (x : TextPart)
-                    → ((y : Item) → item_from (sheet_area s) (record_at words n) ≡ some y → FindsText s 0 (text_of y) (some (item_part s words n)) x)
-                    → PartOf b s words w x
-                unfolding ◌>>?◌
-                item_part_lem x f =
-                    from_sheet (some (text_of there.0)) (some (item_part s words n)) x (rw there.1) (rw there.1) (f there.0 here)
-
-            module _ (above : 256 ≤ n) where
-              from_form : (x : TextPart) → TellsText b 1 (record_text passed.0 (n - 256)) (record_part b passed.0 (n - 256)) x → PartOf b s words w x
-              unfolding source_of
-              from_form x t =
-                  part_told_lem b 1 (record_text passed.0 (n - 256)) (record_part b passed.0 (n - 256)) x
-                  (text_asked ∙ rw (le-ltb w 256 (omega arith), en)) (part_asked ∙ rw (le-ltb w 256 (omega arith), en)) refl (rw (le-ltb w 256 (omega arith))) t
-
-              module _ (m : ℕ) (em : m ≡ name_count b) where
-                pub no_record : m ≤ n - 256 → (x : TextPart) → x ≡ refused_part 28 0 → PartOf b s words w x
-                unfolding record_text record_part ◌>>?◌
-                no_record h x q =
-                    let gone : get_elem? passed.0.form.names (n - 256) ≡ none =
-                    rw (accepted_form b passed.0 passed.1) (lookup_none (read_form b).names (n - 256) (omega (arith, names_length b))) in
-                    let none_there : record_text passed.0 (n - 256) ≡ none = rw gone in
-                    from_form x (subst (λ (o : Option (List ℕ)). TellsText b 1 o (record_part b passed.0 (n - 256)) x) (sym none_there) (rw gone, q))
-
-                pub has_record : n - 256 < m → HasName b (n - 256)
-                has_record h = has_name b (check_names b r e z) (n - 256) m em h
-
-                pub record_part_lem : (x : TextPart)
-                    → ((a : Accepted) → a.form ≡ read_form b → TellsText b 1 (record_text a (n - 256)) (record_part b a (n - 256)) x)
-                    → PartOf b s words w x
-                record_part_lem x f = from_form x (f passed.0 (accepted_form b passed.0 passed.1))
+              pub record_part_lem : (x : TextPart)
+                  → ((a : Accepted) → a.form ≡ read_form b → TellsText b 1 (record_text a (n - 256)) (record_part b a (n - 256)) x)
+                  → PartOf b s words w x
+              record_part_lem x f = from_form x (f passed.0 (accepted_form b passed.0 passed.1))
 
 -- ---- the text itself
 module _ (b s words : List ℕ) (w : ℕ) (x : TextPart) (p : PartOf b s words w x) (from size : ℕ) (ef : from ≡ x.offset) (es : size ≡ x.length) where

@@ -1,11 +1,12 @@
 // The text of an answer word: a part of the sheet or of the form, handed back and not copied.
 #![tactic(auto)]
 
-ghost use Rattle.std.specs.Prelude.{◌≡◌};
+ghost use Rattle.std.specs.Prelude.{◌≡◌, ◌<◌, ◌^◌};
 ghost use Rattle.std.proofs.Math.Option.{some};
 ghost use Rattle.rules.specs.Accept.{Accepted};
 ghost use Rattle.rules.specs.Calls.{item_from, record_text};
 ghost use Rattle.rules.specs.Form.{read_form};
+ghost use Rattle.rules.specs.Reported.{number_of, place_told};
 ghost use Rattle.rules.specs.Sheet.{sheet_area};
 ghost use Rattle.rules.specs.Split.{Item as RulesItem};
 ghost use Rattle.rules.specs.Take.{text_of};
@@ -14,8 +15,7 @@ ghost use Rattle.form_layout.specs.Layout.{HasName};
 ghost use Rattle.take_search.specs.Search.{HasItem};
 ghost use Rattle.call_text.specs.Text.{refused_part, item_part, record_part, FindsText, TellsText, PartOf, TextOf};
 
-use call_answers::NOT_THERE;
-use wire::wide;
+use rules::{Refusal, RefusedAt};
 
 // Which slice holds the text (0 the sheet, 1 the form), and where in that slice. Refused, these three are 0. A place is
 // itself plus 1, or 0 for none.
@@ -29,12 +29,28 @@ pub struct TextPart {
     pub length: u32,
 }
 
-fn refused(number: u32, place: u32) -> TextPart
-    ensures { result ≡ refused_part number place }
+// Refused, with no place.
+fn refused(e: Refusal) -> TextPart
+    ensures { result ≡ refused_part (number_of e) 0 }
 {
     TextPart {
-        number,
-        place,
+        number: e.number(),
+        place: 0,
+        source: 0,
+        offset: 0,
+        length: 0,
+    }
+}
+
+// Refused at a place, if it has one.
+fn refused_at(e: RefusedAt) -> TextPart
+    requires { place_told e.place < 2 ^ 32 }
+    ensures { result ≡ refused_part (number_of e.refusal) (place_told e.place) }
+{
+    let r = e.told();
+    TextPart {
+        number: r.number,
+        place: r.place,
         source: 0,
         offset: 0,
         length: 0,
@@ -48,7 +64,7 @@ fn item_part(sheet: &[u8], items: &[u32], i: usize) -> TextPart
 {
     let area = wire::area_start(2, split_sheet::count(sheet));
     let at = 7 * i;
-    let offset = area + wide(items[at + 5]);
+    let offset = area + items[at + 5] as usize;
     TextPart {
         number: 0,
         place: 0,
@@ -65,7 +81,7 @@ fn record_part(form: &[u8], k: usize) -> TextPart
 {
     let x = form_layout::name_at(form, k);
     if x.kind != 2 {
-        return refused(NOT_THERE, 0);
+        return refused(Refusal::NotThere);
     }
     let offset = form_layout::area_at(form) + x.offset;
     TextPart {
@@ -81,24 +97,23 @@ fn record_part(form: &[u8], k: usize) -> TextPart
 pub fn text_part(form: &[u8], sheet: &[u8], items: &[u32], word: u32) -> TextPart
     ensures { PartOf form.now sheet.now items.now word result }
 {
-    let checked = form_check::check(form);
-    if checked.number != 0 {
-        return refused(checked.number, checked.place);
+    if let Err(e) = form_check::check(form) {
+        return refused_at(e);
     }
-    let given = call_table::given(sheet, items);
-    if given.number != 0 {
-        return refused(given.number, 0);
-    }
-    let n = wide(word);
+    let count = match call_table::given(sheet, items) {
+        Ok(count) => count,
+        Err(e) => return refused(e),
+    };
+    let n = word as usize;
     if n < 256 {
-        if given.count <= n {
-            return refused(NOT_THERE, 0);
+        if count <= n {
+            return refused(Refusal::NotThere);
         }
         return item_part(sheet, items, n);
     }
     let k = n - 256;
     if form_layout::name_count(form) <= k {
-        return refused(NOT_THERE, 0);
+        return refused(Refusal::NotThere);
     }
     record_part(form, k)
 }
@@ -117,8 +132,8 @@ pub fn text<'a>(
     let x = text_part(form, sheet, items, word);
     *refusal = x.number;
     *place = x.place;
-    let from = wide(x.offset);
-    let to = from + wide(x.length);
+    let from = x.offset as usize;
+    let to = from + x.length as usize;
     if x.source == 0 {
         return &sheet[from..to];
     }

@@ -34,7 +34,7 @@ use Rattle.run_fields.specs.declared.RunAnswer.{RunAnswer}
 use Rattle.run_fields.specs.declared.Reached.{Reached}
 use Rattle.run.specs.Runner.{run_answer, ended as reached, answer_of}
 use Rattle.run.proofs.Told.{RunTold, run_told}
-use Rattle.why_letter.specs.declared.LetterOption.{LetterOption}
+use Rattle.std.specs.Prelude.{Option as CodeOption}
 use Rattle.why_letter.specs.Withdrawn.{LinePlace, CanExplain, UnknownTold}
 use Rattle.careful.specs.declared.CarefulAnswer.{CarefulAnswer}
 use Rattle.careful.specs.declared.Looked.{Looked}
@@ -140,14 +140,14 @@ module _ (b s : List ℕ) (ni na nl : ℕ) (r : RunAnswer) (is os ls : List ℕ)
         found : first_misread 0 (arguments s) over.line.given.groups ≡ some p
         found = h.same (letters_of (read_form b)) over.line.given line ∙ rw (ne_eqb p count e)
 
-        letter_is : (u : LetterOption) → UnknownTold b s is p u → misread_letter (letters_of (read_form b)) (arguments s) over.line.given.groups p ≡ letter_code u
+        letter_is : (u : CodeOption ℕ) → UnknownTold b s is p u → misread_letter (letters_of (read_form b)) (arguments s) over.line.given.groups p ≡ letter_code u
         unfolding letter_code line_items
         letter_is u t =
             let y = lookup_some (line_items spot) p spot_line.below in
             misread_letter_lem b (arguments s) over.line.given.groups [] p y.0 y.1 (found_misread 0 (arguments s) over.line.given.groups p found)
             ∙ ap place_code (sym (t.same spot y.0 spot_line y.1))
 
-        answer_misread : (u : LetterOption) → UnknownTold b s is p u → (k : ℕ) → k ≡ letter_code u → (a : List ℕ) → a ≡ sets os 0 (replicate (length os) 0)
+        answer_misread : (u : CodeOption ℕ) → UnknownTold b s is p u → (k : ℕ) → k ≡ letter_code u → (a : List ℕ) → a ≡ sets os 0 (replicate (length os) 0)
             → careful_answer (careful b s ni na nl) ≡ ended (record { number = 50; place = p + 1; tries = r.tries; words = 0; letter = k; state = r.state }) a
         unfolding careful_answer refused_word
         answer_misread u t k d a z =
@@ -186,11 +186,12 @@ module _ (b s is os : List ℕ) (r : Reached) where
         run_explains x =
             misread_asked b s x.items₀ x.answers₀ x.list₀ (answer_of r x.marks) is os x.list x.ran n count c p h e
 
-        pub looks_misread : (u : LetterOption) → UnknownTold b s is p u → (k : ℕ) → k ≡ letter_code u → (a : List ℕ) → a ≡ sets os 0 (replicate (length os) 0)
-            → LooksAtRun b s is os r a (record { number = 50; place = p + 1; words = 0; letter = k })
-        looks_misread u t k d a z = record {
+        pub looks_misread : (u : CodeOption ℕ) → UnknownTold b s is p u → (f : ℕ) → f ≡ 50 → (k : ℕ) → k ≡ letter_code u
+            → (a : List ℕ) → a ≡ sets os 0 (replicate (length os) 0)
+            → LooksAtRun b s is os r a (record { number = f; place = p + 1; words = 0; letter = k })
+        looks_misread u t f g k d a z = rw g (record {
           same = λ ni na nl m ls ran. answer_misread b s ni na nl (answer_of r m) is os ls ran n count c p h e u t k d a z;
-        }
+        })
 
 -- ---- and with the state put together
 pub run_looked :

@@ -9,13 +9,13 @@ use Rattle.rules_careful.specs.Careful.{CarefulReport, careful}
 use Rattle.state_marks.specs.Lent.{raw_of}
 use Rattle.run_fields.specs.declared.Reached.{Reached}
 use Rattle.run.specs.Runner.{run_answer, ended, answer_of}
-use Rattle.why_letter.specs.declared.LetterOption.{LetterOption}
+use Rattle.std.specs.Prelude.{Option as CodeOption}
 use Rattle.why_letter.specs.Withdrawn.{letter_of}
 use Rattle.careful.specs.declared.CarefulAnswer.{CarefulAnswer}
 use Rattle.careful.specs.declared.Looked.{Looked}
 
 -- ---- a letter as a number
-unfoldable pub letter_code : LetterOption → ℕ
+unfoldable pub letter_code : CodeOption ℕ → ℕ
 letter_code x = place_code (letter_of x)
 
 -- ---- a run whose words are looked at

@@ -7,13 +7,9 @@ ghost use Rattle.rules_careful.specs.Careful.{careful as careful_of};
 ghost use Rattle.why_letter.specs.Withdrawn.{SmallLetter};
 ghost use Rattle.careful.specs.Looked.{letter_code, as_run, CanLook, LooksAtRun, careful_answer};
 
-use rules::State;
+use rules::{Refusal, State};
 use run_fields::Reached;
-use why_letter::LetterOption;
 use wire::wide;
-
-// An argument that looks like options is a word.
-pub const MISREAD: u32 = 50;
 
 // As the answer of a run, and why a word is one: the letter that no option has plus 1, or 0 where its name is not UTF-8.
 #[repr(C)]
@@ -28,11 +24,11 @@ pub struct CarefulAnswer {
 }
 
 // The letter plus 1, or 0 for none.
-pub fn letter_code(letter: LetterOption) -> u32
+pub fn letter_code(letter: Option<u32>) -> u32
     requires { SmallLetter letter }
     ensures { result ≡ letter_code letter }
 {
-    let LetterOption::Some(c) = letter else {
+    let Some(c) = letter else {
         return 0;
     };
     c + 1
@@ -77,7 +73,7 @@ fn look(form: &[u8], sheet: &[u8], items: &[u32], answers: &mut [u32], ran: Reac
     let codes = form_codes::codes_of(form);
     let letter = why_letter::unknown_letter(form, &codes, sheet, items, place);
     Looked {
-        number: MISREAD,
+        number: Refusal::Misread.number(),
         place: place as u32 + 1,
         words: 0,
         letter: letter_code(letter),

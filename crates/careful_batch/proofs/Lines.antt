@@ -1,14 +1,17 @@
 -- A line whose items are counted, and then looked at.
-use mathlib.Core.Bool.{Bool, true, false}
+use mathlib.Core.Bool.{Bool, true, false, not}
 use mathlib.Core.List.{List, [], ◌∷◌, ◌++◌}
 use mathlib.Core.Option.{Option, some, none}
 use mathlib.Core.Path.{◌≡◌, refl, sym, ap, subst, ◌∙◌}
-use Prim.Native.Nat.{ℕ, zero, suc, ◌+◌, ◌-◌, ◌*◌, ◌≤◌, ◌<◌}
+use Prim.Native.Nat.{ℕ, zero, suc, ◌+◌, ◌-◌, ◌*◌, ◌/◌, ◌≤◌, ◌<◌}
 use native.Mathlib.Omega.{arith}
 use lib.Dec.{eqb, ltb, lit<}
 use lib.ListN.{length, get_or, take, drop, replicate}
-use lib.Seq.{get_or-take, get_or-drop}
-use borrow.Author.Tests.{eq-eqb, ne_eqb, ltb-true, ltb-false}
+use lib.Seq.{get_or-take, get_or-drop, length-take-le}
+use borrow.Author.Tests.{eq-eqb, ne_eqb, eqb-true, ltb-true, ltb-false}
+use Rattle.std.proofs.lemmas.Bool.{not-true, not-false, eqb-false}
+use Rattle.std.specs.List.Sorted.{IsPartitionedBy, IsPartitionPoint}
+use Rattle.std.specs.Simd.{first_chunks}
 use Rattle.std.specs.Prelude.{if◌then◌else◌}
 use Rattle.rules.specs.Outcome.{ok, ◌>>=◌}
 use Rattle.rules.specs.Sheet.{sheet_area, arguments}
@@ -28,33 +31,40 @@ use Rattle.careful.proofs.Lines.{ran_line}
 use Rattle.careful_batch.specs.Looked.{CountsItems, KindsFirst, RunIs, HasRun, looked_report, MisreadTold}
 
 -- ---- counting
-module _ (words : List ℕ) where
-  -- the number lies between `low` and `high`
-  pub record Counting (low high : ℕ) : Type 0 where
-    pub order : low ≤ high
-    pub few : high ≤ 256
-    pub kinds : (j : ℕ) → j < low → get_or words (7 * j) 0 ≡ 0 → ⊥
-    pub ends : high < 256 → get_or words (7 * high) 0 ≡ 0
+-- whether a record has a kind
+abbrev pub has_kind : List ℕ → Bool
+has_kind w = not (eqb (get_or w 0 0) 0)
 
-  pub counting_first : Counting 0 256
-  counting_first = record { order = omega arith; few = omega arith; kinds = λ j h. absurd (omega arith); ends = λ h. absurd (omega arith) }
+-- record j begins at word 7 * j
+chunk_at : (k : ℕ) (xs : List ℕ) (j : ℕ) (d : List ℕ) → j < k → get_or (get_or (first_chunks 7 k xs) j d) 0 0 ≡ get_or xs (7 * j) 0
+chunk_at zero xs j d h = absurd (omega arith)
+chunk_at (suc k) xs zero d h = get_or-take 7 xs 0 0 (lit< tt)
+chunk_at (suc k) xs (suc j) d h =
+    let next : 7 + 7 * j ≡ 7 * suc j = omega arith in
+    chunk_at k (drop 7 xs) j d (omega arith) ∙ get_or-drop 7 xs (7 * j) 0 ∙ ap (λ (i : ℕ). get_or xs i 0) next
 
-  module _ (low high : ℕ) (g : KindsFirst words) (c : Counting low high) (m : ℕ) (from : low ≤ m) (to : m < high) where
-    pub upper_half : (get_or words (7 * m) 0 ≡ 0 → ⊥) → Counting (m + 1) high
-    upper_half k = record {
-      order = omega arith;
-      few = c.few;
-      kinds = λ j h z. k (g.past j m (omega arith) (omega (arith, c.few)) z);
-      ends = c.ends;
+-- the chunks of a slice's first 1792 words are its records
+module _ (words : List ℕ) (g : KindsFirst words) (records : List (List ℕ)) (chunks : records ≡ first_chunks 7 (length (take 1792 words) / 7) (take 1792 words)) where
+  many : length (take 1792 words) / 7 ≡ 256
+  many = let long = length-take-le 1792 words g.room in omega arith
+
+  kind_at : (j : ℕ) (d : List ℕ) → j < 256 → get_or (get_or records j d) 0 0 ≡ get_or words (7 * j) 0
+  kind_at j d h =
+      rw chunks (chunk_at (length (take 1792 words) / 7) (take 1792 words) j d (omega (arith, many))) ∙ get_or-take 1792 words (7 * j) 0 (omega arith)
+
+  module _ (size : length records ≡ length (take 1792 words) / 7) where
+    pub kinds_parted : IsPartitionedBy has_kind records
+    kinds_parted i j d o l h =
+        let last : j < 256 = omega (arith, many) in
+        let some_kind = eqb-false _ 0 (not-true _ h) in
+        ap not (ne_eqb _ 0 (λ e. some_kind (kind_at j d last ∙ g.past i j o last (sym (kind_at i d (omega arith)) ∙ e))))
+
+    pub counted : (r : ℕ) → r ≤ length records → IsPartitionPoint (λ (w : List ℕ). has_kind w ≡ true) (λ (w : List ℕ). has_kind w ≡ false) records r → CountsItems words r
+    counted r h p = record {
+      few = omega (arith, many);
+      kinds = λ j l z. eqb-false _ 0 (not-true _ (p.0 j [] (omega arith) l)) (kind_at j [] (omega (arith, many)) ∙ z);
+      ends = λ l. sym (kind_at r [] l) ∙ eqb-true _ 0 (not-false _ (p.1 r [] (omega arith) (omega (arith, many))));
     }
-
-    pub lower_half : get_or words (7 * m) 0 ≡ 0 → Counting low m
-    lower_half z = record { order = from; few = omega (arith, c.few); kinds = c.kinds; ends = λ h. z }
-
-  pub counted : (low high : ℕ) → Counting low high → high ≤ low → CountsItems words low
-  counted low high c h =
-      let same : high ≡ low = omega (arith, c.order) in
-      record { few = omega (arith, c.few); kinds = c.kinds; ends = λ l. rw same at (c.ends (omega arith)) }
 
 -- a record with no kind is no item
 no_kind : (area w : List ℕ) → get_or w 0 0 ≡ 0 → item_from area w ≡ none

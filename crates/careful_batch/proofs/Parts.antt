@@ -91,11 +91,13 @@ record_written k n p t w o o' f e =
 
 -- three words of a record are written, and its tries stay
 pub record_refused :
-    (k place : ℕ) (o o' : List ℕ)
+    (k place n : ℕ) (o o' : List ℕ)
+    → n ≡ 50
     → PartFits 4 k o
-    → o' ≡ set (set (set o (4 * k) 50) (4 * k + 1) place) (4 * k + 3) 0
+    → o' ≡ set (set (set o (4 * k) n) (4 * k + 1) place) (4 * k + 3) 0
     → Replaced 4 k (refused_words k place o) o o'
-record_refused k place o o' f e =
+record_refused k place n o o' g f h =
+    let e = rw g at h in
     let at = 4 * k in
     let first = set o at 50 in
     let both = set first (at + 1) place in

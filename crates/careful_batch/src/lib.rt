@@ -3,20 +3,17 @@
 
 ghost use Rattle.std.specs.Prelude.{◌≡◌, ◌≤◌, length, replicate};
 ghost use Rattle.std.proofs.Math.Option.{some};
+ghost use Rattle.rules.specs.Reported.{tested};
 ghost use Rattle.rules_careful.specs.CarefulBatch.{careful_batch};
 ghost use Rattle.batch_parts.specs.Parts.{PartFits, Replaced};
 ghost use Rattle.batch_run.specs.Told.{batch_answer};
 ghost use Rattle.careful_batch.specs.Looked.{CountsItems, KindsFirst, HasRun, MisreadTold, refused_words, HoldsWords, HasPart, LookedPart, HasBatch, LookedBatch};
 
 use batch_check::RECORD_WORDS;
-use careful::MISREAD;
-use rules::Refused;
+use rules::Refusal;
 use run_fields::ANSWER_WORDS;
 use split_arg::ITEM_WORDS;
 use wire::wide;
-
-// The most items of a line.
-const ITEMS: usize = 256;
 
 // How many items a part holds. A record does not say so: a kind of 0 ends them. By halves, since a loop over all of them would cost a
 // third of what looking at them does.
@@ -24,17 +21,10 @@ fn item_count(items: &[u32]) -> usize
     requires { KindsFirst items.now }
     ensures { CountsItems items.now result }
 {
-    let mut low = 0;
-    let mut high = ITEMS;
-    while low < high {
-        let middle = low + (high - low) / 2;
-        if items[7 * middle] != 0 {
-            low = middle + 1;
-        } else {
-            high = middle;
-        }
-    }
-    low
+    items[..ITEM_WORDS]
+        .as_chunks::<7>()
+        .0
+        .partition_point(|item| item[0] != 0)
 }
 
 // The lowest misread place plus 1, or 0 for none.
@@ -58,7 +48,7 @@ fn refuse_part(k: usize, place: u32, records: &mut [u32], answers: &mut [u32])
 {
     let at = RECORD_WORDS * k;
     let words = wide(records[at + 3]);
-    records[at] = MISREAD;
+    records[at] = Refusal::Misread.number();
     records[at + 1] = place;
     records[at + 3] = 0;
     wire::fill(answers, ANSWER_WORDS * k, words, 0);
@@ -86,12 +76,9 @@ fn look_sheets(batch: &[u8], records: &mut [u32], items: &[u32], answers: &mut [
     requires { HasBatch batch.now records.old items.now answers.old }
     ensures { LookedBatch batch.now records.old records.new items.now answers.old answers.new }
 {
-    let n = batch_check::sheet_count(batch);
-    let mut k = 0;
-    while k < n {
+    for k in 0..batch_check::sheet_count(batch) {
         let sheet = batch_check::sheet_at(batch, k);
         look_part(sheet, k, records, items, answers);
-        k += 1;
     }
 }
 
@@ -103,13 +90,10 @@ pub fn careful_batch(
     items: &mut [u32],
     answers: &mut [u32],
     list: &mut [u32],
-) -> Refused
-    ensures { batch_answer (careful_batch form.now batch.now (length records.old) (length items.old) (length answers.old) (length list.old)) ≡ some (record { answer = result; records = records.new; items = items.new; answers = answers.new; list = list.new }) }
+) -> Result<(), Refusal>
+    ensures { batch_answer (careful_batch form.now batch.now (length records.old) (length items.old) (length answers.old) (length list.old)) ≡ some (record { answer = record { number = tested result; place = 0 }; records = records.new; items = items.new; answers = answers.new; list = list.new }) }
 {
-    let refused = batch_run::run_batch(form, batch, records, items, answers, list);
-    if refused.number != 0 {
-        return refused;
-    }
+    batch_run::run_batch(form, batch, records, items, answers, list)?;
     look_sheets(batch, records, items, answers);
-    refused
+    Ok(())
 }

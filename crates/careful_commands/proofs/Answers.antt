@@ -29,7 +29,7 @@ use Rattle.run.specs.Runner.{run_answer}
 use Rattle.command_run.specs.declared.CommandAnswer.{CommandAnswer}
 use Rattle.command_run.specs.declared.Commanded.{Commanded}
 use Rattle.command_run.specs.Commanded.{Ended, commands_answer, commanded_as}
-use Rattle.why_letter.specs.declared.LetterOption.{LetterOption}
+use Rattle.std.specs.Prelude.{Option as CodeOption}
 use Rattle.careful_words.specs.Looking.{LineIs, HasLine, Finds}
 use Rattle.careful_words.proofs.Laws.{found_misread}
 use Rattle.careful.specs.declared.Looked.{Looked}
@@ -186,7 +186,7 @@ module _
           }
 
           answer_misread :
-              (u : LetterOption)
+              (u : CodeOption ℕ)
               → MisreadTold t s is p u
               → (k : ℕ)
               → k ≡ letter_code u
@@ -235,11 +235,12 @@ module _ (t s is os : List ℕ) (r : Commanded) where
         pub run_place : CanLookAtTable t s is os r → MisreadPlace t s is p
         run_place x = place t s x.items₀ x.answers₀ x.list₀ (answer_of r x.marks) is os x.list x.ran n count c p h e
 
-        pub looks_misread : (u : LetterOption) → MisreadTold t s is p u → (k : ℕ) → k ≡ letter_code u → (a : List ℕ) → a ≡ sets os 0 (replicate (length os) 0)
-            → LooksAtTableRun t s is os r a (record { number = 50; place = p + 1; words = 0; letter = k })
-        looks_misread u told k d a z = record {
+        pub looks_misread : (u : CodeOption ℕ) → MisreadTold t s is p u → (f : ℕ) → f ≡ 50 → (k : ℕ) → k ≡ letter_code u
+            → (a : List ℕ) → a ≡ sets os 0 (replicate (length os) 0)
+            → LooksAtTableRun t s is os r a (record { number = f; place = p + 1; words = 0; letter = k })
+        looks_misread u told f g k d a z = rw g (record {
           same = λ ni na nl m ls ran. answer_misread t s ni na nl (answer_of r m) is os ls ran n count c p h e u told k d a z;
-        }
+        })
 
 -- ---- and with the state put together
 pub run_looked :

@@ -30,8 +30,7 @@ use Rattle.take_search.specs.Items.{part_bytes, HasPart}
 use Rattle.take_search.proofs.Items.{is_word}
 use Rattle.command_letters.specs.Gather.{Gathered}
 use Rattle.command_letters.proofs.Tables.{same_as_table}
-use Rattle.why_letter.specs.declared.LetterOption.{LetterOption}
-use Rattle.why_letter.specs.declared.LetterOption.TheVariants.{None}
+use Rattle.std.specs.Prelude.{Option as CodeOption, None}
 use Rattle.why_letter.specs.Withdrawn.{ClusterTold}
 use Rattle.why_letter.proofs.Laws.{none_small}
 use Rattle.why_letter.proofs.Clusters.{told_same, other_not_whole}
@@ -73,7 +72,7 @@ module _ (t s words : List ℕ) (i : ℕ) where
           → Gathered t 2 u a m
           → (os : List ℕ)
           → os ≡ part_bytes (sheet_area s) x
-          → (r : LetterOption)
+          → (r : CodeOption ℕ)
           → ClusterTold (letters (take (n - 0) f) (take (m - 0) a)) os r
           → MisreadTold t s words i r
       unfolding misread_letter letter_code ◌>>?◌

@@ -13,7 +13,7 @@ use Rattle.state_marks.specs.Lent.{raw_of}
 use Rattle.command_layout.specs.Tables.{HasForms}
 use Rattle.command_run.specs.declared.Commanded.{Commanded}
 use Rattle.command_run.specs.Commanded.{commands_answer, commanded_as}
-use Rattle.why_letter.specs.declared.LetterOption.{LetterOption}
+use Rattle.std.specs.Prelude.{Option as CodeOption}
 use Rattle.why_letter.specs.Withdrawn.{SmallLetter}
 use Rattle.careful_words.specs.Looking.{LineIs}
 use Rattle.careful.specs.declared.Looked.{Looked}
@@ -29,7 +29,7 @@ pub record MisreadPlace (t s words : List ℕ) (i : ℕ) : Type 0 where
   pub line : LineIs s words count (table_letters forms.forms) given
   pub misread : is_misread (arguments s) given.groups i ≡ true
 
-pub record MisreadTold (t s words : List ℕ) (i : ℕ) (r : LetterOption) : Type 0 where
+pub record MisreadTold (t s words : List ℕ) (i : ℕ) (r : CodeOption ℕ) : Type 0 where
   pub letter : SmallLetter r
   pub same : (p : MisreadPlace t s words i) → misread_letter (table_letters p.forms.forms) (arguments s) p.given.groups i ≡ letter_code r
 

@@ -7,13 +7,12 @@ ghost use Rattle.std.proofs.Math.Option.{some};
 ghost use Rattle.rules_careful.specs.CarefulCommands.{careful_commands};
 ghost use Rattle.careful_commands.specs.Looked.{MisreadPlace, MisreadTold, CanLookAtTable, LooksAtTableRun, careful_commands_answer};
 
-use careful::{Looked, MISREAD, as_run};
+use careful::{Looked, as_run};
 use command_run::Commanded;
 use form_letters::Counts;
-use rules::State;
+use rules::{Refusal, State};
 use run_fields::Reached;
-use split_arg::Item;
-use why_letter::LetterOption;
+use split_arg::{Item, Letters};
 use wire::wide;
 
 // The command word stands at place 0, and is not looked at.
@@ -35,13 +34,13 @@ pub struct CarefulCommandAnswer {
 }
 
 // The letter of the word at a place. The letters of all forms are gathered again: only a line that is refused pays for it.
-fn word_letter(table: &[u8], sheet: &[u8], items: &[u32], place: usize) -> LetterOption
+fn word_letter(table: &[u8], sheet: &[u8], items: &[u32], place: usize) -> Option<u32>
     requires { MisreadPlace table.now sheet.now items.now place }
     ensures { MisreadTold table.now sheet.now items.now place result }
 {
     let item = split_arg::read_item(items, place);
     let Item::Word(text) = item else {
-        return LetterOption::None;
+        return None;
     };
     let mut flags = command_letters::no_letters();
     let mut arguments = command_letters::no_letters();
@@ -49,11 +48,15 @@ fn word_letter(table: &[u8], sheet: &[u8], items: &[u32], place: usize) -> Lette
     let n = counts.flags;
     let m = counts.arguments;
     let os = take_search::part_bytes(sheet, text);
-    why_letter::cluster_letter(os, &flags[0..n], &arguments[0..m])
+    let letters = Letters {
+        flags: &flags[0..n],
+        arguments: &arguments[0..m],
+    };
+    why_letter::cluster_letter(os, &letters)
 }
 
 // The words of a line that was run. 50 where it is accepted and an argument that looks like options is a word, and not the command
-// word: answers 0.
+// word: answers 0. As `look` of `careful`, but the letter is looked for among those of the table, and the command word is passed over.
 fn look(table: &[u8], sheet: &[u8], items: &[u32], answers: &mut [u32], ran: Commanded) -> Looked
     requires { CanLookAtTable table.now sheet.now items.now answers.old ran }
     ensures { LooksAtTableRun table.now sheet.now items.now answers.old ran answers.new result }
@@ -71,7 +74,7 @@ fn look(table: &[u8], sheet: &[u8], items: &[u32], answers: &mut [u32], ran: Com
     wire::fill(answers, 0, answers.len(), 0);
     let letter = word_letter(table, sheet, items, place);
     Looked {
-        number: MISREAD,
+        number: Refusal::Misread.number(),
         place: place as u32 + 1,
         words: 0,
         letter: careful::letter_code(letter),

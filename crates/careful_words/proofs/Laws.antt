@@ -4,13 +4,13 @@ use mathlib.Core.List.{List, [], ◌∷◌, flatten}
 use mathlib.Core.Logic.{inl}
 use mathlib.Core.Option.{some, none, some-injective}
 use mathlib.Core.Path.{◌≡◌, refl, sym, ap, subst, ◌∙◌}
-use Prim.Native.Nat.{ℕ, zero, suc, ◌+◌, ◌-◌, ◌*◌, ◌/◌, ◌≤◌, ◌<◌}
+use Prim.Native.Nat.{ℕ, zero, suc, ◌+◌, ◌-◌, ◌*◌, ◌≤◌, ◌<◌}
 use native.Mathlib.Omega.{arith}
 use lib.Dec.{eqb, lit<}
 use lib.ListN.{length, get_or, drop, length-drop}
 use lib.Seq.{get_or-take, get_or-drop, length-take-le}
 use native.Mathlib.Nat.{add-zero}
-use borrow.Author.Tests.{not-true, not-false, eq-eqb, ne_eqb, eqb-true, eqb-false}
+use borrow.Author.Tests.{eq-eqb, ne_eqb, eqb-true, eqb-false}
 use Rattle.std.specs.Prelude.{if◌then◌else◌}
 use Rattle.wire.specs.Wire.{area_start, area as wire_area}
 use Rattle.wire.specs.Laws.{good_table, start_most}
@@ -72,12 +72,12 @@ module _ (s words : List ℕ) (from count : ℕ) where
     pub behind : from ≤ i
     pub none : (l : Letters) (x : Split) → LineIs s words count l x → (j : ℕ) → from ≤ j → j < i → is_misread (arguments s) x.groups j ≡ false
 
-  clean_first : Clean from
+  pub clean_first : Clean from
   clean_first = record { behind = omega arith; none = λ l x g j f h. absurd (omega arith) }
 
   module _ (i : ℕ) (c : Clean i) where
     module _ (h : i < count) (r : Bool) (t : LooksAt s words count (7 * i) r) where
-      clean_next : r ≡ false → Clean (i + 1)
+      pub clean_next : r ≡ false → Clean (i + 1)
       clean_next f = record {
         behind = omega (arith, c.behind);
         none = λ l x g j a b. go l x g j a b (eqb j i) refl;
@@ -88,7 +88,7 @@ module _ (s words : List ℕ) (from count : ℕ) where
           go l x g j a b true e = let z : j ≡ i = eqb-true j i e in ap (is_misread (arguments s) x.groups) z ∙ sym (t.same i refl l x g) ∙ f
           go l x g j a b false e = let d = eqb-false j i e in c.none l x g j a (omega arith)
 
-      found_here : r ≡ true → Finds s words from count i
+      pub found_here : r ≡ true → Finds s words from count i
       unfolding first_misread items_of
       found_here e = record {
         within = omega arith;
@@ -99,7 +99,7 @@ module _ (s words : List ℕ) (from count : ℕ) where
             (sym (t.same i refl l x g) ∙ e) (λ j a b. c.none l x g j a b));
       }
 
-    found_none : count ≤ i → Finds s words from count count
+    pub found_none : count ≤ i → Finds s words from count count
     unfolding first_misread items_of
     found_none h = record {
       within = omega arith;
@@ -109,37 +109,8 @@ module _ (s words : List ℕ) (from count : ℕ) where
           (none_fault (is_misread (arguments s) x.groups) (length (flatten x.groups) - from) from (λ j a b. c.none l x g j a (omega (arith, n))));
     }
 
-  -- the same, up to the record that begins at a word
-  pub record CleanTo (at : ℕ) : Type 0 where
-    pub place : ℕ
-    pub here : at ≡ 7 * place
-    pub clean : Clean place
-
-  pub clean_from : (at : ℕ) → at ≡ 7 * from → CleanTo at
-  clean_from at e = record { place = from; here = e; clean = clean_first }
-
-  module _ (at : ℕ) (c : CleanTo at) (end : ℕ) (f : end ≡ 7 * count) where
-    pub is_record : at < end → BeginsRecord count at
-    is_record h = record { place = c.place; here = c.here; below = omega (arith, c.here) }
-
-    module _ (h : at < end) (r : Bool) (t : LooksAt s words count at r) where
-      here : LooksAt s words count (7 * c.place) r
-      here = subst (λ (k : ℕ). LooksAt s words count k r) c.here t
-
-      pub clean_on : r ≡ false → CleanTo (at + 7)
-      clean_on e = record {
-        place = c.place + 1;
-        here = omega (arith, c.here);
-        clean = clean_next c.place c.clean (omega (arith, c.here)) r here e;
-      }
-
-      pub found_at : r ≡ true → (p : ℕ) → p ≡ at / 7 → Finds s words from count p
-      found_at e p q =
-          let same : p ≡ c.place = omega (arith, c.here) in
-          rw same (found_here c.place c.clean (omega (arith, c.here)) r here e)
-
-    pub found_end : end ≤ at → Finds s words from count count
-    found_end h = found_none c.place c.clean (omega (arith, c.here))
+pub is_record : (count i : ℕ) → i < count → BeginsRecord count (7 * i)
+is_record count i h = record { place = i; here = refl; below = h }
 
 -- ---- an item
 -- word k of record i
@@ -279,14 +250,14 @@ module _ (s words : List ℕ) (count at : ℕ) (begins : BeginsRecord count at) 
         ∙ sym (misread_is l (arguments s) x i y g.splits g.clear e ∙ reads_word (behind_adjacent (items_of x) i) y);
   }
 
-  pub looks_plain : not r ≡ true → LooksAt s words count at false
-  looks_plain n = told false (λ i w x t b. rw (not-true r n) (sym (and-false (not (behind_adjacent (items_of x) i)))))
+  pub looks_plain : r ≡ false → LooksAt s words count at r
+  looks_plain n = told r (λ i w x t b. rw n (sym (and-false (not (behind_adjacent (items_of x) i)))))
 
-  pub looks_word_lem : not r ≡ false → (j : ℕ) → j ≡ at / 7 → (z : Bool) → RestTold words j z → LooksAt s words count at (not z)
+  pub looks_word_lem : r ≡ true → (j : ℕ) → at ≡ 7 * j → (z : Bool) → RestTold words j z → LooksAt s words count at (not z)
   looks_word_lem n j q z k = told (not z) (λ i w x t b.
-      let same : j ≡ i = omega (arith, w) in
+      let same : j ≡ i = omega (arith, w, q) in
       let rest : RestTold words i z = subst (λ (j : ℕ). RestTold words j z) same k in
-      rw (not-false r n) (ap not (rest.same (sheet_area s) (items_of x) t b) ∙ sym (and_true_is (not (behind_adjacent (items_of x) i)))))
+      rw n (ap not (rest.same (sheet_area s) (items_of x) t b) ∙ sym (and_true_is (not (behind_adjacent (items_of x) i)))))
 
 pub line_made : (s words : List ℕ) (count : ℕ) → HasLine s words count → sheet_fault s ≡ 0
 line_made s words count g = g.line.made
@@ -296,15 +267,6 @@ line_start s words count n g e = omega (arith, start_most 2 n (inl refl), (good_
 
 pub start_is : (s : List ℕ) (n a : ℕ) → n ≡ argument_count s → a ≡ area_start 2 n → a ≡ area_start 2 (argument_count s)
 start_is s n a e d = d ∙ ap (area_start 2) e
-
-pub record_room : (s words : List ℕ) (count at : ℕ) → HasLine s words count → BeginsRecord count at → at + 7 ≤ length words
-record_room s words count at g h = omega (arith, g.line.table.room, g.line.long, h.here, h.below)
-
-pub record_before : (s words : List ℕ) (count at j : ℕ) → HasLine s words count → BeginsRecord count at → j ≡ at / 7 → 7 * j ≤ length words
-record_before s words count at j g h e = omega (arith, g.line.table.room, g.line.long, h.here, h.below)
-
-pub ends_fit : (s words : List ℕ) (count : ℕ) → HasLine s words count → 7 * count < 18446744073709551616
-ends_fit s words count g = omega (arith, g.line.few)
 
 -- the place that a search tells is one
 module _ (p : ℕ → Bool) where

@@ -9,10 +9,12 @@ use native.Mathlib.Nat.{add-zero, zero-add}
 use native.Mathlib.Numerals.{add-one}
 use native.Mathlib.Omega.{arith}
 use lib.Dec.{leb, eqb}
-use lib.ListN.{length, get_elem?, length-drop}
+use lib.ListN.{length, get_elem?, get_or, length-drop}
 use borrow.Author.Tests.{eq-eqb, ne_eqb, le-leb, leb-true, lt-leb, lt-ltb, le-ltb, not-true, not-false}
 use borrow.Author.Count.{below_more}
-use Rattle.std.specs.Prelude.{if◌then◌else◌}
+use Rattle.std.specs.Prelude.{if◌then◌else◌, MatchBool}
+use Rattle.std.specs.List.{range_with_len, AllWithin, HoldsAt}
+use Rattle.std.proofs.lemmas.List.FromFn.{length-range_with_len, get_or-range_with_len}
 use Rattle.wire.specs.Wire.{table_good, area_start, offset, entry_of}
 use Rattle.wire.specs.Laws.{start_most, placed, entry_length}
 use Rattle.rules.specs.Base.{all, null, concat_map, first_fault}
@@ -23,7 +25,10 @@ use Rattle.rules.specs.Codes.{check_code}
 use Rattle.rules.specs.Given.{form_in}
 use Rattle.rules.specs.Commands.{entry_count, offsets_good, table_entries, entry_names, entry_area, entry_form_at, Command, read_command, of_type}
 use Rattle.rules.specs.Commands.{command_name_good, entry_good, table_in, forms_in, table_forms, form_good, entry_at_fault, form_part, call_command_form}
+use Rattle.rules.specs.Reported.{number_of, place_told, told}
 use Rattle.rules.specs.declared.Refused.{Refused}
+use Rattle.rules.specs.declared.RefusedAt.{RefusedAt}
+use Rattle.rules.proofs.ReportedLaws.{numbered, check_place}
 use Rattle.rules.proofs.Acceptance.{and-true, all_true, All-at, lookup_inside}
 use Rattle.rules.proofs.CommandForms.{entry_there, entries_count, commands_count}
 use Rattle.rules.proofs.GivenLaws.{check_accepted}
@@ -32,7 +37,7 @@ use Rattle.form_names.specs.declared.Name as names
 use Rattle.command_layout.specs.Tables.{EntryFits, HasEntry, HasCommands, FormOf}
 use Rattle.command_layout.proofs.Entries.{good_offsets, area_there, form_there, names_length, table_offsets, entry_good_lem, wire_entry}
 use Rattle.command_check.specs.declared.FormPart.{FormPart}
-use Rattle.command_check.specs.Told.{table_told, part_told}
+use Rattle.command_check.specs.Told.{table_told, part_told, TableTested}
 
 -- ---- a list whose elements are tested one after the other
 abbrev pub PassesAt : {A : Type 0} → (A → Bool) → List A → ℕ → Type 0
@@ -59,6 +64,42 @@ module _ {A : Type 0} (p : A → Bool) (l : List A) (k : ℕ) where
     all_passed : length l ≤ k → all p l ≡ true
     all_passed h = all_pass p l (λ j x e. before j (omega (arith, lookup_inside l j x e)) x e)
 
+-- ---- what `all` and `any` answer over the numbers below n
+module _ (n : ℕ) (Yes No : ℕ → Type 0) where
+  long : length (range_with_len 0 n) ≡ n
+  long = length-range_with_len 0 n
+
+  here : (k : ℕ) → k < n → get_or (range_with_len 0 n) k 0 ≡ k
+  here k h = get_or-range_with_len 0 n k 0 h ∙ zero-add k
+
+  pub range_any :
+      (r : Bool)
+      → MatchBool r ((k : ℕ) × (k < length (range_with_len 0 n)) × HoldsAt Yes (range_with_len 0 n) k) (AllWithin No (range_with_len 0 n) 0 (length (range_with_len 0 n)))
+      → MatchBool r ((k : ℕ) × (k < n) × Yes k) ((k : ℕ) → k < n → No k)
+  range_any true (k, h, y) = (k, omega (arith, long), subst Yes (here k (omega (arith, long))) (y 0))
+  range_any false f = λ k h. subst No (here k h) (f k 0 (omega arith) (omega (arith, long)))
+
+  pub range_all :
+      (r : Bool)
+      → MatchBool r (AllWithin Yes (range_with_len 0 n) 0 (length (range_with_len 0 n))) ((k : ℕ) × (k < length (range_with_len 0 n)) × HoldsAt No (range_with_len 0 n) k)
+      → MatchBool r ((k : ℕ) → k < n → Yes k) ((k : ℕ) × (k < n) × No k)
+  range_all true f = λ k h. subst Yes (here k h) (f k 0 (omega arith) (omega (arith, long)))
+  range_all false (k, h, y) = (k, omega (arith, long), subst No (here k (omega (arith, long))) (y 0))
+
+-- what holds of the element at k
+abbrev pub Found : {A : Type 0} → List A → (A → Type 0) → ℕ → Type 0
+Found {A} l P k = (x : A) × (get_elem? l k ≡ some x) × P x
+
+pub all_answered :
+    {A : Type 0} (p : A → Bool) (l : List A) (n : ℕ)
+    → length l ≡ n
+    → (r : Bool)
+    → MatchBool r ((k : ℕ) → k < n → Found l (λ x. true ≡ p x) k) ((k : ℕ) × (k < n) × Found l (λ x. false ≡ p x) k)
+    → r ≡ all p l
+all_answered {A} p l n many true each =
+    sym (all_passed p l n (λ j below x e. let s = each j below in subst (λ (a : A). p a ≡ true) (some-injective s.0 x (sym s.1 ∙ e)) (sym s.2)) (omega arith))
+all_answered p l n many false (k, below, s) = sym (one_fails p l k s.0 s.1 (sym s.2))
+
 -- ---- an entry
 module _ (e : List ℕ) where
   abbrev Fits : Bool
@@ -69,15 +110,15 @@ module _ (e : List ℕ) where
       let past : length e < entry_form_at e = omega (arith, area_there e, form_there e) in
       rw (lt-leb (entry_form_at e) (length e) past, and-false (leb (entry_names e) 128 && leb (entry_area e) 4096))
 
-  pub many_names : (n : ℕ) → n ≡ entry_names e → 128 < n → false ≡ Fits
-  many_names n p h = rw (← p, lt-leb n 128 h)
+  pub many_names : (n : ℕ) → n ≡ entry_names e → leb n 128 ≡ false → false ≡ Fits
+  many_names n p h = rw (← p, h)
 
-  module _ (n : ℕ) (p : n ≡ entry_names e) (few : n ≤ 128) (a : ℕ) (q : a ≡ entry_area e) where
-    pub long_area : 4096 < a → false ≡ Fits
-    long_area h = rw (← p, le-leb n 128 few, ← q, lt-leb a 4096 h)
+  module _ (n : ℕ) (p : n ≡ entry_names e) (few : leb n 128 ≡ true) (a : ℕ) (q : a ≡ entry_area e) where
+    pub long_area : leb a 4096 ≡ false → false ≡ Fits
+    long_area h = rw (← p, few, ← q, h)
 
-    pub entry_room : a ≤ 4096 → (f : ℕ) → f ≡ entry_form_at e → leb f (length e) ≡ Fits
-    entry_room small f r = rw (← p, le-leb n 128 few, ← q, le-leb a 4096 small, ← r)
+    pub entry_room : leb a 4096 ≡ true → (f : ℕ) → f ≡ entry_form_at e → leb f (length e) ≡ Fits
+    entry_room small f r = rw (← p, few, ← q, small, ← r)
 
   fits_entry : Fits ≡ true → EntryFits e
   fits_entry h =
@@ -98,24 +139,17 @@ module _ (area : List ℕ) (x : names.Name) where
   good_type g h e = rw (le-leb x.kind 1 h, and_one (name_good area (name_of x))) e
 
 -- ---- the names of an entry
-module _ (e : List ℕ) (k : ℕ) (x : names.Name) (here : get_elem? (read_command e).names k ≡ some (name_of x)) where
-  module _ (area : List ℕ) (same : area ≡ (read_command e).area) (g : Bool) (good : g ≡ command_name_good area (name_of x)) where
-    pub name_fails : not g ≡ true → false ≡ all (command_name_good (read_command e).area) (read_command e).names
-    name_fails f = sym (one_fails _ (read_command e).names k (name_of x) here (rw (← same, ← good) (not-true g f)))
-
-    pub name_passes :
-        ((j : ℕ) → j < k → PassesAt (command_name_good (read_command e).area) (read_command e).names j)
-        → not g ≡ false
-        → (j : ℕ) → j < k + 1 → PassesAt (command_name_good (read_command e).area) (read_command e).names j
-    name_passes before f = one_passes _ (read_command e).names k before (name_of x) here (rw (← same, ← good) (not-false g f))
-
-pub names_pass :
-    (e : List ℕ) (n k : ℕ)
+pub names_answered :
+    (e : List ℕ) (n : ℕ)
     → n ≡ entry_names e
-    → n ≤ k
-    → ((j : ℕ) → j < k → PassesAt (command_name_good (read_command e).area) (read_command e).names j)
-    → true ≡ all (command_name_good (read_command e).area) (read_command e).names
-names_pass e n k p h before = sym (all_passed _ (read_command e).names k before (omega (arith, names_length e)))
+    → (area : List ℕ)
+    → area ≡ (read_command e).area
+    → (r : Bool)
+    → MatchBool r ((k : ℕ) → k < n → Found (read_command e).names (λ x. true ≡ command_name_good area x) k)
+    ((k : ℕ) × (k < n) × Found (read_command e).names (λ x. false ≡ command_name_good area x) k)
+    → r ≡ all (command_name_good (read_command e).area) (read_command e).names
+names_answered e n count area same r each =
+    all_answered (command_name_good area) (read_command e).names n (omega (arith, names_length e)) r each ∙ rw same
 
 -- ---- a long name
 abbrev pub not_long : Name → Bool
@@ -139,42 +173,42 @@ module _ (e : List ℕ) where
   unfolding of_type
   no_long = none_long (read_command e).area (read_command e).names
 
-  module _ (k : ℕ) (x : names.Name) (here : get_elem? (read_command e).names k ≡ some (name_of x)) where
-    pub long_here : x.kind ≡ 1 → true ≡ not (null (of_type 1 (read_command e)))
-    long_here h = rw (no_long, one_fails not_long (read_command e).names k (name_of x) here (ap not (eq-eqb x.kind 1 h)))
-
-    pub long_later :
-        ((j : ℕ) → j < k → PassesAt not_long (read_command e).names j)
-        → (x.kind ≡ 1 → ⊥)
-        → (j : ℕ) → j < k + 1 → PassesAt not_long (read_command e).names j
-    long_later before h = one_passes not_long (read_command e).names k before (name_of x) here (ap not (ne_eqb x.kind 1 h))
-
-  pub long_nowhere :
-      (n k : ℕ)
+  pub any_long :
+      (n : ℕ)
       → n ≡ entry_names e
-      → n ≤ k
-      → ((j : ℕ) → j < k → PassesAt not_long (read_command e).names j)
-      → false ≡ not (null (of_type 1 (read_command e)))
-  long_nowhere n k p h before = rw (no_long, all_passed not_long (read_command e).names k before (omega (arith, names_length e)))
+      → (r : Bool)
+      → MatchBool r ((k : ℕ) × (k < n) × Found (read_command e).names (λ x. x.type ≡ 1) k) ((k : ℕ) → k < n → Found (read_command e).names (λ x. x.type ≡ 1 → ⊥) k)
+      → r ≡ not (null (of_type 1 (read_command e)))
+  any_long n p true (k, below, s) =
+      rw (no_long, one_fails not_long (read_command e).names k s.0 s.1 (ap not (eq-eqb s.0.type 1 s.2)))
+  any_long n p false none =
+      rw (
+        no_long,
+        all_passed not_long (read_command e).names n (λ j below y f.
+            let s = none j below in
+            let same : s.0 ≡ y = some-injective s.0 y (sym s.1 ∙ f) in
+            subst (λ (z : Name). not_long z ≡ true) same (ap not (ne_eqb s.0.type 1 s.2)))
+            (omega (arith, names_length e)),
+      )
 
   -- ---- an entry's tests together
   module _ (f : Bool) (fits : f ≡ Fits e) where
-    pub entry_unfit : not f ≡ true → false ≡ entry_good e
+    pub entry_unfit : f ≡ false → false ≡ entry_good e
     unfolding entry_good
-    entry_unfit h = rw (← fits, not-true f h)
+    entry_unfit h = rw (← fits, h)
 
-    module _ (fit : not f ≡ false) where
+    module _ (fit : f ≡ true) where
       pub entry_fits : EntryFits e
-      entry_fits = fits_entry e (sym fits ∙ not-false f fit)
+      entry_fits = fits_entry e (sym fits ∙ fit)
 
       module _ (g : Bool) (good : g ≡ all (command_name_good (read_command e).area) (read_command e).names) where
-        pub entry_misnamed : not g ≡ true → false ≡ entry_good e
+        pub entry_misnamed : g ≡ false → false ≡ entry_good e
         unfolding entry_good
-        entry_misnamed h = rw (← fits, not-false f fit, ← good, not-true g h)
+        entry_misnamed h = rw (← fits, fit, ← good, h)
 
-        pub entry_named : not g ≡ false → (h : Bool) → h ≡ not (null (of_type 1 (read_command e))) → h ≡ entry_good e
+        pub entry_named : g ≡ true → (h : Bool) → h ≡ not (null (of_type 1 (read_command e))) → h ≡ entry_good e
         unfolding entry_good
-        entry_named n h i = rw (← fits, not-false f fit, ← good, not-false g n) i
+        entry_named n h i = rw (← fits, fit, ← good, n) i
 
 -- ---- the offsets
 module _ (t : List ℕ) where
@@ -186,56 +220,51 @@ module _ (t : List ℕ) where
       go true e = absurd (omega (arith, (good_offsets t e).long))
 
   module _ (n : ℕ) (p : n ≡ entry_count t) where
-    pub no_entries : n ≡ 0 → false ≡ offsets_good t
+    pub no_entries : n < 1 → false ≡ offsets_good t
     unfolding offsets_good
-    no_entries h = rw (← p, h)
+    no_entries h = rw (← p, lt-leb 1 n h)
 
     pub many_entries : 32 < n → false ≡ offsets_good t
     unfolding offsets_good
     many_entries h = rw (← p, le-leb 1 n (omega arith), lt-leb n 32 h)
 
-    pub some_entries : (n ≡ 0 → ⊥) → n ≤ 32 → (g : Bool) → g ≡ table_good 4 n t → g ≡ offsets_good t
+    pub some_entries : 1 ≤ n → n ≤ 32 → (g : Bool) → g ≡ table_good 4 n t → g ≡ offsets_good t
     unfolding offsets_good
-    some_entries z h g e = rw (← p, le-leb 1 n (omega arith), le-leb n 32 h) e
+    some_entries z h g e = rw (← p, le-leb 1 n z, le-leb n 32 h) e
 
 -- ---- the entries of a table
-module _ (t : List ℕ) where
-  module _ (n : ℕ) (p : n ≡ entry_count t) (k : ℕ) where
-    module _ (below : k < n) where
-      pub has_entry : offsets_good t ≡ true → HasEntry t k
-      has_entry good = record { good = good; below = omega arith }
+module _ (t : List ℕ) (n : ℕ) (p : n ≡ entry_count t) where
+  pub has_entry : (k : ℕ) → k < n → offsets_good t ≡ true → HasEntry t k
+  has_entry k below good = record { good = good; below = omega arith }
 
-      module _ (g : Bool) (good : g ≡ entry_good (entry_of 4 (entry_count t) t k)) where
-        pub entry_fails : not g ≡ true → false ≡ all entry_good (table_entries t)
-        entry_fails f = sym (one_fails entry_good (table_entries t) k _ (entry_there t k (omega arith)) (rw (← good) (not-true g f)))
-
-        pub entry_passes :
-            ((j : ℕ) → j < k → PassesAt entry_good (table_entries t) j)
-            → not g ≡ false
-            → (j : ℕ) → j < k + 1 → PassesAt entry_good (table_entries t) j
-        entry_passes before f = one_passes entry_good (table_entries t) k before _ (entry_there t k (omega arith)) (rw (← good) (not-false g f))
-
-    pub entries_pass : n ≤ k → ((j : ℕ) → j < k → PassesAt entry_good (table_entries t) j) → true ≡ all entry_good (table_entries t)
-    entries_pass h before = sym (all_passed entry_good (table_entries t) k before (omega (arith, entries_count t)))
+  pub entries_answered :
+      (r : Bool)
+      → MatchBool r ((k : ℕ) → k < n → true ≡ entry_good (entry_of 4 (entry_count t) t k))
+      ((k : ℕ) × (k < n) × (false ≡ entry_good (entry_of 4 (entry_count t) t k)))
+      → r ≡ all entry_good (table_entries t)
+  entries_answered true each =
+      all_answered entry_good (table_entries t) n (entries_count t ∙ sym p) true (λ k h. (_, entry_there t k (omega arith), each k h))
+  entries_answered false (k, h, f) =
+      all_answered entry_good (table_entries t) n (entries_count t ∙ sym p) false (k, h, (_, entry_there t k (omega arith), f))
 
 -- ---- a table's names
 module _ (t : List ℕ) (g : Bool) where
-  pub offsets_bad : g ≡ offsets_good t → not g ≡ true → false ≡ (offsets_good t && all entry_good (table_entries t))
-  offsets_bad e h = rw (← e, not-true g h)
+  pub offsets_bad : g ≡ offsets_good t → g ≡ false → false ≡ (offsets_good t && all entry_good (table_entries t))
+  offsets_bad e h = rw (← e, h)
 
-  pub offsets_true : g ≡ offsets_good t → not g ≡ false → offsets_good t ≡ true
-  offsets_true e h = rw (← e) (not-false g h)
+  pub offsets_true : g ≡ offsets_good t → g ≡ true → offsets_good t ≡ true
+  offsets_true e h = rw (← e) h
 
-  pub offsets_right : g ≡ offsets_good t → not g ≡ false → (x : Bool) → x ≡ all entry_good (table_entries t)
+  pub offsets_right : g ≡ offsets_good t → g ≡ true → (x : Bool) → x ≡ all entry_good (table_entries t)
       → x ≡ (offsets_good t && all entry_good (table_entries t))
-  offsets_right e h x f = rw (← e, not-false g h) f
+  offsets_right e h x f = rw (← e, h) f
 
   pub table_bad :
       g ≡ (offsets_good t && all entry_good (table_entries t))
       → not g ≡ true
-      → table_told (table_forms t) (entry_at_fault t) ≡ some (record { number = 11; place = 0; entry = 0 })
+      → TableTested t (record { number = 11; place = 0; entry = 0 })
   unfolding table_told table_in entry_at_fault ◌>>=◌
-  table_bad e h = rw (← e, not-true g h, entry_at_fault)
+  table_bad e h = record { told = rw (← e, not-true g h, entry_at_fault); place = omega arith; entry = omega arith }
 
   pub has_commands : g ≡ (offsets_good t && all entry_good (table_entries t)) → not g ≡ false → HasCommands t
   unfolding table_in
@@ -287,40 +316,43 @@ module _ (t : List ℕ) where
       let g = good_offsets t (table_offsets t h.commands h.reads) in
       (omega (arith, g.least), omega (arith, g.most), omega (arith, g.long))
 
-  pub forms_pass : HasCommands t → (n k : ℕ) → n ≡ entry_count t → n ≤ k → Accepts t k
-      → table_told (table_forms t) (entry_at_fault t) ≡ some (record { number = 0; place = 0; entry = 0 })
+  pub forms_pass : HasCommands t → (n k : ℕ) → n ≡ entry_count t → n ≤ k → Accepts t k → TableTested t (record { number = 0; place = 0; entry = 0 })
   unfolding table_told ◌>>=◌
   forms_pass h n k p l before =
       let cs = h.commands in
       let (fs, e) = forms_accepted cs (all_passed form_good cs k (before cs h.reads) (omega (arith, commands_count t cs h.reads))) in
-      rw (h.reads, e)
+      record { told = rw (h.reads, e); place = omega arith; entry = omega arith }
 
   module _
-      (k : ℕ) (b : List ℕ) (is : (cs : List Command) → table_in t ≡ ok cs → FormOf cs k b)
-      (r : Refused) (checked : r ≡ check_code (check_form b)) (before : Accepts t k)
+      (k : ℕ) (b : List ℕ) (is : (cs : List Command) → table_in t ≡ ok cs → FormOf cs k b) (before : Accepts t k)
     where
-      pub form_passes : r.number ≡ 0 → Accepts t (k + 1)
+      pub form_passes : record { number = 0; place = 0 } ≡ check_code (check_form b) → Accepts t (k + 1)
       unfolding form_good
       form_passes z = λ cs reads.
           let f = is cs reads in
-          let (a, e) = check_accepted b r checked z in
+          let (a, e) = check_accepted b _ z refl in
           one_passes form_good cs k (before cs reads) f.command f.here (rw (f.form, e, form_good))
 
-      pub form_fails : HasCommands t → (r.number ≡ 0 → ⊥)
-          → table_told (table_forms t) (entry_at_fault t) ≡ some (record { number = r.number; place = r.place; entry = k + 1 })
+      pub form_fails :
+          HasCommands t
+          → k < 32
+          → (x : RefusedAt)
+          → told x ≡ check_code (check_form b)
+          → TableTested t (record { number = number_of x.refusal; place = place_told x.place; entry = k + 1 })
       unfolding table_told entry_at_fault ◌>>=◌
-      form_fails h z = go (check_form b) refl
+      form_fails h few x checked = record { told = go (check_form b) refl; place = check_place b x checked; entry = omega arith }
         where
           go :
               (o : Checked Accepted)
               → check_form b ≡ o
-              → table_told (table_forms t) (entry_at_fault t) ≡ some (record { number = r.number; place = r.place; entry = k + 1 })
-          go (accepted a) e = absurd (z (ap (λ (x : Refused). x.number) (checked ∙ ap check_code e)))
+              → table_told (table_forms t) (entry_at_fault t) ≡ some (record { number = number_of x.refusal; place = place_told x.place; entry = k + 1 })
+          go (accepted a) e = absurd (numbered x.refusal (ap (λ (r : Refused). r.number) (checked ∙ ap check_code e)))
           go (refused_at n p) e =
               let f = is h.commands h.reads in
               let same = checked ∙ ap check_code e in
-              let (x, y) = forms_refused 0 h.commands k f.command n p (before h.commands h.reads) f.here (rw f.form e) in
-              rw (h.reads, entry_at_fault, x, y, zero-add k, add-one k, same)
+              let (y, z) = forms_refused 0 h.commands k f.command n p (before h.commands h.reads) f.here (rw f.form e) in
+              rw (h.reads, entry_at_fault, y, z, zero-add k, add-one k)
+              (sym (ap (λ (r : Refused). some (record { number = r.number; place = r.place; entry = suc k })) same))
 
 -- ---- the form of an entry
 module _ (t : List ℕ) (b : Bool) (tested : b ≡ (offsets_good t && all entry_good (table_entries t))) (k : ℕ) where

@@ -26,8 +26,7 @@ pub fn entry_at(table: &[u8], k: usize) -> &[u8]
     requires { HasEntry table.now k }
     ensures { result.now ≡ entry_of 4 (entry_count table.now) table.now k }
 {
-    let n = entry_count(table);
-    wire::entry(table, WIDE_OFFSET, n, k)
+    wire::entry(table, WIDE_OFFSET, entry_count(table), k)
 }
 
 pub fn name_count(entry: &[u8]) -> usize
@@ -72,17 +71,14 @@ pub fn area_of(entry: &[u8]) -> &[u8]
     requires { EntryFits entry.now }
     ensures { result.now ≡ (read_command entry.now).area }
 {
-    let from = area_at(entry);
-    let to = form_at(entry);
-    &entry[from..to]
+    &entry[area_at(entry)..form_at(entry)]
 }
 
 pub fn form_of(entry: &[u8]) -> &[u8]
     requires { EntryFits entry.now }
     ensures { result.now ≡ (read_command entry.now).form }
 {
-    let from = form_at(entry);
-    &entry[from..]
+    &entry[form_at(entry)..]
 }
 
 // The form of command k, in a table whose names are good.

@@ -6,8 +6,9 @@ use Prim.Native.Nat.{ℕ, zero, suc, ◌+◌, ◌-◌, ◌≤◌, ◌<◌}
 use native.Mathlib.Numerals.{add-one}
 use native.Mathlib.Omega.{arith}
 use lib.Dec.{ltb}
-use lib.ListN.{length, get_or, take, drop, set, length-append, length-set, take-append-drop, get_or-append}
-use lib.Seq.{slice, slice_empty, slice-cons, take-suc, get_or-take, set_at, length-take-le, take-take, length-slice, append_snoc}
+use lib.ListN.{length, get_or, take, drop, set, length-append, length-drop, take-append-drop}
+use lib.Seq.{slice, take-suc, take-add, get_or-take, set_at, take_at, drop_at, drop-drop, length-take-le, take-take, length-slice}
+use borrow.Rule.Slice.PartMut.{put_mid}
 use borrow.Author.Tests.{eq-eqb, ne_eqb, lt-ltb, le-ltb, ltb-true, ltb-false}
 use Rattle.rules.specs.Base.{contains}
 use Rattle.split_arg.specs.Order.{Parted}
@@ -15,50 +16,32 @@ use Rattle.command_letters.specs.Gather.{put_in, opened, HasRoom, Holds}
 use Rattle.split_arg.proofs.Order.{parted_end, parted_here, ascending_insert}
 
 -- ---- `store`
--- the words below n and from k on have gone up
-pub record Shifting (o₀ : List ℕ) (at n : ℕ) (o : List ℕ) (k : ℕ) : Type 0 where
-  pub low : at ≤ k
-  pub high : k ≤ n
-  pub words : o ≡ take (suc k) o₀ ++ (slice k n o₀ ++ drop (suc n) o₀)
-  pub long : length o ≡ length o₀
+-- the last of the words from `at` to n goes to the front of them, and the letter takes its place
+module _ (o r : List ℕ) (at n x : ℕ) (low : at ≤ n) (high : n < length o) where
+  abbrev turning : List ℕ
+  turning = take (n + 1 - at) (drop at o)
 
-pub shifting_first : (o : List ℕ) (at n : ℕ) → at ≤ n → Shifting o at n o n
-shifting_first o at n h = record {
-  low = h;
-  high = omega arith;
-  words = sym (ap (λ (l : List ℕ). take (suc n) o ++ (l ++ drop (suc n) o)) (slice_empty n o) ∙ take-append-drop (suc n) o);
-  long = refl;
-}
-
-module _ (o₀ : List ℕ) (at n : ℕ) (inside : n < length o₀) (o : List ℕ) (k : ℕ) (z : Shifting o₀ at n o k) where
-  -- what a store at k makes of it
-  set_here : (x : ℕ) → set o k x ≡ take k o₀ ++ (x ∷ (slice k n o₀ ++ drop (suc n) o₀))
-  set_here x =
-      let more = slice k n o₀ ++ drop (suc n) o₀ in
-      let here : take (suc k) o₀ ≡ take k o₀ ++ (get_or o₀ k 0 ∷ []) = take-suc o₀ k 0 (omega (arith, z.high)) in
-      rw (z.words, here, append_snoc (take k o₀) (get_or o₀ k 0) more)
-      (set_at (take k o₀) (get_or o₀ k 0) more x k (length-take-le k o₀ (omega (arith, z.high))))
-
-  pub shifting_next : at < k → Shifting o₀ at n (set o k (get_or o (k - 1) 0)) (k - 1)
-  shifting_next h = go (k - 1) (omega arith)
-    where
-      go : (j : ℕ) → k ≡ suc j → Shifting o₀ at n (set o k (get_or o j 0)) j
-      go j e =
-          let same : get_or o j 0 ≡ get_or o₀ j 0 =
-          ap (λ (l : List ℕ). get_or l j 0) z.words
-          ∙ get_or-append (take (suc k) o₀) _ 0 j (omega (arith, length-take-le (suc k) o₀ (omega (arith, z.high))))
-          ∙ get_or-take (suc k) o₀ j 0 (omega arith) in
-          let up : slice j n o₀ ≡ get_or o₀ j 0 ∷ slice (suc j) n o₀ = slice-cons j n o₀ 0 (omega (arith, z.high)) (omega arith) in
-          record {
-            low = omega arith;
-            high = omega (arith, z.high);
-            words = rw (same, up) (set_here (get_or o₀ j 0) ∙ rw e);
-            long = length-set o k (get_or o j 0) ∙ z.long;
-          }
-
-  pub shifting_last : k ≤ at → (x : ℕ) → set o at x ≡ opened o₀ at n x
+  pub stored : r ≡ drop (length turning - 1) turning ++ take (length turning - 1) turning → set (put_mid at (n + 1 - at) o r) at x ≡ opened o at n x
   unfolding opened
-  shifting_last h x = let e : at ≡ k = omega (arith, z.low) in rw (e, append_assoc (take k o₀) (x ∷ slice k n o₀) (drop (suc n) o₀)) (set_here x)
+  stored rotated =
+      let m = n - at in
+      let l = drop at o in
+      let y = get_or l m 0 in
+      let long : m < length l = omega (arith, length-drop at o) in
+      let size : n + 1 - at ≡ suc m = omega arith in
+      let front : length (take m l) ≡ m = length-take-le m l (omega arith) in
+      let parts : turning ≡ take m l ++ (y ∷ []) = rw size (take-suc l m 0 long) in
+      let last : length turning - 1 ≡ m = omega (arith, ap length parts, length-append (take m l) (y ∷ []), front) in
+      let turned : r ≡ y ∷ take m l = rotated ∙ rw (last, parts, drop_at (take m l) (y ∷ []) m front, take_at (take m l) (y ∷ []) m front) in
+      let whole : n ≡ at + m = omega arith in
+      let between : slice at n o ≡ take m l =
+      ap (λ (k : ℕ). drop at (take k o)) whole
+      ∙ ap (λ (s : List ℕ). drop at s) (take-add at m o)
+      ∙ drop_at (take at o) (take m l) at (length-take-le at o (omega arith)) in
+      let past : at + suc m ≡ suc n = omega arith in
+      let behind : drop (n + 1 - at) (drop at o) ≡ drop (suc n) o = rw (size, ← past) (drop-drop (suc m) at o) in
+      rw (turned, behind, between, append_assoc (take at o) (x ∷ take m l) (drop (suc n) o))
+      (set_at (take at o) y (take m l ++ drop (suc n) o) x at (length-take-le at o (omega arith)))
 
 -- ---- `put_in` at the letter's place
 parted_tail : (x y : ℕ) (ys : List ℕ) (p : ℕ) → Parted (y ∷ ys) x (suc p) → Parted ys x p

@@ -8,7 +8,7 @@ use native.Mathlib.Nat.{sub-zero}
 use native.Mathlib.Numerals.{add-one}
 use native.Mathlib.Omega.{arith}
 use lib.ListN.{length, take, drop, replicate, length-replicate, drop_of_length-le}
-use lib.Seq.{sets, length-sets}
+use lib.Seq.{sets, length-sets, length-take-le}
 use Rattle.rules.specs.Base.{contains, concat_map}
 use Rattle.rules.specs.Outcome.{ok}
 use Rattle.rules.specs.Sheet.{arguments}
@@ -47,14 +47,17 @@ few_letters b kind g =
 
 -- a buffer of 128 words that holds them
 module _ (b : List ℕ) (kind : ℕ) (o p : List ℕ) (n : ℕ) (g : GoodNames b) (z : o ≡ replicate 128 0) (w : WroteLetters b kind o p n) where
-  taken : take (n - 0) p ≡ letters_by_name (read_form b) kind
-  taken = ap (λ (j : ℕ). take j p) (sub-zero n) ∙ letters_taken b kind o p n g z w
+  taken : take n p ≡ letters_by_name (read_form b) kind
+  taken = letters_taken b kind o p n g z w
+
+  pub its_count : n ≡ length (take n p)
+  its_count = sym (length-take-le n p (letters_fit b kind o p n g z w))
 
   module _ (q : List ℕ) (m : ℕ) where
-    pub its_room : HasRoom q m 128 → HasRoom q m (length (take (n - 0) p))
+    pub its_room : HasRoom q m 128 → HasRoom q m (length (take n p))
     its_room h = rw taken (record { rising = h.rising; room = omega (arith, h.room, few_letters b kind g) })
 
-    pub its_letters : (q' : List ℕ) (r : ℕ) → Inserted q m (take (n - 0) p) q' r → Inserted q m (letters_by_name (read_form b) kind) q' r
+    pub its_letters : (q' : List ℕ) (r : ℕ) → Inserted q m (take n p) q' r → Inserted q m (letters_by_name (read_form b) kind) q' r
     its_letters q' r h = rw taken at h
 
 -- ---- the table
@@ -66,10 +69,11 @@ module _ (t : List ℕ) (h : HasForms t) where
   table_read = record { commands = h.commands; reads = h.reads }
 
   -- 32 forms of 128 names each
+  pub most_room : 128 * entry_count t ≤ 4096
+  most_room = omega (arith, (good_offsets t (table_offsets t h.commands h.reads)).most)
+
   pub all_room : (o : List ℕ) → o ≡ replicate 4096 0 → 128 * entry_count t ≤ length o
-  all_room o e =
-      let most = (good_offsets t (table_offsets t h.commands h.reads)).most in
-      omega (arith, ap length e ∙ length-replicate {A = ℕ} 4096 0)
+  all_room o e = omega (arith, most_room, ap length e ∙ length-replicate {A = ℕ} 4096 0)
 
   -- the names of an accepted form are good
   pub form_names :
@@ -179,32 +183,36 @@ gathered_same cs fs e = record {
     nothing_more true = refl
     nothing_more false = refl
 
--- ---- `split_clusters`
+-- ---- `split`
 -- they rise, however many they are
 pub rising_letters :
-    (t : List ℕ) (o p : List ℕ) (n : ℕ) (q s : List ℕ) (m : ℕ) → Gathered t 1 o p n → Gathered t 2 q s m → CanLookUp (take (n - 0) p) (take (m - 0) s)
+    (t : List ℕ) (o p : List ℕ) (n : ℕ) (q s : List ℕ) (m : ℕ) → Gathered t 1 o p n → Gathered t 2 q s m → CanLookUp (take n p) (take m s)
 rising_letters t o p n q s m z y = record { in_flags = searchable 1 o p n z; in_arguments = searchable 2 q s m y }
   where
-    searchable : (kind : ℕ) (o p : List ℕ) (n : ℕ) → Gathered t kind o p n → Searchable (take (n - 0) p)
-    searchable kind o p n z = rw (sub-zero n, holds_front o _ p n z.holds) (ordered_searchable _ z.holds.rising)
+    searchable : (kind : ℕ) (o p : List ℕ) (n : ℕ) → Gathered t kind o p n → Searchable (take n p)
+    searchable kind o p n z = rw (holds_front o _ p n z.holds) (ordered_searchable _ z.holds.rising)
 
 module _
     (t : List ℕ) (o p : List ℕ) (n : ℕ) (q s : List ℕ) (m : ℕ) (z : Gathered t 1 o p n) (y : Gathered t 2 q s m)
     (cs : List Command) (fs : List Accepted) (reads : table_in t ≡ ok cs) (accepts : forms_in cs ≡ ok fs)
   where
     -- what the slices hold are the letters of the table
-    pub same_as_table : SameLetters (letters (take (n - 0) p) (take (m - 0) s)) (table_letters fs)
-    same_as_table =
+    same_in_front : SameLetters (letters (take n p) (take m s)) (table_letters fs)
+    same_in_front =
         let one : z.commands ≡ cs = ok_injective (sym z.reads ∙ reads) in
         let two : y.commands ≡ cs = ok_injective (sym y.reads ∙ reads) in
-        let flags : take (n - 0) p ≡ gathered 1 cs [] = rw (sub-zero n, ← one) (holds_front o _ p n z.holds) in
-        let others : take (m - 0) s ≡ gathered 2 cs [] = rw (sub-zero m, ← two) (holds_front q _ s m y.holds) in
+        let flags : take n p ≡ gathered 1 cs [] = rw (← one) (holds_front o _ p n z.holds) in
+        let others : take m s ≡ gathered 2 cs [] = rw (← two) (holds_front q _ s m y.holds) in
         rw (flags, others) (gathered_same cs fs accepts)
+
+    -- where the parts are written from 0 on
+    pub same_as_table : SameLetters (letters (take (n - 0) p) (take (m - 0) s)) (table_letters fs)
+    same_as_table = rw (sub-zero n, sub-zero m) same_in_front
 
     pub split_forms :
         (sheet : List ℕ) (k : ℕ) (out : List ℕ) (r : Ended)
-        → SplitEnds (letters (take (n - 0) p) (take (m - 0) s)) sheet k out r
+        → SplitEnds (letters (take n p) (take m s)) sheet k out r
         → SplitEnds (table_letters fs) sheet k out r
     split_forms sheet k out r ends =
-        let l : Letters = letters (take (n - 0) p) (take (m - 0) s) in
-        alike_ends l (table_letters fs) sheet k out r (split_same l (table_letters fs) same_as_table 0 (arguments sheet)) ends
+        let l : Letters = letters (take n p) (take m s) in
+        alike_ends l (table_letters fs) sheet k out r (split_same l (table_letters fs) same_in_front 0 (arguments sheet)) ends

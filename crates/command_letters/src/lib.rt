@@ -13,6 +13,7 @@ ghost use Rattle.command_layout.specs.Tables.{HasForms};
 ghost use Rattle.command_letters.specs.Gather.{put_in, opened, HasRoom, Holds, Inserted, Gathered};
 
 use form_letters::Counts;
+use split_arg::Letters;
 use split_args::Ended;
 
 // Room for the letters of 32 forms with 128 names each, and for those of a table with few: 2 KB to clear, not 16.
@@ -28,22 +29,12 @@ pub fn no_letters() -> [u32; LETTERS]
     [0u32; LETTERS]
 }
 
-fn few_letters() -> [u32; FEW_LETTERS]
-    ensures { result ≡ replicate 512 0 }
-{
-    [0u32; FEW_LETTERS]
-}
-
 // The letter goes to a place, and the words from there on, below n, go up by one.
 fn store(out: &mut [u32], at: usize, n: usize, letter: u32)
     requires { (at ≤ n) × (n < length out.old) }
     ensures { out.new ≡ opened out.old at n letter }
 {
-    let mut k = n;
-    while at < k {
-        out[k] = out[k - 1];
-        k -= 1;
-    }
+    out[at..=n].rotate_right(1);
     out[at] = letter;
 }
 
@@ -53,10 +44,8 @@ fn insert(out: &mut [u32], n: usize, letter: u32) -> usize
     ensures { Holds out.old (put_in letter (take n out.old)) out.new result }
 {
     let at = split_arg::place(&out[..n], letter);
-    if at < n {
-        if out[at] == letter {
-            return n;
-        }
+    if at < n && out[at] == letter {
+        return n;
     }
     store(out, at, n, letter);
     n + 1
@@ -68,15 +57,14 @@ fn insert_all(out: &mut [u32], n: usize, letters: &[u32]) -> usize
     ensures { Inserted out.old n letters.now out.new result }
 {
     let mut count = n;
-    let mut k = 0;
-    while k < letters.len() {
-        count = insert(out, count, letters[k]);
-        k += 1;
+    for letter in letters {
+        count = insert(out, count, *letter);
     }
     count
 }
 
-// The letters of one form go among those of the forms before it.
+// The letters of one form go among those of the forms before it. Flags and arguments by two calls: a loop over both kinds would only
+// index the pairs.
 fn gather_form(form: &[u8], flags: &mut [u32], n: usize, arguments: &mut [u32], m: usize) -> Counts
     requires { GoodNames form.now × HasRoom flags.old n 128 × HasRoom arguments.old m 128 }
     ensures inserted { Inserted flags.old n (letters_by_name (read_form form.now) 1) flags.new result.flags }
@@ -87,11 +75,9 @@ fn gather_form(form: &[u8], flags: &mut [u32], n: usize, arguments: &mut [u32], 
     let mut its_flags = form_codes::no_codes();
     let mut its_arguments = form_codes::no_codes();
     let counts = form_letters::letters(form, &codes, &mut its_flags, &mut its_arguments);
-    let i = counts.flags;
-    let j = counts.arguments;
     Counts {
-        flags: insert_all(flags, n, &its_flags[0..i]),
-        arguments: insert_all(arguments, m, &its_arguments[0..j]),
+        flags: insert_all(flags, n, &its_flags[..counts.flags]),
+        arguments: insert_all(arguments, m, &its_arguments[..counts.arguments]),
     }
 }
 
@@ -101,56 +87,30 @@ pub fn gather(table: &[u8], flags: &mut [u32], arguments: &mut [u32]) -> Counts
     ensures gathered { Gathered table.now 1 flags.old flags.new result.flags }
     ensures gathered_2 { Gathered table.now 2 arguments.old arguments.new result.arguments }
 {
-    let count = command_layout::entry_count(table);
-    let mut n = 0;
-    let mut m = 0;
-    let mut k = 0;
-    while k < count {
+    let mut counts = Counts {
+        flags: 0,
+        arguments: 0,
+    };
+    for k in 0..command_layout::entry_count(table) {
         let form = command_layout::command_form(table, k);
-        let counts = gather_form(form, flags, n, arguments, m);
-        n = counts.flags;
-        m = counts.arguments;
-        k += 1;
+        counts = gather_form(form, flags, counts.flags, arguments, counts.arguments);
     }
-    Counts {
-        flags: n,
-        arguments: m,
-    }
+    counts
 }
 
-// The same as `split`, with the letters worked out in two slices that are lent.
-fn split_by(
-    table: &[u8],
-    sheet: &[u8],
-    items: &mut [u32],
-    flags: &mut [u32],
-    arguments: &mut [u32],
-) -> Ended
-    requires { HasForms table.now × SheetAndRoom sheet.now items.old × (128 * entry_count table.now ≤ length flags.old) × (128 * entry_count table.now ≤ length arguments.old) }
+// The same as `split`, with the letters worked out in room for N of a kind.
+fn split_within<const N: usize>(table: &[u8], sheet: &[u8], items: &mut [u32]) -> Ended
+    requires { HasForms table.now × SheetAndRoom sheet.now items.old × (128 * entry_count table.now ≤ N) × (N ≤ 4096) }
     ensures { (cs : List Command) (fs : List Accepted) → table_in table.now ≡ ok cs → forms_in cs ≡ ok fs → SplitEnds (table_letters fs) sheet.now (length items.old) items.new result }
 {
-    let counts = gather(table, flags, arguments);
-    let n = counts.flags;
-    let m = counts.arguments;
-    split_args::construct(sheet, &flags[0..n], &arguments[0..m], items)
-}
-
-fn split_few(table: &[u8], sheet: &[u8], items: &mut [u32]) -> Ended
-    requires { HasForms table.now × SheetAndRoom sheet.now items.old × (entry_count table.now ≤ 4) }
-    ensures { (cs : List Command) (fs : List Accepted) → table_in table.now ≡ ok cs → forms_in cs ≡ ok fs → SplitEnds (table_letters fs) sheet.now (length items.old) items.new result }
-{
-    let mut flags = few_letters();
-    let mut arguments = few_letters();
-    split_by(table, sheet, items, &mut flags, &mut arguments)
-}
-
-fn split_many(table: &[u8], sheet: &[u8], items: &mut [u32]) -> Ended
-    requires { HasForms table.now × SheetAndRoom sheet.now items.old }
-    ensures { (cs : List Command) (fs : List Accepted) → table_in table.now ≡ ok cs → forms_in cs ≡ ok fs → SplitEnds (table_letters fs) sheet.now (length items.old) items.new result }
-{
-    let mut flags = no_letters();
-    let mut arguments = no_letters();
-    split_by(table, sheet, items, &mut flags, &mut arguments)
+    let mut flags = [0u32; N];
+    let mut arguments = [0u32; N];
+    let counts = gather(table, &mut flags, &mut arguments);
+    let letters = Letters {
+        flags: &flags[..counts.flags],
+        arguments: &arguments[..counts.arguments],
+    };
+    split_args::construct(sheet, &letters, items)
 }
 
 // The letters are worked out only where one can be looked up.
@@ -159,12 +119,14 @@ pub fn split(table: &[u8], sheet: &[u8], items: &mut [u32]) -> Ended
     ensures { (cs : List Command) (fs : List Accepted) → table_in table.now ≡ ok cs → forms_in cs ≡ ok fs → SplitEnds (table_letters fs) sheet.now (length items.old) items.new result }
 {
     if split_args::all_plain(sheet) {
-        let words = [0u32; 1];
-        let none = &words[0..0];
-        return split_args::construct(sheet, none, none, items);
+        let none = Letters {
+            flags: &[],
+            arguments: &[],
+        };
+        return split_args::construct(sheet, &none, items);
     }
     if command_layout::entry_count(table) <= FEW_FORMS {
-        return split_few(table, sheet, items);
+        return split_within::<FEW_LETTERS>(table, sheet, items);
     }
-    split_many(table, sheet, items)
+    split_within::<LETTERS>(table, sheet, items)
 }

@@ -14,7 +14,7 @@ use Rattle.wire.specs.Wire.{entry_of}
 use Rattle.rules.specs.Base.{concat_map}
 use Rattle.rules.specs.Outcome.{ok}
 use Rattle.rules.specs.Codes.{place_of}
-use Rattle.rules.specs.Form.{Name, name_bytes, type_good, name_good}
+use Rattle.rules.specs.Form.{name_bytes, type_good, name_good}
 use Rattle.rules.specs.Sheet.{sheet_area, sheet_fault}
 use Rattle.rules.specs.Split.{Item}
 use Rattle.rules.specs.State.{command_mark}
@@ -176,9 +176,6 @@ module _ (e s words m₀ : List ℕ) (p₀ : Numbers) (number t n : ℕ) where
     pub kind_below : k < n → k < entry_names e
     kind_below l = omega (arith, g.count)
 
-    pub kind_step : k < n → k + 1 < 18446744073709551616
-    kind_step l = omega (arith, limit)
-
     pub kind_end : n ≤ k → (r : Tried) → r ≡ none_taken compared p → Tries (sheet_area s) words (all_of t number e) 128 m₀ p₀ m r
     unfolding type_candidates concat_map
     kind_end l r q =
@@ -278,9 +275,6 @@ module _ (t s words m₀ : List ℕ) (p₀ : Numbers) (n : ℕ) where
     told_names m' r h ds q =
         subst (λ (l : List Command). TriesNames (sheet_area s) words l m₀ p₀ m' r) (ok_injective (sym reads ∙ q))
         (tries_all (sheet_area s) words cs 8192 m₀ p₀ m' r h)
-
-    pub table_step : k < n → k + 1 < 18446744073709551616
-    table_step l = omega (arith, many)
 
     pub table_end : n ≤ k → (r : Tried) → r ≡ none_taken compared p
         → (ds : List Command) → table_in t ≡ ok ds → TriesNames (sheet_area s) words ds m₀ p₀ m r

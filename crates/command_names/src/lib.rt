@@ -13,7 +13,8 @@ ghost use Rattle.command_names.specs.Trying.{CanTry, type_candidates, none_taken
 
 use state_marks::{COMMAND, Numbers};
 
-// `entry` is the number of the entry whose name was taken plus 1, or 0; `comparisons` is how many names were compared.
+// `entry` is the number of the entry whose name was taken plus 1, or 0, which `place_of` of the rules reads; `comparisons` is how many
+// names were compared.
 #[derive(Clone, Copy)]
 pub struct Tried {
     pub entry: u32,
@@ -37,11 +38,9 @@ fn behind(n: u32, t: Tried) -> Tried
     requires { n + t.comparisons < 4294967296 }
     ensures { result ≡ tried_behind n t }
 {
-    let left = t.numbers;
     Tried {
-        entry: t.entry,
         comparisons: n + t.comparisons,
-        numbers: left,
+        ..t
     }
 }
 
@@ -65,16 +64,14 @@ fn try_name(
     }
     let word = form_names::bytes(command_layout::area_of(entry), name);
     let taken = take::take_cmd(sheet, items, marks, p, word, COMMAND);
-    let left = taken.numbers;
     if taken.found {
-        let code = number as u32 + 1;
         return Tried {
-            entry: code,
+            entry: number as u32 + 1,
             comparisons: 1,
-            numbers: left,
+            numbers: taken.numbers,
         };
     }
-    untaken(1, left)
+    untaken(1, taken.numbers)
 }
 
 // The names of one kind, in record order.
@@ -93,20 +90,19 @@ fn try_kind(
     let n = command_layout::name_count(entry);
     let mut s = p;
     let mut comparisons: u32 = 0;
-    let mut k = 0;
-    while k < n {
+    for k in 0..n {
         let one = try_name(entry, sheet, items, marks, s, number, kind, k);
         if one.entry != 0 {
             return behind(comparisons, one);
         }
-        comparisons = comparisons + one.comparisons;
+        comparisons += one.comparisons;
         s = one.numbers;
-        k += 1;
     }
     untaken(comparisons, s)
 }
 
-// The names of entry `number`: the long ones, then the short ones.
+// The names of entry `number`: the long ones, then the short ones. Two calls: a loop over [1, 0] would carry the state and the count
+// that they hand on.
 fn try_entry(
     entry: &[u8],
     sheet: &[u8],
@@ -126,7 +122,8 @@ fn try_entry(
     behind(long.comparisons, short)
 }
 
-// The names of all entries, in table order.
+// The names of all entries, in table order. The loop is `try_kind`'s, but its steps take an entry and not a record: a closure for them
+// would change the marks, and its invariant would be longer than the loop.
 pub fn try_names(
     table: &[u8],
     sheet: &[u8],
@@ -140,8 +137,7 @@ pub fn try_names(
     let n = command_layout::entry_count(table);
     let mut s = p;
     let mut comparisons: u32 = 0;
-    let mut k = 0;
-    while k < n {
+    for k in 0..n {
         let one = try_entry(
             command_layout::entry_at(table, k),
             sheet,
@@ -153,9 +149,8 @@ pub fn try_names(
         if one.entry != 0 {
             return behind(comparisons, one);
         }
-        comparisons = comparisons + one.comparisons;
+        comparisons += one.comparisons;
         s = one.numbers;
-        k += 1;
     }
     untaken(comparisons, s)
 }

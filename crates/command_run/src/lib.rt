@@ -13,13 +13,9 @@ ghost use Rattle.run.specs.Runner.{RunsListed};
 ghost use Rattle.command_run.specs.Commanded.{commands_answer, commanded_as, CheckedTable};
 ghost use Rattle.command_run.specs.Chosen.{LineSplit, FormBegins};
 
-use rules::State;
+use rules::{Refusal, RefusedAt, State};
 use run_fields::Reached;
 use state_marks::Numbers;
-use wire::wide;
-
-// No name of the table is the first word.
-const NO_COMMAND: u32 = 31;
 
 // How the run of a table ended, and the state that it left. Places and entries are themselves plus 1, or 0 for none.
 #[repr(C)]
@@ -92,10 +88,10 @@ fn run_table(
         return told(
             tried.comparisons,
             0,
-            run_fields::refused(NO_COMMAND, 0, 0, 0, left),
+            run_fields::refused(Refusal::NoCommand.number(), 0, 0, 0, left),
         );
     }
-    let k = wide(tried.entry - 1);
+    let k = (tried.entry - 1) as usize;
     let ran = run_chosen(table, k, sheet, items, marks, left, answers, list);
     told(tried.comparisons, tried.entry, ran)
 }
@@ -126,7 +122,7 @@ fn run_checked(
     run_table(table, sheet, items, marks, p, answers, list)
 }
 
-// The run over marks that are 0. A table's refusals, 11 and then 1 to 4, come before those of the line.
+// The run over marks that are 0. A table's refusals come before those of the line.
 pub fn run_input(
     table: &[u8],
     sheet: &[u8],
@@ -138,14 +134,14 @@ pub fn run_input(
     requires { Unmarked marks.old }
     ensures { commands_answer (run_commands table.now sheet.now (length items.old) (length answers.old) (length list.old)) ≡ commanded_as result marks.new items.new answers.new list.new }
 {
-    let tested = command_check::check(table);
-    if tested.number != 0 {
-        let none = run::refused_input(tested.number, tested.place, items, answers, list);
-        return told(0, tested.entry, none);
+    if let Err(e) = command_check::check(table) {
+        let entry = e.told().entry;
+        let none = run::refused_input(e.fault, items, answers, list);
+        return told(0, entry, none);
     }
-    let fault = run::line_fault(sheet, items.len(), answers.len(), list.len());
-    if fault != 0 {
-        return told(0, 0, run::refused_input(fault, 0, items, answers, list));
+    if let Err(e) = run::line_fault(sheet, items.len(), answers.len(), list.len()) {
+        let none = run::refused_input(RefusedAt::from(e), items, answers, list);
+        return told(0, 0, none);
     }
     run_checked(table, sheet, items, answers, list, marks)
 }

@@ -6,6 +6,7 @@ use mathlib.Core.Path.{◌≡◌, refl, sym, ap, subst, ◌∙◌}
 use Prim.Native.Nat.{ℕ, ◌+◌}
 use native.Mathlib.Omega.{arith}
 use lib.Dec.{eqb}
+use borrow.Author.Tests.{eqb-true, eqb-false}
 use Rattle.std.specs.Prelude.{if◌then◌else◌}
 use Rattle.rules.specs.Base.{contains}
 use Rattle.rules.specs.Outcome.{refuse, wrong_input, combine_with}
@@ -18,6 +19,8 @@ use Rattle.eval_structs.specs.Laws.{picks_first_lem, picks_second, picks_neither
 use Rattle.eval_told.specs.declared.Ran.{Ran}
 use Rattle.eval_told.specs.Results.{refusal_ran}
 use Rattle.eval_combine.specs.Made.{missing_of, MarksUnchanged, Sides, ChoiceOf, ended_of, won_of}
+use Rattle.eval_combine.specs.declared.Chosen.{Chosen}
+use Rattle.eval_combine.specs.Unchanged.{combined, side_made, first_made, second_made}
 use Rattle.eval_combine.proofs.Choices.{choice_first, choice_second, choice_neither}
 
 -- how the missing side ended
@@ -75,3 +78,33 @@ module _ (p : Numbers) (ran : Ran) (r : Ran) where
         (choice_neither before p before (missing_of p) m ran sides (Neither c) missing u refl eu
         (λ e f s a b. picks_neither e f s a b missing u _ _ _ c (λ n. omega arith) numbered h) r c refl
         (w ∙ ap (λ (t : ℕ). refusal_ran c.number c.place t p) (omega arith)))
+
+-- ---- as a whole
+module _ (p : Numbers) (ran : Ran) (before m : List ℕ) where
+  pub first_whole :
+      (r : Chosen)
+      → r ≡ first_made p ran
+      → Sides before p m ran before (missing_of p)
+      → MarksUnchanged before m ran
+      → ChoiceOf before p m ran before (missing_of p) m r
+  unfolding first_made side_made combined
+  first_whole r e sides same = go (eqb ran.number 0) refl
+    where
+      go : (b : Bool) → eqb ran.number 0 ≡ b → ChoiceOf before p m ran before (missing_of p) m r
+      go true t = rw (e, t) (first_alone_won p ran _ (eqb-true ran.number 0 t) refl before m sides same)
+      go false t =
+          rw (e, t) (first_alone_refused p ran _ (eqb-false ran.number 0 t) (ended_of ran) refl _ refl refl before m sides same)
+
+  pub second_whole :
+      (r : Chosen)
+      → r ≡ second_made p ran
+      → Sides before p before (missing_of p) m ran
+      → MarksUnchanged before m ran
+      → ChoiceOf before p before (missing_of p) m ran m r
+  unfolding second_made side_made combined
+  second_whole r e sides same = go (eqb ran.number 0) refl
+    where
+      go : (b : Bool) → eqb ran.number 0 ≡ b → ChoiceOf before p before (missing_of p) m ran m r
+      go true t = rw (e, t) (second_alone_won p ran _ (eqb-true ran.number 0 t) refl before m sides same)
+      go false t =
+          rw (e, t) (second_alone_refused p ran _ (eqb-false ran.number 0 t) (ended_of ran) refl _ refl refl before m sides same)

@@ -1,27 +1,25 @@
 -- A choice, by what `this_or_that_picks_first` and `pick_winner` decide.
 use mathlib.Core.Bool.{Bool, true, false, ◌&&◌, false≢true}
-use mathlib.Core.List.{List, [], ◌∷◌, ◌++◌}
-use mathlib.Core.Logic.{◌⊎◌, ⊎_elim}
+use mathlib.Core.List.{List, [], ◌++◌, ◌∷◌}
+use mathlib.Core.Logic.{⊎_elim}
 use mathlib.Core.Option.{some, none, none-ne-some}
 use mathlib.Core.Path.{◌≡◌, refl, sym, ap, ap₂, ◌∙◌}
-use Prim.Native.Nat.{ℕ, zero, suc, ◌+◌, ◌-◌, ◌≤◌, ◌<◌}
+use Prim.Native.Nat.{ℕ, ◌+◌, ◌-◌, ◌<◌}
 use native.Mathlib.Omega.{arith}
 use lib.Dec.{eqb}
-use lib.ListN.{length, take, drop, length-take}
-use borrow.Author.Tests.{eq-eqb, ne_eqb, eqb-true, eqb-false}
-use Rattle.std.specs.Prelude.{if◌then◌else◌}
+use lib.ListN.{length, take, drop}
+use borrow.Author.Tests.{ne_eqb, eqb-true, eqb-false}
+use Rattle.std.specs.Prelude.{if◌then◌else◌, Option, Some, None, IfSome}
 use Rattle.rules.specs.Outcome.{Outcome, ok, refused, fault, at, or_else305, or_else307, Refusal, is_missing, can_catch, wrong_input, combine_with}
 use Rattle.rules.specs.Calls.{from_raw}
 use Rattle.rules.specs.Value.{Value, absent, words}
-use Rattle.rules.specs.State.{State, Picked, present_at, pick_from, pick_winner, conflicts}
+use Rattle.rules.specs.State.{State, Picked, pick_from, pick_winner, conflicts, present_at}
 use Rattle.rules.specs.Eval.{Ran as Run, Visit, ended, after, value_of, side, picks_first, picked, won, chosen, eval_choice}
 use Rattle.rules.specs.declared.Refused.{Refused}
-use Rattle.rules.specs.Codes.{place_of, place_code}
-use Rattle.rules.proofs.Places.{if_elim, Differs, pick_case}
-use Rattle.rules.proofs.CodeLaws.{code_place, place_some}
+use Rattle.rules.proofs.Places.{if_elim}
 use Rattle.state_marks.specs.declared.Numbers.{Numbers}
 use Rattle.state_marks.specs.declared.Picked.{Picked as Pair}
-use Rattle.state_marks.specs.Lent.{state_of, Fine, pick_of}
+use Rattle.state_marks.specs.Lent.{state_of, Fine, option_of, pick_of}
 use Rattle.state_marks.proofs.Laws.{fine_long, marked_is, marked_whole, marked_fine}
 use Rattle.take_search.specs.States.{LeftState}
 use Rattle.take_search.proofs.States.{left_same}
@@ -37,99 +35,46 @@ use Rattle.eval_combine.specs.declared.Chosen.{Chosen}
 use Rattle.eval_combine.proofs.Tells.{run_of, told_same, value_told, refusal_told, left_told}
 
 -- ---- the winner's marks
-module _ (place n : ℕ) (m l : List ℕ) where
-  pub marks_kept : place ≡ 0 → m ≡ won_marks place n m l
+module _ (place : Option ℕ) (n : ℕ) (m l : List ℕ) where
+  pub marks_kept : place ≡ None → m ≡ won_marks place n m l
   unfolding won_marks
-  marks_kept z = rw (eq-eqb place 0 z)
+  marks_kept z = rw z
 
-  pub marks_saved :
-      (place ≡ 0 → ⊥)
-      → (k w : ℕ)
-      → k ≡ n
-      → w ≡ place
-      → (m' : List ℕ)
-      → m' ≡ conflicts (w - 1) (take k m) (take k l) ++ drop k m
-      → m' ≡ won_marks place n m l
+  pub marks_saved : (w : ℕ) → place ≡ Some w → (m' : List ℕ) → m' ≡ conflicts w (take n m) (take n l) ++ drop n m → m' ≡ won_marks place n m l
   unfolding won_marks
-  marks_saved z k w a b m' e = rw (e, a, b, ne_eqb place 0 z)
+  marks_saved w z m' e = rw (e, z)
 
-module _ (m l : List ℕ) (p q : Numbers) (place : ℕ) (f : Fine m p) (e : q.count ≡ p.count) where
-  won_is : won (state_of m p) (state_of l q) (place_of place) ≡ state_of (won_marks place p.count m l) p
-  unfolding won place_of won_marks
-  won_is = go (eqb place 0) refl
-    where
-      go :
-          (b : Bool)
-          → eqb place 0 ≡ b
-          → won (state_of m p) (state_of l q) (place_of place)
-          ≡ state_of (if b then m else conflicts (place - 1) (take p.count m) (take p.count l) ++ drop p.count m) p
-      go true t = rw (eqb-true place 0 t)
-      go false t = rw (place_some place (eqb-false place 0 t)) (marked_is m l p q (place - 1) f e)
+module _ (m l : List ℕ) (p q : Numbers) (f : Fine m p) (e : q.count ≡ p.count) where
+  won_is : (place : Option ℕ) → won (state_of m p) (state_of l q) (option_of place) ≡ state_of (won_marks place p.count m l) p
+  unfolding won won_marks
+  won_is None = refl
+  won_is (Some w) = marked_is m l p q w f e
 
-  won_long : length (won_marks place p.count m l) ≡ length m
+  won_long : (place : Option ℕ) → length (won_marks place p.count m l) ≡ length m
   unfolding won_marks
-  won_long = go (eqb place 0)
-    where
-      go : (b : Bool) → length (if b then m else conflicts (place - 1) (take p.count m) (take p.count l) ++ drop p.count m) ≡ length m
-      go true = refl
-      go false = marked_whole m l p q (place - 1) f e
+  won_long None = refl
+  won_long (Some w) = marked_whole m l p q w f e
 
-  won_fine : place ≤ p.count → Fine (won_marks place p.count m l) p
+  won_fine : (place : Option ℕ) → IfSome place (λ w. w < p.count) → Fine (won_marks place p.count m l) p
   unfolding won_marks
-  won_fine h = go (eqb place 0) refl
-    where
-      go : (b : Bool) → eqb place 0 ≡ b → Fine (if b then m else conflicts (place - 1) (take p.count m) (take p.count l) ++ drop p.count m) p
-      go true t = f
-      go false t = marked_fine m l p q (place - 1) f e (omega (arith, eqb-false place 0 t))
+  won_fine None h = f
+  won_fine (Some w) h = marked_fine m l p q w f e h
 
-module _ (m l : List ℕ) (q q' : Numbers) (n place : ℕ) (c : q.count ≡ n) (c' : q'.count ≡ n) where
-  won_state : Fine m q → (t t' : State) → t ≡ state_of m q → t' ≡ state_of l q' → won t t' (place_of place) ≡ state_of (won_marks place n m l) q
+module _ (m l : List ℕ) (q q' : Numbers) (n : ℕ) (place : Option ℕ) (c : q.count ≡ n) (c' : q'.count ≡ n) where
+  won_state : Fine m q → (t t' : State) → t ≡ state_of m q → t' ≡ state_of l q' → won t t' (option_of place) ≡ state_of (won_marks place n m l) q
   won_state f t t' e e' =
-      ap₂ (λ (a b : State). won a b (place_of place)) e e'
-      ∙ won_is m l q q' place f (c' ∙ sym c)
+      ap₂ (λ (a b : State). won a b (option_of place)) e e'
+      ∙ won_is m l q q' f (c' ∙ sym c) place
       ∙ ap (λ (k : ℕ). state_of (won_marks place k m l) q) c
 
-  won_left : (before : List ℕ) (p : Numbers) → LeftState before p m q → n ≡ p.count → place ≤ n → LeftState before p (won_marks place n m l) q
+  won_left : (before : List ℕ) (p : Numbers) → LeftState before p m q → n ≡ p.count → IfSome place (λ w. w < n) → LeftState before p (won_marks place n m l) q
   won_left before p h e i =
       let z : q'.count ≡ q.count = c' ∙ sym c in
       record {
         count = h.count;
-        long = rw (← c) (won_long m l q q' place h.fine z) ∙ h.long;
-        fine = rw (← c) (won_fine m l q q' place h.fine z (rw c i));
+        long = rw (← c) (won_long m l q q' h.fine z place) ∙ h.long;
+        fine = rw (← c) (won_fine m l q q' h.fine z place (rw c i));
       }
-
--- the place that decides is one of the items
-there : (m : List ℕ) (i : ℕ) → present_at m i ≡ true → i < length m
-unfolding present_at
-there [] i h = absurd (false≢true h)
-there (x ∷ m) zero h = omega arith
-there (x ∷ m) (suc i) h = let l = there m i h in omega arith
-
-place_within : (i n place : ℕ) → place_of place ≡ some i → i < n → place ≤ n
-place_within i n place e h =
-    let z : place ≡ suc i = sym (code_place place) ∙ ap place_code e in
-    omega arith
-
-no_place : (n place : ℕ) → place_of place ≡ none → place ≤ n
-no_place n place e =
-    let z : place ≡ 0 = sym (code_place place) ∙ ap place_code e in
-    omega arith
-
-pub picked_within :
-    (n : ℕ) (m l : List ℕ) (k : Pair) → pick_of k ≡ pick_from 0 (take n m) (take n l) → k.place ≤ n
-unfolding pick_of
-picked_within n m l k e =
-    ⊎_elim
-    (λ (z : pick_from 0 (take n m) (take n l) ≡ record { first = true; place = none }). no_place n k.place (ap (λ (x : Picked). x.place) (e ∙ z)))
-    (λ (d : Differs 0 (take n m) (take n l) (pick_from 0 (take n m) (take n l))).
-    place_within (0 + d.place) n k.place (ap (λ (x : Picked). x.place) e ∙ d.at) (below d d.first refl))
-    (pick_case 0 (take n m) (take n l))
-  where
-    below : (d : Differs 0 (take n m) (take n l) (pick_from 0 (take n m) (take n l))) (b : Bool) → d.first ≡ b → 0 + d.place < n
-    below d true t =
-        let h = there (take n l) d.place (d.theirs ∙ t) in omega (arith, length-take n l)
-    below d false t =
-        let h = there (take n m) d.place (d.ours ∙ rw t) in omega (arith, length-take n m)
 
 -- ---- what was picked
 -- what was forgotten of an outcome
@@ -347,14 +292,14 @@ module _ (before : List ℕ) (p : Numbers) (first : List ℕ) (x : Ran) (m : Lis
     decided q e = forgot_ok (picks s A B) q (decision ∙ e)
 
     -- the first side, or the second, with what the other used in conflict
-    tells_first : (place : ℕ) → pick_by k A.state B.state ≡ ok (record { first = true; place = place_of place })
+    tells_first : (place : Option ℕ) → pick_by k A.state B.state ≡ ok (record { first = true; place = option_of place })
         → told (eval_choice s A B) ≡ some (told_with (won_of both x) (won_marks place p.count first m) a)
     tells_first place e =
         first_told s x y first m a b A.state B.state A.tries B.tries A.trace B.trace _ A.outcome B.outcome (decided _ e) refl ha hb
         ∙ told_same refl refl refl refl
         (won_state first m x.numbers y.numbers p.count place sides.one.count sides.other.count sides.one.fine A.state B.state left_first left_second)
 
-    tells_second : (place : ℕ) → pick_by k A.state B.state ≡ ok (record { first = false; place = place_of place })
+    tells_second : (place : Option ℕ) → pick_by k A.state B.state ≡ ok (record { first = false; place = option_of place })
         → told (eval_choice s A B) ≡ some (told_with (won_of both y) (won_marks place p.count m first) b)
     tells_second place e =
         second_told s x y first m a b A.state B.state A.tries B.tries A.trace B.trace _ A.outcome B.outcome (decided _ e) refl ha hb
@@ -362,14 +307,14 @@ module _ (before : List ℕ) (p : Numbers) (first : List ℕ) (x : Ran) (m : Lis
         (won_state m first y.numbers x.numbers p.count place sides.other.count sides.one.count sides.other.fine B.state A.state left_second left_first)
 
   -- what is picked of the states that were left
-  abbrev Pick·is : Bool → ℕ → Type 0
+  abbrev Pick·is : Bool → Option ℕ → Type 0
   Pick·is b place =
       (t t' : State)
       → t ≡ state_of first x.numbers
       → t' ≡ state_of m y.numbers
-      → pick_by k t t' ≡ ok (record { first = b; place = place_of place })
+      → pick_by k t t' ≡ ok (record { first = b; place = option_of place })
 
-  module _ (place : ℕ) (within : place ≤ p.count) where
+  module _ (place : Option ℕ) (within : IfSome place (λ w. w < p.count)) where
     made_first : Pick·is true place
         → ChoiceOf before p first x m y (won_marks place p.count first m) (record { ran = won_of both x; first = true })
     unfolding choice_words
@@ -396,12 +341,12 @@ module _ (before : List ℕ) (p : Numbers) (first : List ℕ) (x : Ran) (m : Lis
 
   module _ (r : Ran) where
     pub choice_first : k ≡ First → r ≡ won_of both x → ChoiceOf before p first x m y first (record { ran = r; first = true })
-    unfolding pick_by side place_of won_marks
-    choice_first e w = rw w (made_first 0 (omega arith) (λ t t' _ _. rw e))
+    unfolding pick_by side won_marks
+    choice_first e w = rw w (made_first None _ (λ t t' _ _. rw e))
 
     pub choice_second : k ≡ Second → r ≡ won_of both y → ChoiceOf before p first x m y m (record { ran = r; first = false })
-    unfolding pick_by side place_of won_marks
-    choice_second e w = rw w (made_second 0 (omega arith) (λ t t' _ _. rw e))
+    unfolding pick_by side won_marks
+    choice_second e w = rw w (made_second None _ (λ t t' _ _. rw e))
 
     pub choice_neither :
         (c : Refused)
@@ -433,7 +378,7 @@ module _ (before : List ℕ) (p : Numbers) (first : List ℕ) (x : Ran) (m : Lis
           (ap₂ pick_winner h h'
           ∙ ap₂ (λ (i j : ℕ). pick_from 0 (take i first) (take j m)) sides.one.count sides.other.count
           ∙ sym w.picked
-          ∙ (λ i. record { first = t i; place = place_of w.place }))
+          ∙ (λ i. record { first = t i; place = option_of w.place }))
 
       go : (b : Bool) → r.first ≡ b → ChoiceOf before p first x m y m' r
       go true t =
@@ -453,13 +398,14 @@ sides_marked before p first x m y h = record {
   theirs = rw (← h.other.count) (fine_long m y.numbers h.other.fine);
 }
 
-module _ (n c : ℕ) (first m : List ℕ) (marked : Marked n first m) (e : c ≡ n) (k : Pair) (h : pick_of k ≡ pick_from 0 (take c first) (take c m)) where
+module _ (n c : ℕ) (first m : List ℕ) (marked : Marked n first m) (e : c ≡ n) (k : Pair) (h : pick_of k ≡ pick_from 0 (take c first) (take c m))
+    (i : IfSome k.place (λ w. w < c)) where
   pub decided_first : Decided k.place n first m
-  decided_first = record { within = rw (← e) (picked_within c first m k h); marked = marked }
+  decided_first = record { within = rw (← e) i; marked = marked }
 
   pub decided_second : Decided k.place n m first
   decided_second = record {
-    within = rw (← e) (picked_within c first m k h);
+    within = rw (← e) i;
     marked = record { small = marked.small; ours = marked.theirs; theirs = marked.ours };
   }
 
@@ -470,7 +416,7 @@ module _ (n c : ℕ) (first m : List ℕ) (marked : Marked n first m) (e : c ≡
     winner_first t a b = record {
       place = k.place;
       within = decided_first.within;
-      picked = (λ i. record { first = sym t i; place = place_of k.place }) ∙ rw e at h;
+      picked = (λ i. record { first = sym t i; place = option_of k.place }) ∙ rw e at h;
       one = λ _. (a, b);
       other = λ f. absurd (false≢true (sym f));
     }
@@ -481,7 +427,7 @@ module _ (n c : ℕ) (first m : List ℕ) (marked : Marked n first m) (e : c ≡
     winner_second t a b = record {
       place = k.place;
       within = decided_first.within;
-      picked = (λ i. record { first = sym t i; place = place_of k.place }) ∙ rw e at h;
+      picked = (λ i. record { first = sym t i; place = option_of k.place }) ∙ rw e at h;
       one = λ f. absurd (false≢true f);
       other = λ _. (a, b);
     }

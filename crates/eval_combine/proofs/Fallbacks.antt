@@ -2,7 +2,7 @@
 use mathlib.Core.Bool.{Bool, true, false}
 use mathlib.Core.List.{List}
 use mathlib.Core.Option.{some, none-ne-some, none}
-use mathlib.Core.Path.{◌≡◌, refl, sym, ap, subst, ◌∙◌}
+use mathlib.Core.Path.{◌≡◌, refl, sym, ap, ◌∙◌}
 use Prim.Native.Nat.{ℕ}
 use native.Mathlib.Omega.{arith}
 use lib.Dec.{eqb}
@@ -23,6 +23,7 @@ use Rattle.eval_told.specs.declared.Ran.{Ran}
 use Rattle.eval_told.specs.Told.{Told, told, Numbered, told_with, answered, scalar_words}
 use Rattle.eval_told.specs.Results.{value_ran, refusal_ran}
 use Rattle.eval_combine.specs.Made.{Returned, FallbackOf, MarksUnchanged}
+use Rattle.eval_combine.specs.Unchanged.{fallback_by as made_by, fallback_made}
 use Rattle.eval_combine.proofs.Tells.{run_of, told_same, value_told, refusal_told}
 
 -- ---- the number, by what was decided
@@ -148,21 +149,40 @@ module _ (own : ℕ) (before : List ℕ) (p : Numbers) (ran : Ran) (m : List ℕ
           left = left_same before p given.fine;
         })
 
--- ---- where a refused child left the marks as they were
-module _ (own : ℕ) (p : Numbers) (ran : Ran) (k : Fallback) (q : k ≡ fallback_way ran.number) where
-  abbrev Made : Ran → Type 0
-  Made r = (before m : List ℕ) → Returned before p m ran → MarksUnchanged before m ran → FallbackOf own before p ran m m r
+-- ---- as a whole
+module _ (own : ℕ) (p : Numbers) (ran : Ran) where
+  all :
+      (k : Fallback)
+      → k ≡ fallback_way ran.number
+      → (r : Ran)
+      → r ≡ made_by k own p ran
+      → (before m m' : List ℕ)
+      → Returned before p m ran
+      → (ran.number ≡ 0 → m' ≡ m)
+      → ((ran.number ≡ 0 → ⊥) → m' ≡ before)
+      → FallbackOf own before p ran m m' r
+  unfolding made_by
+  all Child q r e before m m' given u n =
+      let same : m' ≡ m = u (child_number ran.number q) in
+      rw (e, same) (fallback_child own before p ran m given Child q refl)
+  all Own q r e before m m' given u n =
+      let back : m' ≡ before = n (refusing own before p ran m given Own q (λ c. let y : ◌≡◌ {A = ℕ} 0 1 = cc in omega arith)) in
+      rw (e, back) (fallback_own own before p ran m given Own q _ refl refl)
+  all Passed q r e before m m' given u n =
+      let back : m' ≡ before = n (refusing own before p ran m given Passed q (λ c. let y : ◌≡◌ {A = ℕ} 0 1 = cc in omega arith)) in
+      rw (e, back) (fallback_passed own before p ran m given Passed q _ refl refl)
 
-  pub unchanged_child : k ≡ Child → Made ran
-  unchanged_child a before m given _ = fallback_child own before p ran m given k q a
+  module _ (r : Ran) (made : r ≡ fallback_made own p ran) where
+    -- a refused child left the marks as they were
+    pub fallback_same : (before m : List ℕ) → Returned before p m ran → MarksUnchanged before m ran → FallbackOf own before p ran m m r
+    unfolding fallback_made
+    fallback_same before m given u = all (fallback_way ran.number) refl r made before m m given (λ _. refl) u
 
-  module _ (r : Ran) where
-    pub unchanged_own : k ≡ Own → r ≡ value_ran ran.tries 1 own p → Made r
-    unchanged_own a e before m given u =
-        let z = refusing own before p ran m given k q (λ c. let y : ◌≡◌ {A = ℕ} 0 1 = cc in omega arith) in
-        subst (λ (l : List ℕ). FallbackOf own before p ran m l r) (sym (u z)) (fallback_own own before p ran m given k q r a e)
+    -- the marks of a refused child are put back
+    pub fallback_undone : (before m : List ℕ) → Returned before p m ran → (ran.number ≡ 0 → ⊥) → FallbackOf own before p ran m before r
+    unfolding fallback_made
+    fallback_undone before m given z = all (fallback_way ran.number) refl r made before m before given (λ e. absurd (z e)) (λ _. refl)
 
-    pub unchanged_passed : k ≡ Passed → r ≡ refusal_ran ran.number ran.place ran.tries p → Made r
-    unchanged_passed a e before m given u =
-        let z = refusing own before p ran m given k q (λ c. let y : ◌≡◌ {A = ℕ} 0 1 = cc in omega arith) in
-        subst (λ (l : List ℕ). FallbackOf own before p ran m l r) (sym (u z)) (fallback_passed own before p ran m given k q r a e)
+    pub fallback_kept : (before m : List ℕ) → Returned before p m ran → ran.number ≡ 0 → FallbackOf own before p ran m m r
+    unfolding fallback_made
+    fallback_kept before m given z = all (fallback_way ran.number) refl r made before m m given (λ _. refl) (λ n. absurd (n z))

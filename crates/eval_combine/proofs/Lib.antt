@@ -4,5 +4,4 @@ pub mod Fallbacks
 pub mod Guards
 pub mod Choices
 pub mod Alone
-pub mod Unchanged
 pub mod Words

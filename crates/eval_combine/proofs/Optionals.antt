@@ -1,9 +1,9 @@
 -- An optional, by what `parse_option` decides.
-use mathlib.Core.Bool.{Bool, true, false, false≢true}
+use mathlib.Core.Bool.{Bool, true, false, not, false≢true}
 use mathlib.Core.List.{List, [], ◌∷◌}
-use mathlib.Core.Logic.{⊎_elim}
+use mathlib.Core.Logic.{⊎_elim, inl, inr}
 use mathlib.Core.Option.{Option, some, none, none-ne-some}
-use mathlib.Core.Path.{◌≡◌, refl, sym, ap, subst, ◌∙◌}
+use mathlib.Core.Path.{◌≡◌, refl, sym, ap, ◌∙◌}
 use Prim.Native.Nat.{ℕ, ◌+◌}
 use native.Mathlib.Omega.{arith}
 use lib.Dec.{eqb}
@@ -21,14 +21,15 @@ use Rattle.state_marks.specs.Lent.{state_of}
 use Rattle.take_search.proofs.States.{left_same}
 use Rattle.eval_structs.specs.declared.Counting.{Counting}
 use Rattle.eval_structs.specs.declared.Counting.TheVariants.{Counted, Uncounted, Absent, PassedOn}
-use Rattle.eval_structs.specs.Decisions.{with_remaining, counted_of, option_way, option_by, some_of}
-use Rattle.eval_structs.specs.Laws.{counted_none, option_refused}
+use Rattle.eval_structs.specs.Decisions.{with_remaining, option_way, option_by, some_of}
+use Rattle.eval_structs.specs.Laws.{option_refused}
 use Rattle.eval_structs.specs.contracts.Counting as T
 use Rattle.eval_told.specs.declared.Ran.{Ran}
 use Rattle.eval_told.specs.Told.{told, Numbered, told_with}
 use Rattle.eval_told.specs.Results.{value_ran, refusal_ran}
 use Rattle.eval_combine.specs.Made.{ChildGiven, Undone, optional_words, OptionalOf}
 use Rattle.eval_combine.specs.declared.Optioned.{Optioned}
+use Rattle.eval_combine.specs.Unchanged.{optional_by, optional_made}
 use Rattle.eval_combine.proofs.Tells.{run_of, told_same, value_told, refusal_told}
 
 -- ---- the number, by what was decided
@@ -73,7 +74,7 @@ module _ (catch : Bool) (before : List ℕ) (p : Numbers) (ran : Ran) (m : List 
   s = state_of before p
 
   abbrev way : Counting
-  way = option_way ran.number catch p.remaining ran.numbers.remaining (counted_of 4294967295)
+  way = option_way ran.number catch p.remaining ran.numbers.remaining none
 
   value_same :
       ran.number ≡ 0
@@ -108,7 +109,7 @@ module _ (catch : Bool) (before : List ℕ) (p : Numbers) (ran : Ran) (m : List 
           let x = refusal_told ran m w t n l e h in
           option_refused catch none s (run_of (refused e) t n l) e refl i
           ∙ ap (λ (y : Counting). option_by y s (run_of (refused e) t n l))
-          (rw (x.number, x.state, ← counted_none) (sym q ∙ a))
+          (rw (x.number, x.state) (sym q ∙ a))
 
       absent_same :
           k ≡ Absent
@@ -160,7 +161,7 @@ module _ (catch : Bool) (before : List ℕ) (p : Numbers) (ran : Ran) (m : List 
 
 -- ---- as the code returns
 module _ (catch : Bool) (before : List ℕ) (p : Numbers) (ran : Ran) (m : List ℕ) (given : ChildGiven before p m ran) (k : Counting)
-    (q : k ≡ option_way ran.number catch p.remaining ran.numbers.remaining (counted_of 4294967295)) (r : Ran) where
+    (q : k ≡ option_way ran.number catch p.remaining ran.numbers.remaining none) (r : Ran) where
   pub optional_present :
       OneOf (0 ∷ 1 ∷ []) (tag_of T.the_type k)
       → r ≡ value_ran ran.tries (ran.len + 1) ran.word ran.numbers
@@ -181,7 +182,7 @@ module _ (catch : Bool) (before : List ℕ) (p : Numbers) (ran : Ran) (m : List 
       → OptionalOf catch before p ran m before (record { ran = r; present = false })
   unfolding refusing
   optional_absent a e =
-      let z = refusing_number ran.number p.remaining ran.numbers.remaining catch (counted_of 4294967295) (rw (← q, a) tt) in
+      let z = refusing_number ran.number p.remaining ran.numbers.remaining catch none (rw (← q, a) tt) in
       rw e (record {
         same = whole catch before p ran m (record { ran = value_ran ran.tries 1 0 p; present = false }) before z
             (λ x t n l w i h. absent_same catch before p ran m k q x t n l w i h a);
@@ -197,7 +198,7 @@ module _ (catch : Bool) (before : List ℕ) (p : Numbers) (ran : Ran) (m : List 
       → OptionalOf catch before p ran m m (record { ran = r; present = false })
   unfolding refusing
   optional_passed a e =
-      let z = refusing_number ran.number p.remaining ran.numbers.remaining catch (counted_of 4294967295) (rw (← q, a) tt) in
+      let z = refusing_number ran.number p.remaining ran.numbers.remaining catch none (rw (← q, a) tt) in
       rw e (record {
         same = whole catch before p ran m
             (record { ran = refusal_ran ran.number ran.place ran.tries ran.numbers; present = false }) m z
@@ -208,19 +209,60 @@ module _ (catch : Bool) (before : List ℕ) (p : Numbers) (ran : Ran) (m : List 
         refused = λ _. (refl, refl);
       })
 
--- ---- where an absent child left the marks as they were
-module _ (catch : Bool) (p : Numbers) (ran : Ran) (k : Counting)
-    (q : k ≡ option_way ran.number catch p.remaining ran.numbers.remaining (counted_of 4294967295)) (r : Ran) where
-  abbrev Made : Bool → Type 0
-  Made b = (before m : List ℕ) → ChildGiven before p m ran → Undone catch before p m ran → OptionalOf catch before p ran m m (record { ran = r; present = b })
+-- ---- as a whole
+module _ (catch : Bool) (p : Numbers) (ran : Ran) where
+  abbrev decided : Counting
+  decided = option_way ran.number catch p.remaining ran.numbers.remaining none
 
-  pub unchanged_present : OneOf (0 ∷ 1 ∷ []) (tag_of T.the_type k) → r ≡ value_ran ran.tries (ran.len + 1) ran.word ran.numbers → Made true
-  unchanged_present o e before m given _ = optional_present catch before p ran m given k q r o e
+  all :
+      (k : Counting)
+      → k ≡ decided
+      → (r : Optioned)
+      → r ≡ optional_by k p ran
+      → (before m m' : List ℕ)
+      → ChildGiven before p m ran
+      → (k ≡ Absent → m' ≡ before)
+      → ((k ≡ Absent → ⊥) → m' ≡ m)
+      → OptionalOf catch before p ran m m' r
+  unfolding optional_by
+  all Counted q r e before m m' given u n =
+      let same : m' ≡ m = n (λ z. let y : ◌≡◌ {A = ℕ} 0 1 = cc in omega arith) in
+      rw (e, same) (optional_present catch before p ran m given Counted q _ (inl refl) refl)
+  all Uncounted q r e before m m' given u n =
+      let same : m' ≡ m = n (λ z. let y : ◌≡◌ {A = ℕ} 0 1 = cc in omega arith) in
+      rw (e, same) (optional_present catch before p ran m given Uncounted q _ (inr refl) refl)
+  all Absent q r e before m m' given u n = rw (e, u refl) (optional_absent catch before p ran m given Absent q _ refl refl)
+  all PassedOn q r e before m m' given u n =
+      let same : m' ≡ m = n (λ z. let y : ◌≡◌ {A = ℕ} 0 1 = cc in omega arith) in
+      rw (e, same) (optional_passed catch before p ran m given PassedOn q _ refl refl)
 
-  pub unchanged_absent : k ≡ Absent → r ≡ value_ran ran.tries 1 0 p → Made false
-  unchanged_absent a e before m given u =
-      subst (λ (l : List ℕ). OptionalOf catch before p ran m l (record { ran = r; present = false })) (sym (u (sym q ∙ a)))
-      (optional_absent catch before p ran m given k q r a e)
+  is_absent : (k : Counting) → k ≡ decided → (r : Optioned) → r ≡ optional_by k p ran → r.ran.number ≡ 0 → r.present ≡ false → k ≡ Absent
+  unfolding optional_by refusing
+  is_absent Counted q r e z f = absurd (false≢true (sym f ∙ ap (λ (x : Optioned). x.present) e))
+  is_absent Uncounted q r e z f = absurd (false≢true (sym f ∙ ap (λ (x : Optioned). x.present) e))
+  is_absent Absent q r e z f = refl
+  is_absent PassedOn q r e z f =
+      absurd (refusing_number ran.number p.remaining ran.numbers.remaining catch none (rw (← q) tt) (sym (ap (λ (x : Optioned). x.ran.number) e) ∙ z))
 
-  pub unchanged_passed : k ≡ PassedOn → r ≡ refusal_ran ran.number ran.place ran.tries ran.numbers → Made false
-  unchanged_passed a e before m given _ = optional_passed catch before p ran m given k q r a e
+  module _ (r : Optioned) (made : r ≡ optional_made catch p ran) where
+    -- an absent child left the marks as they were
+    pub optional_same : (before m : List ℕ) → ChildGiven before p m ran → Undone catch before p m ran → OptionalOf catch before p ran m m r
+    unfolding optional_made
+    optional_same before m given u = all decided refl r made before m m given u (λ _. refl)
+
+    -- the marks of an absent child are put back
+    pub optional_undone : (before m : List ℕ) → ChildGiven before p m ran → r.ran.number ≡ 0 → not r.present ≡ true → OptionalOf catch before p ran m before r
+    unfolding optional_made
+    optional_undone before m given z f =
+        all decided refl r made before m before given (λ _. refl) (λ n. absurd (n (is_absent decided refl r made z (go r.present f))))
+      where
+        go : (b : Bool) → not b ≡ true → b ≡ false
+        go true h = absurd (false≢true h)
+        go false h = refl
+
+    pub optional_kept :
+        (before m : List ℕ) → ChildGiven before p m ran → ((r.ran.number ≡ 0) × (r.present ≡ false) → ⊥) → OptionalOf catch before p ran m m r
+    unfolding optional_made optional_by
+    optional_kept before m given n =
+        all decided refl r made before m m given
+        (λ a. let e = rw a at made in absurd (n (ap (λ (x : Optioned). x.ran.number) e, ap (λ (x : Optioned). x.present) e))) (λ _. refl)

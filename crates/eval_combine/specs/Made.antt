@@ -1,7 +1,6 @@
 -- What the functions of this crate make, by the rules.
-use Rattle.std.specs.Prelude.{Bool, true, false, List, [], ◌∷◌, ◌++◌, ◌≡◌, ℕ, ◌+◌, ◌-◌, ◌^◌, ◌≤◌, ◌<◌, eqb, length, take, drop}
-use Rattle.std.proofs.Math.Option.{some}
-use Rattle.std.specs.Prelude.{if◌then◌else◌}
+use Rattle.std.specs.Prelude.{Bool, true, false, List, [], ◌∷◌, ◌++◌, ◌≡◌, ℕ, ◌+◌, ◌^◌, ◌≤◌, ◌<◌, eqb, length, take, drop, if◌then◌else◌, Option, Some, None, IfSome, ◌-◌}
+use Rattle.std.proofs.Math.Option.{some, none}
 use Rattle.rules.specs.Outcome.{ok}
 use Rattle.rules.specs.Value as values
 use Rattle.rules.specs.Value.{BaseValue, Value, has_kind}
@@ -13,7 +12,7 @@ use Rattle.state_marks.specs.declared.Numbers.{Numbers}
 use Rattle.state_marks.specs.Lent.{state_of, Fine, pick_of}
 use Rattle.take_search.specs.States.{LeftState}
 use Rattle.eval_structs.specs.declared.Counting.TheVariants.{Absent}
-use Rattle.eval_structs.specs.Decisions.{counted_of, option_way}
+use Rattle.eval_structs.specs.Decisions.{option_way}
 use Rattle.eval_told.specs.declared.Ran.{Ran}
 use Rattle.eval_told.specs.Results.{value_ran, refusal_ran}
 use Rattle.eval_told.specs.Told.{told, Numbered, told_with, answered, scalar_words}
@@ -47,7 +46,7 @@ pub record OptionalOf (catch : Bool) (before : List ℕ) (p : Numbers) (ran : Ra
 -- an absent child left the marks as they were
 abbrev pub Undone : Bool → List ℕ → Numbers → List ℕ → Ran → Type 0
 Undone catch before p m ran =
-    option_way ran.number catch p.remaining ran.numbers.remaining (counted_of 4294967295) ≡ Absent → m ≡ before
+    option_way ran.number catch p.remaining ran.numbers.remaining none ≡ Absent → m ≡ before
 
 -- ---- fallback, whose own value is this word
 pub record Returned (before : List ℕ) (p : Numbers) (m : List ℕ) (ran : Ran) : Type 0 where
@@ -101,9 +100,10 @@ ended_of ran = record { number = ran.number; place = ran.place }
 abbrev pub won_of : ℕ → Ran → Ran
 won_of tries ran = value_ran tries ran.len ran.word ran.numbers
 
--- the winner's marks beside the loser's, by the place that decided, plus 1, or 0 for none
-unfoldable pub won_marks : ℕ → ℕ → List ℕ → List ℕ → List ℕ
-won_marks place n m l = if eqb place 0 then m else conflicts (place - 1) (take n m) (take n l) ++ drop n m
+-- the winner's marks beside the loser's, by the place that decided, if one did
+unfoldable pub won_marks : Option ℕ → ℕ → List ℕ → List ℕ → List ℕ
+won_marks None n m l = m
+won_marks (Some w) n m l = conflicts w (take n m) (take n l) ++ drop n m
 
 -- marks of so many items
 pub record Marked (n : ℕ) (m l : List ℕ) : Type 0 where
@@ -111,13 +111,13 @@ pub record Marked (n : ℕ) (m l : List ℕ) : Type 0 where
   pub ours : n ≤ length m
   pub theirs : n ≤ length l
 
-pub record Decided (place n : ℕ) (m l : List ℕ) : Type 0 where
-  pub within : place ≤ n
+pub record Decided (place : Option ℕ) (n : ℕ) (m l : List ℕ) : Type 0 where
+  pub within : IfSome place (λ w. w < n)
   pub marked : Marked n m l
 
 pub record WinnerOf (tries n : ℕ) (first : List ℕ) (x : Ran) (m : List ℕ) (y : Ran) (m' : List ℕ) (r : Chosen) : Type 0 where
-  pub place : ℕ
-  pub within : place ≤ n
+  pub place : Option ℕ
+  pub within : IfSome place (λ w. w < n)
   pub picked : pick_of (record { first = r.first; place = place }) ≡ pick_from 0 (take n first) (take n m)
   pub one : r.first ≡ true → (m' ≡ won_marks place n first m) × (r.ran ≡ won_of tries x)
   pub other : r.first ≡ false → (m' ≡ won_marks place n m first) × (r.ran ≡ won_of tries y)

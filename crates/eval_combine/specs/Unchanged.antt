@@ -1,6 +1,7 @@
 -- What the functions that are handed no marks make: one outcome for every result, whatever left it.
 use Rattle.std.specs.Prelude.{Bool, true, false, ℕ, ◌+◌, eqb}
 use Rattle.std.specs.Prelude.{if◌then◌else◌}
+use Rattle.std.proofs.Math.Option.{none}
 use Rattle.rules.specs.Outcome.{combine_with}
 use Rattle.rules.specs.declared.Refused.{Refused}
 use Rattle.eval_error.specs.Refusals as error
@@ -9,7 +10,7 @@ use Rattle.eval_structs.specs.declared.Counting.{Counting}
 use Rattle.eval_structs.specs.declared.Counting.TheVariants.{Counted, Uncounted, Absent, PassedOn}
 use Rattle.eval_structs.specs.declared.Fallback.{Fallback}
 use Rattle.eval_structs.specs.declared.Fallback.TheVariants.{Child, Own, Refusal}
-use Rattle.eval_structs.specs.Decisions.{counted_of, option_way, fallback_way}
+use Rattle.eval_structs.specs.Decisions.{option_way, fallback_way}
 use Rattle.eval_told.specs.declared.Ran.{Ran}
 use Rattle.eval_combine.specs.declared.Optioned.{Optioned}
 use Rattle.eval_combine.specs.declared.Chosen.{Chosen}
@@ -25,7 +26,7 @@ optional_by PassedOn p ran = record { ran = refusal_ran ran.number ran.place ran
 
 unfoldable pub optional_made : Bool → Numbers → Ran → Optioned
 optional_made catch p ran =
-    optional_by (option_way ran.number catch p.remaining ran.numbers.remaining (counted_of 4294967295)) p ran
+    optional_by (option_way ran.number catch p.remaining ran.numbers.remaining none) p ran
 
 -- ---- fallback, whose own value is this word
 unfoldable pub fallback_by : Fallback → ℕ → Numbers → Ran → Ran

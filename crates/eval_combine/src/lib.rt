@@ -2,6 +2,7 @@
 #![tactic(auto)]
 
 ghost use Rattle.std.specs.Prelude.{◌≡◌, List, ℕ, ◌+◌, ◌^◌, ◌<◌};
+ghost use Rattle.std.specs.Prelude.{if◌then◌else◌};
 ghost use Rattle.std.proofs.Math.Option.{some};
 ghost use Rattle.rules.specs.Value.{BaseValue, word};
 ghost use Rattle.rules.specs.Tree.{Tree, Fallback as FallbackTree};
@@ -12,7 +13,6 @@ ghost use Rattle.eval_combine.specs.Unchanged.{optional_made, fallback_made, fir
 use eval_structs::{Counting, Fallback, Pick};
 use eval_told::{Ran, refusal, value};
 use state_marks::Numbers;
-use wire::wide;
 
 #[derive(Clone, Copy)]
 pub struct Optioned {
@@ -37,44 +37,32 @@ pub fn optional(
     requires { ChildGiven before.now p marks.old ran }
     ensures { OptionalOf catch before.now p ran marks.old marks.new result }
 {
-    let left = ran.numbers;
-    match eval_structs::parse_option(ran.number, catch, p.remaining, left.remaining, 4294967295) {
-        Counting::Absent => {
-            *marks = *before; // as if the child had not run
-            Optioned {
-                ran: value(ran.tries, 1, 0, p),
-                present: false,
-            }
-        },
-        Counting::PassedOn => Optioned {
-            ran: refusal(ran.number, ran.place, ran.tries, left),
-            present: false,
-        },
-        _ => Optioned {
-            ran: value(ran.tries, ran.len + 1, ran.word, left),
-            present: true,
-        },
+    let made = optional_unchanged(ran, p, catch);
+    if made.ran.number == 0 && !made.present {
+        *marks = *before; // as if the child had not run
     }
+    made
 }
 
 // What an optional makes of its child's result, where an absent child left the marks as they were.
+#[tactic(auto, using(crate::proofs::Optionals::optional_same), unfolding(crate::specs::Unchanged::optional_made, crate::specs::Unchanged::optional_by))]
 pub fn optional_unchanged(ran: Ran, p: Numbers, catch: bool) -> Optioned
     requires { ran.len < 1000 }
     ensures value { result ≡ optional_made catch p ran }
     ensures by_index { (before m : List ℕ) → ChildGiven before p m ran → Undone catch before p m ran → OptionalOf catch before p ran m m result }
 {
-    let left = ran.numbers;
-    match eval_structs::parse_option(ran.number, catch, p.remaining, left.remaining, 4294967295) {
+    let left = ran.numbers.remaining;
+    match eval_structs::parse_option(ran.number, catch, p.remaining, left, None) {
         Counting::Absent => Optioned {
             ran: value(ran.tries, 1, 0, p), // the word 0 alone
             present: false,
         },
         Counting::PassedOn => Optioned {
-            ran: refusal(ran.number, ran.place, ran.tries, left),
+            ran: refusal(ran.number, ran.place, ran.tries, ran.numbers),
             present: false,
         },
-        _ => Optioned {
-            ran: value(ran.tries, ran.len + 1, ran.word, left),
+        Counting::Counted | Counting::Uncounted => Optioned {
+            ran: value(ran.tries, ran.len + 1, ran.word, ran.numbers),
             present: true,
         },
     }
@@ -85,20 +73,14 @@ pub fn fallback(ran: Ran, p: Numbers, word: u32, before: &[u16; 256], marks: &mu
     requires { Returned before.now p marks.old ran }
     ensures { FallbackOf word before.now p ran marks.old marks.new result }
 {
-    match eval_structs::parse_fallback(ran.number) {
-        Fallback::Child => ran,
-        Fallback::Own => {
-            *marks = *before; // its own value uses nothing
-            value(ran.tries, 1, word, p)
-        },
-        Fallback::Refusal => {
-            *marks = *before; // a refusal leaves what was given
-            refusal(ran.number, ran.place, ran.tries, p)
-        },
+    if ran.number != 0 {
+        *marks = *before; // its own value uses nothing, and a refusal leaves what was given
     }
+    fallback_unchanged(ran, p, word)
 }
 
 // What a fallback makes of its child's result, where a refused child left the marks as they were.
+#[tactic(auto, using(crate::proofs::Fallbacks::fallback_same), unfolding(crate::specs::Unchanged::fallback_made, crate::specs::Unchanged::fallback_by))]
 pub fn fallback_unchanged(ran: Ran, p: Numbers, word: u32) -> Ran
     ensures value { result ≡ fallback_made word p ran }
     ensures by_index { (before m : List ℕ) → Returned before p m ran → MarksUnchanged before m ran → FallbackOf word before p ran m m result }
@@ -136,23 +118,20 @@ pub fn guard(ran: Ran, lo: u32, hi: u32) -> Ran
     if ran.number != 0 {
         return ran;
     }
-    let number = eval_structs::parse_guard(lo, hi, ran.word);
-    if number == 0 {
-        return ran;
+    match eval_structs::parse_guard(lo, hi, ran.word) {
+        0 => ran,
+        number => refusal(number, ran.numbers.current, ran.tries, ran.numbers),
     }
-    let left = ran.numbers;
-    refusal(number, left.current, ran.tries, left)
 }
 
-// What the loser used is in conflict with the place that decided, which is plus 1, or 0 for none.
-fn mark_conflicts(marks: &mut [u16; 256], loser: &[u16; 256], count: u32, place: u32)
+// What the loser used is in conflict with the place that decided, if one did.
+fn mark_conflicts(marks: &mut [u16; 256], loser: &[u16; 256], count: u32, place: Option<usize>)
     requires { Decided place count marks.old loser.now }
     ensures { marks.new ≡ won_marks place count marks.old loser.now }
 {
-    if place == 0 {
-        return;
+    if let Some(w) = place {
+        state_marks::save_conflicts(marks, loser, count as usize, w);
     }
-    state_marks::save_conflicts(marks, loser, wide(count), wide(place) - 1);
 }
 
 // How a side ended, for the decision.
@@ -169,8 +148,7 @@ fn ended(ran: Ran) -> rules::Refused
 fn won(ran: Ran, tries: u32) -> Ran
     ensures { result ≡ won_of tries ran }
 {
-    let left = ran.numbers;
-    value(tries, ran.len, ran.word, left)
+    value(tries, ran.len, ran.word, ran.numbers)
 }
 
 // The side that `pick_winner` says.
@@ -185,7 +163,7 @@ fn winner(
     requires { Marked count first.now marks.old }
     ensures { WinnerOf tries count first.now x marks.old y marks.new result }
 {
-    let picked = state_marks::pick_winner(first, marks, wide(count));
+    let picked = state_marks::pick_winner(first, marks, count as usize);
     if picked.first {
         let second = *marks;
         *marks = *first;
@@ -216,14 +194,12 @@ pub fn choose(
     ensures { ChoiceOf before.now p first.now x marks.old y marks.new result }
 {
     let tries = x.tries + y.tries;
-    let a = x.numbers;
-    let b = y.numbers;
     match eval_structs::this_or_that_picks_first(
         ended(x),
         ended(y),
         p.remaining,
-        a.remaining,
-        b.remaining,
+        x.numbers.remaining,
+        y.numbers.remaining,
     ) {
         Pick::First => {
             *marks = *first;
@@ -247,30 +223,41 @@ pub fn choose(
     }
 }
 
+// What a choice makes of one side, where the other is missing: `first` tells which side it is.
+#[tactic(auto, unfolding(crate::specs::Unchanged::first_made, crate::specs::Unchanged::second_made, crate::specs::Unchanged::side_made, crate::specs::Unchanged::combined))]
+fn one_side(ran: Ran, first: bool, p: Numbers) -> Chosen
+    requires { ran.tries + 1 < 2 ^ 32 }
+    ensures { result ≡ (if first then first_made p ran else second_made p ran) }
+{
+    let tries = ran.tries + 1;
+    if ran.number == 0 {
+        return Chosen {
+            ran: won(ran, tries),
+            first, // 20 is not for wrong input
+        };
+    }
+    let missing = rules::Refused {
+        number: 20,
+        place: 0,
+    };
+    let e = if first {
+        eval_error::combine_with(ended(ran), missing)
+    } else {
+        eval_error::combine_with(missing, ended(ran))
+    };
+    Chosen {
+        ran: refusal(e.number, e.place, tries, p),
+        first: false,
+    }
+}
+
 // What a choice makes of its first side, where the second is missing and a refused first side left the marks as they were.
 pub fn first_alone(ran: Ran, p: Numbers) -> Chosen
     requires { ran.tries + 1 < 2 ^ 32 }
     ensures value { result ≡ first_made p ran }
     ensures by_index { (before m : List ℕ) → Sides before p m ran before (missing_of p) → MarksUnchanged before m ran → ChoiceOf before p m ran before (missing_of p) m result }
 {
-    let tries = ran.tries + 1;
-    if ran.number == 0 {
-        return Chosen {
-            ran: won(ran, tries),
-            first: true, // 20 is not for wrong input
-        };
-    }
-    let e = eval_error::combine_with(
-        ended(ran),
-        rules::Refused {
-            number: 20,
-            place: 0,
-        },
-    );
-    Chosen {
-        ran: refusal(e.number, e.place, tries, p),
-        first: false,
-    }
+    one_side(ran, true, p)
 }
 
 // The same of its second side, where the first is missing.
@@ -279,22 +266,5 @@ pub fn second_alone(ran: Ran, p: Numbers) -> Chosen
     ensures value { result ≡ second_made p ran }
     ensures by_index { (before m : List ℕ) → Sides before p before (missing_of p) m ran → MarksUnchanged before m ran → ChoiceOf before p before (missing_of p) m ran m result }
 {
-    let tries = ran.tries + 1;
-    if ran.number == 0 {
-        return Chosen {
-            ran: won(ran, tries),
-            first: false,
-        };
-    }
-    let e = eval_error::combine_with(
-        rules::Refused {
-            number: 20,
-            place: 0,
-        },
-        ended(ran),
-    );
-    Chosen {
-        ran: refusal(e.number, e.place, tries, p),
-        first: false,
-    }
+    one_side(ran, false, p)
 }

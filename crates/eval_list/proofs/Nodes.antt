@@ -84,33 +84,33 @@ module _
           space = r.space;
         }
 
-    module _ {x : Node} (h : get_elem? (read_form b).nodes n ≡ some (node_of x)) where
+    module _ (x : Node) (h : get_elem? (read_form b).nodes n ≡ some (node_of x)) where
       abbrev T : Tree
       T = r.stands.tree
 
       -- ---- many and some
-      pub many_is : x.kind ≡ 5 → Single (Many (eqb x.r 1)) b n x.p T
+      pub many_is : (node_of x).kind ≡ 5 → Single (Many (eqb x.r 1)) b n x.p T
       many_is k = many_tree b n T r.stands.node (node_of x) h k
 
-      pub some_is : x.kind ≡ 6 → Single (Some (eqb x.r 1)) b n x.p T
+      pub some_is : (node_of x).kind ≡ 6 → Single (Some (eqb x.r 1)) b n x.p T
       some_is k = some_tree b n T r.stands.node (node_of x) h k
 
-      pub many_ready : x.kind ≡ 5 → OverScalar (Many (eqb x.r 1)) b known s items m p (in_place field x.p) o
+      pub many_ready : (node_of x).kind ≡ 5 → OverScalar (Many (eqb x.r 1)) b known s items m p (in_place field x.p) o
       unfolding leaves kind_of
       many_ready k = over (Many (eqb x.r 1)) x.p (λ c. refl) (λ c. refl) (many_is k)
 
-      pub some_ready : x.kind ≡ 6 → OverScalar (Some (eqb x.r 1)) b known s items m p (in_place field x.p) o
+      pub some_ready : (node_of x).kind ≡ 6 → OverScalar (Some (eqb x.r 1)) b known s items m p (in_place field x.p) o
       unfolding leaves kind_of
       some_ready k = over (Some (eqb x.r 1)) x.p (λ c. refl) (λ c. refl) (some_is k)
 
       -- ---- optional
-      pub optional_is : x.kind ≡ 4 → Single (Optional (eqb x.r 1)) b n x.p T
+      pub optional_is : (node_of x).kind ≡ 4 → Single (Optional (eqb x.r 1)) b n x.p T
       optional_is k = optional_tree b n T r.stands.node (node_of x) h k
 
-      pub optional_less : x.kind ≡ 4 → {t : ℕ} → n * 2 + 1 ≡ t → x.p * 2 + 2 < t
+      pub optional_less : (node_of x).kind ≡ 4 → {t : ℕ} → n * 2 + 1 ≡ t → x.p * 2 + 2 < t
       optional_less k e = omega (arith, (optional_is k).less)
 
-      pub optional_ready : x.kind ≡ 4 → OverList (Optional (eqb x.r 1)) b known s items m p (in_place field x.p) o
+      pub optional_ready : (node_of x).kind ≡ 4 → OverList (Optional (eqb x.r 1)) b known s items m p (in_place field x.p) o
       unfolding leaves kind_of
       optional_ready k =
           let w = optional_is k in
@@ -123,7 +123,7 @@ module _
           }
 
       -- ---- choice
-      module _ (k : x.kind ≡ 4 → ⊥) (k₂ : x.kind ≡ 5 → ⊥) (k₃ : x.kind ≡ 6 → ⊥) where
+      module _ (k : (node_of x).kind ≡ 4 → ⊥) (k₂ : (node_of x).kind ≡ 5 → ⊥) (k₃ : (node_of x).kind ≡ 6 → ⊥) where
         choice_is : Double b n x.p x.q T
         choice_is = other_tree b n T r.stands.node (node_of x) h k k₂ k₃ r.long
 

@@ -8,7 +8,7 @@ use native.Mathlib.Omega.{arith}
 use lib.ListN.{length, take, drop}
 use lib.Seq.{sets, length-sets}
 use borrow.Author.Tests.{eq-eqb, ne_eqb}
-use Rattle.rules.specs.Outcome.{Outcome, ok, refused}
+use Rattle.rules.specs.Outcome.{Outcome, ok}
 use Rattle.rules.specs.Value.{Value, words}
 use Rattle.rules.specs.Sheet.{sheet_area}
 use Rattle.rules.specs.Tree.{Tree, Optional}

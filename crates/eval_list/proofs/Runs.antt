@@ -10,7 +10,7 @@ use lib.ListN.{length}
 use lib.Seq.{length-sets}
 use Rattle.std.specs.Prelude.{if◌then◌else◌}
 use Rattle.rules.specs.Outcome.{Outcome, ok, refused, fault}
-use Rattle.rules.specs.Value.{Kind, Value, words}
+use Rattle.rules.specs.Value.{Kind, Value}
 use Rattle.rules.specs.Tree.{Tree, kind_of, has_repeat}
 use Rattle.rules.specs.Split.{Item}
 use Rattle.rules.specs.State.{parsed}

@@ -1,7 +1,7 @@
 // The run of a node whose value is a list or an optional list. Its words go to a lent slice, where all is 0 from the first of them on.
 #![tactic(auto)]
 
-ghost use Rattle.std.specs.Prelude.{◌≡◌, ◌∷◌, ◌+◌, ◌≤◌, ◌<◌, length, take, drop};
+ghost use Rattle.std.specs.Prelude.{◌≡◌, true, false, ◌∷◌, ◌+◌, ◌≤◌, ◌<◌, length, take, drop};
 ghost use Rattle.std.proofs.Math.Option.{some};
 ghost use Rattle.std.proofs.lemmas.List.Edits.{sets};
 ghost use Rattle.rules.specs.Sheet.{sheet_area};
@@ -10,9 +10,9 @@ ghost use Rattle.eval_told.specs.Nodes.{tree_at};
 ghost use Rattle.eval_list.specs.Lists.{Listed, Writes, WritesField, OverScalar, OverList, WritesOver, EitherList, with_mark, child_with_mark, side_with_mark};
 
 use eval_node::Repeat;
-use eval_told::Ran;
+use eval_told::{Line, Ran};
+use form_layout::Kind;
 use state_marks::Numbers;
-use wire::wide;
 
 // A node, and the word of the answer slice that its value begins at.
 #[derive(Clone, Copy)]
@@ -29,6 +29,21 @@ struct Child {
     at: usize,
 }
 
+impl Child {
+    // The repeat of a list: every value is written.
+    fn repeat(self) -> Repeat
+        ensures { result ≡ record { child = self.node; catch = self.catch; stops = false; writes = true; at = self.at } }
+    {
+        Repeat {
+            child: self.node,
+            catch: self.catch,
+            stops: false,
+            writes: true,
+            at: self.at,
+        }
+    }
+}
+
 // The two sides of a choice, and where the value begins.
 #[derive(Clone, Copy)]
 struct Either {
@@ -38,86 +53,61 @@ struct Either {
 }
 
 fn run_many(
-    form: &[u8],
-    known: &[u64],
-    sheet: &[u8],
-    items: &[u32],
+    line: &Line,
     marks: &mut [u16; 256],
     p: Numbers,
     child: Child,
     out: &mut [u32],
     mark: u16,
 ) -> Ran
-    requires { OverScalar (Many child.catch) form.now known.now sheet.now items.now marks.old p (child_with_mark child mark) out.old }
-    ensures { WritesOver (Many child.catch) form.now sheet.now items.now (child_with_mark child mark) marks.old p marks.new out.old out.new result }
+    requires { OverScalar (Many child.catch) line.now.form.now line.now.known.now line.now.sheet.now line.now.items.now marks.old p (child_with_mark child mark) out.old }
+    ensures { WritesOver (Many child.catch) line.now.form.now line.now.sheet.now line.now.items.now (child_with_mark child mark) marks.old p marks.new out.old out.new result }
 {
-    let how = Repeat {
-        child: child.node,
-        catch: child.catch,
-        stops: false,
-        writes: true,
-        at: child.at,
-    };
-    let all = eval_node::run_repeat(form, known, sheet, items, marks, p, how, out, mark);
+    let how = child.repeat();
+    let all = eval_node::run_repeat(line, marks, p, how, out, mark);
     if all.number != 0 {
-        let left = all.numbers;
-        return eval_told::refusal(all.number, all.place, all.tries, left);
+        return eval_words::refused_list(all);
     }
     eval_words::counted_list(all, child.at, out)
 }
 
-// A list of no values is refused.
+// A list of no values is refused. That is one test more than `run_many`; each is proved for its own node.
 fn run_some(
-    form: &[u8],
-    known: &[u64],
-    sheet: &[u8],
-    items: &[u32],
+    line: &Line,
     marks: &mut [u16; 256],
     p: Numbers,
     child: Child,
     out: &mut [u32],
     mark: u16,
 ) -> Ran
-    requires { OverScalar (Some child.catch) form.now known.now sheet.now items.now marks.old p (child_with_mark child mark) out.old }
-    ensures { WritesOver (Some child.catch) form.now sheet.now items.now (child_with_mark child mark) marks.old p marks.new out.old out.new result }
+    requires { OverScalar (Some child.catch) line.now.form.now line.now.known.now line.now.sheet.now line.now.items.now marks.old p (child_with_mark child mark) out.old }
+    ensures { WritesOver (Some child.catch) line.now.form.now line.now.sheet.now line.now.items.now (child_with_mark child mark) marks.old p marks.new out.old out.new result }
 {
-    let how = Repeat {
-        child: child.node,
-        catch: child.catch,
-        stops: false,
-        writes: true,
-        at: child.at,
-    };
-    let all = eval_node::run_repeat(form, known, sheet, items, marks, p, how, out, mark);
-    let left = all.numbers;
+    let how = child.repeat();
+    let all = eval_node::run_repeat(line, marks, p, how, out, mark);
     if all.number != 0 {
-        return eval_told::refusal(all.number, all.place, all.tries, left);
+        return eval_words::refused_list(all);
     }
-    let number = eval_structs::parse_some(all.count);
-    if number != 0 {
-        return eval_told::refusal(number, 0, all.tries, left);
+    match eval_structs::parse_some(all.count) {
+        0 => eval_words::counted_list(all, child.at, out),
+        number => eval_told::refusal(number, 0, all.tries, all.numbers),
     }
-    eval_words::counted_list(all, child.at, out)
 }
 
 // A node whose value is a list or an optional list: its words go to `out` from `at` on, where all is 0.
 #[cycle(lists)]
 pub fn run_list(
-    form: &[u8],
-    known: &[u64],
-    sheet: &[u8],
-    items: &[u32],
+    line: &Line,
     marks: &mut [u16; 256],
     p: Numbers,
     field: Field,
     out: &mut [u32],
     mark: u16,
 ) -> Ran
-    requires { Listed form.now known.now sheet.now items.now marks.old p (with_mark field mark) out.old }
-    ensures { WritesField form.now sheet.now items.now (with_mark field mark) marks.old p marks.new out.old out.new result }
+    requires { Listed line.now.form.now line.now.known.now line.now.sheet.now line.now.items.now marks.old p (with_mark field mark) out.old }
+    ensures { WritesField line.now.form.now line.now.sheet.now line.now.items.now (with_mark field mark) marks.old p marks.new out.old out.new result }
 {
-    let x = form_layout::node_at(form, field.node);
-    let kind = x.kind;
+    let x = form_layout::node_at(line.form, field.node);
     let child = Child {
         node: x.p,
         catch: x.r == 1,
@@ -128,85 +118,77 @@ pub fn run_list(
         right: x.q,
         at: field.at,
     };
-    match kind {
-        4 => run_optional_list(form, known, sheet, items, marks, p, child, out, mark),
-        5 => run_many(form, known, sheet, items, marks, p, child, out, mark),
-        6 => run_some(form, known, sheet, items, marks, p, child, out, mark),
-        _ => run_either(form, known, sheet, items, marks, p, sides, out, mark),
+    match x.kind {
+        Kind::Optional => run_optional_list(line, marks, p, child, out, mark),
+        Kind::Many => run_many(line, marks, p, child, out, mark),
+        Kind::AtLeastOne => run_some(line, marks, p, child, out, mark),
+        _ => run_either(line, marks, p, sides, out, mark),
     }
 }
 
 // A list that is present has 1 before its words. Absent or refused, the child wrote nothing, and the word of an absent value is 0.
 #[cycle(lists)]
 fn run_optional_list(
-    form: &[u8],
-    known: &[u64],
-    sheet: &[u8],
-    items: &[u32],
+    line: &Line,
     marks: &mut [u16; 256],
     p: Numbers,
     child: Child,
     out: &mut [u32],
     mark: u16,
 ) -> Ran
-    requires { OverList (Optional child.catch) form.now known.now sheet.now items.now marks.old p (child_with_mark child mark) out.old }
-    ensures { WritesOver (Optional child.catch) form.now sheet.now items.now (child_with_mark child mark) marks.old p marks.new out.old out.new result }
+    requires { OverList (Optional child.catch) line.now.form.now line.now.known.now line.now.sheet.now line.now.items.now marks.old p (child_with_mark child mark) out.old }
+    ensures { WritesOver (Optional child.catch) line.now.form.now line.now.sheet.now line.now.items.now (child_with_mark child mark) marks.old p marks.new out.old out.new result }
 {
     let before = *marks;
     let field = Field {
         node: child.node,
         at: child.at,
     };
-    let ran = run_list(form, known, sheet, items, marks, p, field, out, mark);
+    let ran = run_list(line, marks, p, field, out, mark);
     let made = eval_combine::optional(ran, p, child.catch, &before, marks);
     if made.present {
-        eval_words::shift(out, child.at, wide(ran.len));
+        eval_words::shift(out, child.at, ran.len as usize);
     }
-    let answer = made.ran;
-    answer
+    made.ran
 }
 
 // Of two lists the one that wins. Both are run on the same marks and write to the same words.
 #[cycle(lists)]
 fn run_either(
-    form: &[u8],
-    known: &[u64],
-    sheet: &[u8],
-    items: &[u32],
+    line: &Line,
     marks: &mut [u16; 256],
     p: Numbers,
     sides: Either,
     out: &mut [u32],
     mark: u16,
 ) -> Ran
-    requires { EitherList form.now known.now sheet.now items.now marks.old p (side_with_mark sides mark) sides.right out.old }
-    ensures { (t u : Tree) → tree_at form.now sides.left ≡ some t → tree_at form.now sides.right ≡ some u → Writes mark (sheet_area sheet.now) items.now (Choice t u) marks.old p marks.new out.old sides.at out.new result }
+    requires { EitherList line.now.form.now line.now.known.now line.now.sheet.now line.now.items.now marks.old p (side_with_mark sides mark) sides.right out.old }
+    ensures { (t u : Tree) → tree_at line.now.form.now sides.left ≡ some t → tree_at line.now.form.now sides.right ≡ some u → Writes mark (sheet_area line.now.sheet.now) line.now.items.now (Choice t u) marks.old p marks.new out.old sides.at out.new result }
 {
     let before = *marks;
     let left = Field {
         node: sides.left,
         at: sides.at,
     };
-    let x = run_list(form, known, sheet, items, marks, p, left, out, mark);
+    let x = run_list(line, marks, p, left, out, mark);
     let first = *marks;
-    let n = wide(x.len);
+    let n = x.len as usize;
     let kept = eval_words::set_aside(out, sides.at, n);
     *marks = before;
     let right = Field {
         node: sides.right,
         at: sides.at,
     };
-    let y = run_list(form, known, sheet, items, marks, p, right, out, mark);
+    let y = run_list(line, marks, p, right, out, mark);
     let made = eval_combine::choose(x, y, p, &before, &first, marks);
-    let answer = made.ran;
     eval_words::settle(
         out,
         sides.at,
-        answer.number,
+        made.ran.number,
         made.first,
         &kept,
         n,
-        wide(y.len),
+        y.len as usize,
     );
-    answer
+    made.ran
 }

@@ -125,12 +125,12 @@ module _ {b known s words m : List ℕ} {p : Numbers} {f : MarkedField} {l : Lis
   lists_of {l'} {stop} h t g =
       subst (λ (u : Tree). Lists f.mark (sheet_area s) words u m p f.at l l' stop) (some-injective T t (sym T-node ∙ g)) h
 
-  module _ {x : Node} (h : get_elem? (read_form b).nodes f.node ≡ some (node_of x)) where
-    number : kind_number T ≡ x.kind
+  module _ (x : Node) (h : get_elem? (read_form b).nodes f.node ≡ some (node_of x)) where
+    number : kind_number T ≡ (node_of x).kind
     number = tree_number b f.node T T-node (node_of x) h
 
     -- ---- a leaf
-    module _ (k : x.kind ≤ 3) where
+    module _ (k : (node_of x).kind ≤ 3) where
       low_kind : kind_number T ≤ 3
       low_kind = omega (arith, number)
 
@@ -157,7 +157,7 @@ module _ {b known s words m : List ℕ} {p : Numbers} {f : MarkedField} {l : Lis
           })
 
     -- ---- a node that swallows 20
-    pub other_lists : 3 < x.kind → ((x.kind ≡ 8) ⊎ (x.kind ≡ 11) → ⊥) → (x.kind ≡ 9 → ⊥) → ListsNode b s words f m p l l f.at
+    pub other_lists : 3 < (node_of x).kind → (((node_of x).kind ≡ 8) ⊎ ((node_of x).kind ≡ 11) → ⊥) → ((node_of x).kind ≡ 9 → ⊥) → ListsNode b s words f m p l l f.at
     other_lists k a c =
         lists_of
         (lists_none f.mark (sheet_area s) words T m p f.at l (λ is.
@@ -182,7 +182,7 @@ module _ {b known s words m : List ℕ} {p : Numbers} {f : MarkedField} {l : Lis
           same = λ is q. ap (λ (u : Tree). lacking f.mark is u q) (sym whole) ∙ same c is q;
         }
 
-    under : (x.kind ≡ 8) ⊎ (x.kind ≡ 11) → Under b known s words m p f.mark f.node x.p T
+    under : ((node_of x).kind ≡ 8) ⊎ ((node_of x).kind ≡ 11) → Under b known s words m p f.mark f.node x.p T
     unfolding leaves lacking
     under =
         ⊎_elim
@@ -191,10 +191,9 @@ module _ {b known s words m : List ℕ} {p : Numbers} {f : MarkedField} {l : Lis
         (last_ready b known s words m p f.mark f.node z.below x h k).below)
         (λ k. over (Guard x.lo x.hi) (λ c. refl) (λ c is q. refl)
         (guard_tree b f.node T T-node (node_of x) h k)
-        (guard_ready b known s words m p f.mark f.node z.below x h (λ e. omega arith) (λ e. omega arith) (λ e. omega arith)
-        (λ e. omega arith) (λ e. omega arith) (λ e. omega arith) (λ e. omega arith) (λ e. omega arith)).below)
+        (guard_ready b known s words m p f.mark f.node z.below x h k).below)
 
-    module _ (k : (x.kind ≡ 8) ⊎ (x.kind ≡ 11)) where
+    module _ (k : ((node_of x).kind ≡ 8) ⊎ ((node_of x).kind ≡ 11)) where
       pub under_less : x.p < f.node
       under_less = (under k).less
 
@@ -215,7 +214,7 @@ module _ {b known s words m : List ℕ} {p : Numbers} {f : MarkedField} {l : Lis
           })
 
     -- ---- a choice
-    module _ (k : x.kind ≡ 9) where
+    module _ (k : (node_of x).kind ≡ 9) where
       both : BothSides b known s words m p f.mark x.p x.q
       both = choice_ready b known s words m p f.mark f.node z.below x h k
 

@@ -19,6 +19,8 @@ ghost use Rattle.eval_list.specs.Lists.{with_mark};
 ghost use Rattle.eval_missing.specs.Missing.{Listable, Listing, Lists, ListsNode};
 
 use eval_list::Field;
+use eval_told::Line;
+use form_layout::Kind;
 use state_marks::Numbers;
 
 // The refusal of a leaf that looked in vain.
@@ -42,60 +44,47 @@ fn put_entry(list: &mut [u32], at: usize, node: usize, p: Numbers) -> usize
 }
 
 // Whether a node is refused with 20, on a copy of the marks.
-fn ends_missing(
-    form: &[u8],
-    known: &[u64],
-    sheet: &[u8],
-    items: &[u32],
-    marks: &[u16; 256],
-    p: Numbers,
-    node: usize,
-    mark: u16,
-) -> bool
-    requires { Scalar form.now known.now sheet.now items.now marks.now p mark node }
-    ensures { (t : Tree) (is : List Item) → tree_at form.now node ≡ some t → Items (sheet_area sheet.now) items.now p is → result ≡ ends_missing (eval mark is t (state_of marks.now p)).outcome }
+fn ends_missing(line: &Line, marks: &[u16; 256], p: Numbers, node: usize, mark: u16) -> bool
+    requires { Scalar line.now.form.now line.now.known.now line.now.sheet.now line.now.items.now marks.now p mark node }
+    ensures { (t : Tree) (is : List Item) → tree_at line.now.form.now node ≡ some t → Items (sheet_area line.now.sheet.now) line.now.items.now p is → result ≡ ends_missing (eval mark is t (state_of marks.now p)).outcome }
 {
     let mut copy = *marks;
-    let ran = eval_node::run_node(form, known, sheet, items, &mut copy, p, node, mark);
+    let ran = eval_node::run_node(line, &mut copy, p, node, mark);
     ran.number == MISSING
 }
 
 // The entries of a node whose value is no list, from the field's word on. Behind them is the next.
 fn list_node(
-    form: &[u8],
-    known: &[u64],
-    sheet: &[u8],
-    items: &[u32],
+    line: &Line,
     marks: &[u16; 256],
     p: Numbers,
     field: Field,
     list: &mut [u32],
     mark: u16,
 ) -> usize
-    requires { Listable form.now known.now sheet.now items.now marks.now p (with_mark field mark) list.old }
-    ensures { ListsNode form.now sheet.now items.now (with_mark field mark) marks.now p list.old list.new result }
+    requires { Listable line.now.form.now line.now.known.now line.now.sheet.now line.now.items.now marks.now p (with_mark field mark) list.old }
+    ensures { ListsNode line.now.form.now line.now.sheet.now line.now.items.now (with_mark field mark) marks.now p list.old list.new result }
 {
-    let x = form_layout::node_at(form, field.node);
-    let kind = x.kind;
-    if kind <= 3 {
+    let x = form_layout::node_at(line.form, field.node);
+    if x.kind.is_leaf() {
         return put_entry(list, field.at, field.node, p);
     }
-    match kind {
-        8 | 11 => {
+    match x.kind {
+        Kind::Last | Kind::Guard => {
             let under = Field {
                 node: x.p,
                 at: field.at,
             };
-            list_node(form, known, sheet, items, marks, p, under, list, mark)
+            list_node(line, marks, p, under, list, mark)
         }
-        9 => {
+        Kind::Choice => {
             let mut at = field.at;
-            if ends_missing(form, known, sheet, items, marks, p, x.p, mark) {
+            if ends_missing(line, marks, p, x.p, mark) {
                 let first = Field { node: x.p, at };
-                at = list_node(form, known, sheet, items, marks, p, first, list, mark);
+                at = list_node(line, marks, p, first, list, mark);
             }
             let second = Field { node: x.q, at };
-            list_node(form, known, sheet, items, marks, p, second, list, mark)
+            list_node(line, marks, p, second, list, mark)
         }
         _ => field.at, // the others swallow 20
     }
@@ -104,22 +93,19 @@ fn list_node(
 // The list of a node that is refused with 20, in the state that it was given: it begins at the first word, and behind it nothing is
 // written. A node whose value is a list is never refused with 20.
 pub fn list_missing(
-    form: &[u8],
-    known: &[u64],
-    sheet: &[u8],
-    items: &[u32],
+    line: &Line,
     marks: &[u16; 256],
     p: Numbers,
     node: usize,
     list: &mut [u32],
     mark: u16,
 ) -> usize
-    requires { Listing form.now known.now sheet.now items.now marks.now p mark node list.old }
-    ensures { (t : Tree) → tree_at form.now node ≡ some t → Lists mark (sheet_area sheet.now) items.now t marks.now p 0 list.old list.new result }
+    requires { Listing line.now.form.now line.now.known.now line.now.sheet.now line.now.items.now marks.now p mark node list.old }
+    ensures { (t : Tree) → tree_at line.now.form.now node ≡ some t → Lists mark (sheet_area line.now.sheet.now) line.now.items.now t marks.now p 0 list.old list.new result }
 {
-    if eval_shortcut::is_list(form, node) {
+    if eval_shortcut::is_list(line.form, node) {
         return 0;
     }
     let field = Field { node, at: 0 };
-    list_node(form, known, sheet, items, marks, p, field, list, mark)
+    list_node(line, marks, p, field, list, mark)
 }

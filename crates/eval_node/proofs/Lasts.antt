@@ -33,14 +33,9 @@ use Rattle.eval_shortcut.proofs.Trees.{sound_at}
 use Rattle.eval_shortcut.specs.Children.{NodeSays}
 use Rattle.eval_shortcut.proofs.Steps.{inside, wrapped, child_told, child_left, child_tries}
 use Rattle.eval_told.specs.Results.{more_tries}
-use Rattle.eval_node.specs.declared.Repeat.{Repeat}
 use Rattle.eval_words.specs.declared.Repeated.{Repeated}
 use Rattle.eval_words.specs.Values.{denied_list, counted_values, last_value}
-use Rattle.eval_node.specs.Cycle.{listed, Repeating, Repeats}
-
--- the repeat of `count` and of `last`
-abbrev pub unwritten : ℕ → Repeat
-unwritten n = record { child = n; catch = false; stops = true; writes = false; at = 0 }
+use Rattle.eval_node.specs.Cycle.{counting, listed, Repeating, Repeats}
 
 -- ---- a repeat's refusal has a number
 fine_numbered : {A : Type 0} (h : ℕ) (P : A → Type 0) (o : Outcome A) → Fine h P o → Numbered o
@@ -71,18 +66,18 @@ module _
     (flat : has_repeat z.stands.tree ≡ false)
   where
     -- nothing is written
-    abbrev pub repeat_asks : (o : List ℕ) → Repeating b known s ws m p mark (unwritten n) o
+    abbrev pub repeat_asks : (o : List ℕ) → Repeating b known s ws m p mark (counting n) o
     repeat_asks o = record { below = z; flat = flat; space = λ e. absurd (false≢true e) }
 
     module _
         (m' o o' : List ℕ)
         (all : Repeated)
-        (f : (t : Tree) → tree_at b n ≡ some t → Repeats mark (sheet_area s) ws t (unwritten n) m p m' o o' all)
+        (f : (t : Tree) → tree_at b n ≡ some t → Repeats mark (sheet_area s) ws t (counting n) m p m' o o' all)
       where
         abbrev tree : Tree
         tree = z.stands.tree
 
-        abbrev answer : Repeats mark (sheet_area s) ws tree (unwritten n) m p m' o o' all
+        abbrev answer : Repeats mark (sheet_area s) ws tree (counting n) m p m' o o' all
         answer = f tree z.stands.node
 
         module _ (is : List Item) (i : Items (sheet_area s) ws p is) where
@@ -166,13 +161,13 @@ module _ (b known s ws m : List ℕ) (p : Numbers) (mark n : ℕ) (z : Wraps Cou
   count_flat : has_repeat z.below.stands.tree ≡ false
   count_flat = (sound_count z.below.stands.tree z.sound).flat
 
-  pub count_asks : (o : List ℕ) → Repeating b known s ws m p mark (unwritten n) o
+  pub count_asks : (o : List ℕ) → Repeating b known s ws m p mark (counting n) o
   count_asks = repeat_asks b known s ws m p mark n z.below count_flat
 
   module _
       (m' o o' : List ℕ)
       (all : Repeated)
-      (f : (t : Tree) → tree_at b n ≡ some t → Repeats mark (sheet_area s) ws t (unwritten n) m p m' o o' all)
+      (f : (t : Tree) → tree_at b n ≡ some t → Repeats mark (sheet_area s) ws t (counting n) m p m' o o' all)
       (r : Ran)
     where
       count_wraps :
@@ -207,13 +202,13 @@ module _ (b known s ws m : List ℕ) (p : Numbers) (mark n : ℕ) (z : Wraps Las
   last_flat : has_repeat z.below.stands.tree ≡ false
   last_flat = (sound_last z.below.stands.tree z.sound).flat
 
-  pub last_asks : (o : List ℕ) → Repeating b known s ws m p mark (unwritten n) o
+  pub last_asks : (o : List ℕ) → Repeating b known s ws m p mark (counting n) o
   last_asks = repeat_asks b known s ws m p mark n z.below last_flat
 
   module _
       (m' o o' : List ℕ)
       (all : Repeated)
-      (f : (t : Tree) → tree_at b n ≡ some t → Repeats mark (sheet_area s) ws t (unwritten n) m p m' o o' all)
+      (f : (t : Tree) → tree_at b n ≡ some t → Repeats mark (sheet_area s) ws t (counting n) m p m' o o' all)
     where
       last_wraps :
           (m'' : List ℕ) (r : Ran)

@@ -8,7 +8,7 @@ use native.Mathlib.Omega.{arith}
 use lib.Dec.{eqb}
 use lib.ListN.{length, replicate, get_elem?, length-append}
 use lib.Seq.{sets, length-sets}
-use borrow.Author.Tests.{eqb-true, ltb-true}
+use borrow.Author.Tests.{ltb-true}
 use Rattle.std.specs.Prelude.{if◌then◌else◌}
 use Rattle.rules.specs.Outcome.{ok, refuse}
 use Rattle.rules.specs.Value.{Value, words}
@@ -23,7 +23,8 @@ use Rattle.rules.proofs.Steps.{Step, most, Runs}
 use Rattle.eval_structs.specs.declared.Counting.{Counting}
 use Rattle.eval_structs.specs.declared.Counting.TheVariants.{Counted, Uncounted, Absent, PassedOn}
 use Rattle.eval_structs.specs.Decisions.{with_remaining, counted_of, option_way}
-use Rattle.eval_structs.specs.Laws.{counted_none, counted_some, idle_remaining}
+use Rattle.std.specs.Prelude.{Option as Maybe, Some, None}
+use Rattle.eval_structs.specs.Laws.{idle_remaining}
 use Rattle.state_marks.specs.declared.Numbers.{Numbers}
 use Rattle.state_marks.specs.Lent.{state_of}
 use Rattle.take_search.specs.States.{CanTake, LeftState, Items}
@@ -108,14 +109,16 @@ counted_fewer n catch given left len = go (eqb n 0) (fewer left len) (swallowed 
     go false b true e = let z : ◌≡◌ {A = ℕ} 0 1 = cc in absurd (omega arith)
     go false b false e = let z : ◌≡◌ {A = ℕ} 0 1 = cc in absurd (omega arith)
 
+-- what remained after the last that counted; more than ever remains, before the first
+abbrev pub left_of : Maybe ℕ → ℕ
+left_of None = 257
+left_of (Some n) = n
+
 -- fewer remain than after the last that counted
-fewer_less : (l last : ℕ) → l ≤ 256 → fewer l (counted_of last) ≡ true → l < last
-unfolding fewer counted_of
-fewer_less l last h = go (eqb last 4294967295) refl
-  where
-    go : (b : Bool) → eqb last 4294967295 ≡ b → fewer l (if b then none else some last) ≡ true → l < last
-    go true q e = let z = eqb-true last 4294967295 q in omega arith
-    go false q e = ltb-true l last e
+fewer_less : (l : ℕ) (last : Maybe ℕ) → l ≤ 256 → fewer l (counted_of last) ≡ true → l < left_of last
+unfolding fewer
+fewer_less l None h e = omega arith
+fewer_less l (Some n) h e = ltb-true l n e
 
 -- ---- the values so far: counted, written, and the last of them
 pub record Kept (writes : Bool) (at : ℕ) (o₀ o : List ℕ) (vs : List Value) (all : Repeated) : Type 0 where
@@ -203,7 +206,7 @@ kept_more writes at o₀ o vs all v ran o' width k e few w =
 
 -- ---- what is still to be run is the whole
 pub record Turning (b known sh ws m₀ : List ℕ) (how : Repeat) (o₀ : List ℕ) (mark : ℕ) (p : Numbers) (m o : List ℕ)
-    (s : Numbers) (from last : ℕ) (all : Repeated) : Type 0 where
+    (s : Numbers) (from : ℕ) (last : Maybe ℕ) (all : Repeated) : Type 0 where
   pub asked : Repeating b known sh ws m₀ p mark how o₀
   pub fuel : ℕ
   pub bound : ℕ
@@ -242,7 +245,7 @@ module _ (b known sh ws m₀ : List ℕ) (how : Repeat) (o₀ : List ℕ) (mark 
       → from ≡ p.start
       → (all : Repeated)
       → all ≡ no_value p
-      → Turning b known sh ws m₀ how o₀ mark p m₀ o₀ p from 4294967295 all
+      → Turning b known sh ws m₀ how o₀ mark p m₀ o₀ p from None all
   unfolding repeated state_of from_raw
   turn_first z from h all e =
       let f = few_left m₀ p z.below.stands.state.fine in
@@ -253,12 +256,7 @@ module _ (b known sh ws m₀ : List ℕ) (how : Repeat) (o₀ : List ℕ) (mark 
         trace = [];
         values = [];
         whole =
-            sym (prefixed_none _)
-            ∙
-            ap
-            (λ
-            (l : Option ℕ). prefixed 0 [] [] (repeat catch stops (p.remaining + 2) l
-            (eval mark z.below.stands.state.items z.below.stands.tree) (state_of m₀ p))) (sym counted_none);
+            sym (prefixed_none _);
         ahead = λ l h q. omega arith;
         more = omega arith;
         few = omega arith;
@@ -270,7 +268,8 @@ module _ (b known sh ws m₀ : List ℕ) (how : Repeat) (o₀ : List ℕ) (mark 
   module _
       (m o : List ℕ)
       (s : Numbers)
-      (from last : ℕ)
+      (from : ℕ)
+      (last : Maybe ℕ)
       (all : Repeated)
       (i : Turning b known sh ws m₀ how o₀ mark p m o s from last all)
     where
@@ -532,7 +531,7 @@ module _ (b known sh ws m₀ : List ℕ) (how : Repeat) (o₀ : List ℕ) (mark 
           near : ran.numbers.remaining < i.bound
           near = i.ahead ran.numbers.remaining ran_fewer (counted_fewer ran.number catch s.remaining ran.numbers.remaining (counted_of last) w)
 
-          pub turn_less : ran.numbers.remaining < last
+          pub turn_less : ran.numbers.remaining < left_of last
           turn_less =
               let h = few_left m' ran.numbers ran_left.fine in
               fewer_less ran.numbers.remaining last h (counted_fewer ran.number catch s.remaining ran.numbers.remaining (counted_of last) w)
@@ -589,7 +588,7 @@ module _ (b known sh ws m₀ : List ℕ) (how : Repeat) (o₀ : List ℕ) (mark 
                   c ≡ false
                   → (next : ℕ)
                   → next ≡ next_from from s.remaining ran.numbers
-                  → Turning b known sh ws m₀ how o₀ mark p m' o' ran.numbers next ran.numbers.remaining r
+                  → Turning b known sh ws m₀ how o₀ mark p m' o' ran.numbers next (Some ran.numbers.remaining) r
               unfolding state_of from_raw fewer
               turn_next q next en =
                   let x = turn_counted catch stops fuelled.0 (counted_of last) run (state_of m s) (answered ran m') ran_told ran_numbered
@@ -597,7 +596,6 @@ module _ (b known sh ws m₀ : List ℕ) (how : Repeat) (o₀ : List ℕ) (mark 
                   let h = few_left m' ran.numbers ran_left.fine in
                   let n = length_more i.values x.value in
                   let f = fuelled.1 in
-                  let same = counted_some ran.numbers.remaining (omega arith) in
                   rw e
                   (record {
                     asked = i.asked;
@@ -607,12 +605,8 @@ module _ (b known sh ws m₀ : List ℕ) (how : Repeat) (o₀ : List ℕ) (mark 
                     values = i.values ++ (x.value ∷ []);
                     whole =
                         this_turn
-                        ∙ x.same
-                        ∙
-                        ap
-                        (λ (l : Option ℕ). prefixed (all.tries + ran.tries) (i.trace ++ (run (state_of m s)).trace)
-                        (i.values ++ (x.value ∷ [])) (repeat catch stops fuelled.0 l run (state_of m' ran.numbers))) (sym same);
-                    ahead = λ l a z. ltb-true l ran.numbers.remaining (subst (λ (o : Option ℕ). fewer l o ≡ true) same z);
+                        ∙ x.same;
+                    ahead = λ l a z. ltb-true l ran.numbers.remaining z;
                     more = omega (arith, i.more, near);
                     few = omega (arith, i.few, near);
                     left = ran_left;

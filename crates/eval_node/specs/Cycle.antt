@@ -17,6 +17,10 @@ use Rattle.eval_node.specs.declared.Repeat.{Repeat}
 use Rattle.eval_words.specs.declared.Repeated.{Repeated}
 
 -- ---- repeats
+-- the repeat of `count` and `last`: no refusal is caught, and nothing is written
+abbrev pub counting : ℕ → Repeat
+counting n = record { child = n; catch = false; stops = true; writes = false; at = 0 }
+
 abbrev pub listed : Repeated → List ℕ → List (List ℕ) → ToldList
 listed r m vs = record {
   number = r.number;

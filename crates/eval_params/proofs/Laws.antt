@@ -3,9 +3,9 @@ use mathlib.Core.Bool.{Bool, true, false, not}
 use mathlib.Core.List.{List}
 use mathlib.Core.Option.{Option, some, none}
 use mathlib.Core.Path.{◌≡◌, refl, sym, ap, subst, ◌∙◌}
-use Prim.Native.Nat.{ℕ, ◌+◌, ◌-◌}
+use Prim.Native.Nat.{ℕ, ◌+◌}
 use native.Mathlib.Numerals.{add-one}
-use borrow.Author.Tests.{ne_eqb, not-true, not-false}
+use borrow.Author.Tests.{not-true, not-false}
 use Rattle.std.specs.Prelude.{if◌then◌else◌}
 use Rattle.rules.specs.Outcome.{Spot, Outcome, ok, refused, parse_flag559, take_argument679, ◌>>=◌, Refusal, refuse}
 use Rattle.rules.specs.Value.{Base, text, number, is_number, Value, base, word, words}
@@ -20,23 +20,23 @@ use Rattle.rules.specs.Eval.{eval_positional, eval}
 use Rattle.rules.specs.Sound.{is_named}
 use Rattle.rules.proofs.Nodes.{named_shown}
 use Rattle.rules.proofs.CodeLaws.{code_place}
-use Rattle.split_arg.specs.declared.Part.{Part}
 use Rattle.state_marks.specs.declared.Numbers.{Numbers}
 use Rattle.state_marks.specs.Lent.{state_of}
 use Rattle.take_search.specs.Items.{part_bytes}
-use Rattle.eval_number.specs.declared.Number.{Number}
-use Rattle.eval_number.specs.declared.Number.TheVariants.{Value as Number-as-Value, Bad}
+use Rattle.std.specs.Prelude.{Some, None, Ok, Err}
+use Rattle.std.specs.Prelude as prelude
 use Rattle.eval_number.specs.Number.{option_of}
 use Rattle.take.specs.declared.Flag.{Flag as TookFlag}
-use Rattle.take.specs.declared.Value.TheVariants.{Missing, Taken as Value-as-Taken, NoArgument}
+use Rattle.take.specs.declared.Word.{Word}
+use Rattle.take.specs.declared.NoArgument.{NoArgument}
 use Rattle.take.specs.declared.Argument.{Argument as TookArgument}
-use Rattle.take.specs.declared.Operand.TheVariants.{Missing as Operand-as-Missing, Taken as Operand-as-Taken}
+use Rattle.take.specs.declared.Operand.{Operand as TookOperand}
 use Rattle.take.specs.declared.Positional.{Positional as TookPositional}
 use Rattle.take_search.specs.States.{Items}
 use Rattle.take.specs.Takes.{value_of, ValueUnchanged, operand_of, TakesFlag, TakesArg, TakesPositional}
 use Rattle.eval_told.specs.declared.Ran.{Ran}
 use Rattle.eval_told.specs.Told.{told, scalar_words, Evaluates}
-use Rattle.eval_params.specs.Leaves.{leaf_value, leaf_refusal, leaf_run, LeafTells, position_refusal}
+use Rattle.eval_params.specs.Leaves.{leaf_value, leaf_refusal, leaf_run, LeafTells}
 
 -- ---- a text
 
@@ -58,8 +58,8 @@ module _ (place : ℕ) (bytes : List ℕ) (p : Numbers) (numeric : Bool) where
   unfolding told leaf_run parse_text words word scalar_words
   text_tells e r er = rw (er, not-true numeric e) (record { same = λ m. refl; kept = refl })
 
-  module _ (e : not numeric ≡ false) (found : Number) (read : option_of found ≡ number_of bytes) where
-    pub number_tells : (n : ℕ) → found ≡ Number-as-Value n → (r : Ran) → r ≡ leaf_value n p
+  module _ (e : not numeric ≡ false) (found : prelude.Option ℕ) (read : option_of found ≡ number_of bytes) where
+    pub number_tells : (n : ℕ) → found ≡ Some n → (r : Ran) → r ≡ leaf_value n p
         → LeafTells (parse_text (if numeric then number else text) place bytes) p r
     unfolding told leaf_run words word scalar_words
     number_tells n h r er = rw (er, not-false numeric e) (record {
@@ -67,7 +67,7 @@ module _ (place : ℕ) (bytes : List ℕ) (p : Numbers) (numeric : Bool) where
       kept = refl;
     })
 
-    pub bad_tells : found ≡ Bad → (r : Ran) → r ≡ leaf_refusal 25 p.current p
+    pub bad_tells : found ≡ None → (r : Ran) → r ≡ leaf_refusal 25 p.current p
         → LeafTells (parse_text (if numeric then number else text) place bytes) p r
     unfolding told leaf_run scalar_words state_of from_raw
     bad_tells h r er = rw (er, not-false numeric e) (record {
@@ -79,32 +79,26 @@ module _ (place : ℕ) (bytes : List ℕ) (p : Numbers) (numeric : Bool) where
 
 -- ---- a position
 
-module _ (p : Numbers) (at : Position) (b : Base) (x : Operand) (wrong : ℕ) (e : wrong_position at x.strict ≡ position_refusal wrong) where
+module _ (p : Numbers) (at : Position) (b : Base) (x : Operand) (wrong : prelude.Option ℕ) (e : wrong_position at x.strict ≡ option_of wrong) where
   abbrev placing : State → Option ℕ → Outcome Value
   placing s o = elim o [ none ↦ parse_text b x.place x.text s | some n ↦ refused (refuse n (some x.place)) ]
 
-  placed_at : (s : State) → placed_value at b x s ≡ placing s (position_refusal wrong)
+  placed_at : (s : State) (o : prelude.Option ℕ) → wrong ≡ o → placed_value at b x s ≡ placing s (option_of o)
   unfolding placed_value
-  placed_at s = ap (placing s) e
+  placed_at s o h = ap (placing s) (e ∙ ap option_of h)
 
-  pub wrong_tells : (wrong ≡ 0 → ⊥) → (r : Ran) → r ≡ leaf_refusal wrong (x.place + 1) p → LeafTells (placed_value at b x) p r
-  unfolding told leaf_run position_refusal scalar_words
-  wrong_tells h r er =
-      let z : position_refusal wrong ≡ some wrong = rw (ne_eqb wrong 0 h) in
-      rw (er, add-one) (record {
-        same = λ m. ap (λ (o : Outcome Value). told (leaf_run o (state_of m p))) (placed_at (state_of m p) ∙ ap (placing (state_of m p)) z);
-        kept = refl;
-      })
+  pub wrong_tells : (n : ℕ) → wrong ≡ Some n → (r : Ran) → r ≡ leaf_refusal n (x.place + 1) p → LeafTells (placed_value at b x) p r
+  unfolding told leaf_run scalar_words
+  wrong_tells n h r er = rw (er, add-one) (record {
+    same = λ m. ap (λ (o : Outcome Value). told (leaf_run o (state_of m p))) (placed_at (state_of m p) (Some n) h);
+    kept = refl;
+  })
 
-  pub right_tells : wrong ≡ 0 → (r : Ran) → LeafTells (parse_text b x.place x.text) p r → LeafTells (placed_value at b x) p r
-  unfolding position_refusal
-  right_tells h r d =
-      let z : position_refusal wrong ≡ none = rw h in
-      record {
-        same = λ m.
-            ap (λ (o : Outcome Value). told (leaf_run o (state_of m p))) (placed_at (state_of m p) ∙ ap (placing (state_of m p)) z) ∙ d.same m;
-        kept = d.kept;
-      }
+  pub right_tells : wrong ≡ None → (r : Ran) → LeafTells (parse_text b x.place x.text) p r → LeafTells (placed_value at b x) p r
+  right_tells h r d = record {
+    same = λ m. ap (λ (o : Outcome Value). told (leaf_run o (state_of m p))) (placed_at (state_of m p) None h) ∙ d.same m;
+    kept = d.kept;
+  }
 
 -- ---- one try of a leaf
 
@@ -169,7 +163,7 @@ module _ (mark : ℕ) (area words m : List ℕ) (p : Numbers) (m' : List ℕ) wh
           leaf_told (Argument n names b adjacent) (state_of m p) (take_arg mark is names adjacent (state_of m p)) (argument_value n names b) x (state_of m' r.numbers)
           (d.same is t ∙ h)
 
-      pub argument_missing : r.value ≡ Missing → q ≡ leaf_refusal 20 0 r.numbers
+      pub argument_missing : r.value ≡ Ok None → q ≡ leaf_refusal 20 0 r.numbers
           → (n : ℕ) → Evaluates mark area words (Argument n names b adjacent) m p m' q
       unfolding told leaf_run argument_value refuse_missing scalar_words
       argument_missing h eq n =
@@ -181,26 +175,26 @@ module _ (mark : ℕ) (area words m : List ℕ) (p : Numbers) (m' : List ℕ) wh
             left = d.left;
           })
 
-      pub argument_taken : (i : ℕ) (x : Part) → r.value ≡ Value-as-Taken i x → LeafTells (parse_text b i (part_bytes area x)) r.numbers q
+      pub argument_taken : (w : Word) → r.value ≡ Ok (Some w) → LeafTells (parse_text b w.place (part_bytes area w.text)) r.numbers q
           → (n : ℕ) → Evaluates mark area words (Argument n names b adjacent) m p m' q
       unfolding argument_value
-      argument_taken i x h w n =
+      argument_taken x h w n =
           record {
             same = λ is t.
-                argument_told (some (record { place = i; text = part_bytes area x })) (ap (value_of area m' r.numbers) h) n is t
+                argument_told (some (record { place = x.place; text = part_bytes area x.text })) (ap (value_of area m' r.numbers) h) n is t
                 ∙ w.same m';
             left = rw w.kept d.left;
           }
 
       -- 22: the state is the one that was given
-      pub argument_refused : (i : ℕ) → r.value ≡ NoArgument i → q ≡ leaf_refusal 22 (i + 1) r.numbers
+      pub argument_refused : (k : NoArgument) → r.value ≡ Err k → q ≡ leaf_refusal 22 (k.key + 1) r.numbers
           → (n : ℕ) → Evaluates mark area words (Argument n names b adjacent) m p m' q
       unfolding told leaf_run eval eval_argument scalar_words
       argument_refused i h eq n =
           let k : (m' ≡ m) × (r.numbers ≡ p) = subst (ValueUnchanged m p m' r.numbers) h d.unchanged in
           rw (eq, add-one) (record {
             same = λ is t.
-                leaf_refused (Argument n names b adjacent) (state_of m p) (take_arg mark is names adjacent (state_of m p)) (argument_value n names b) (refuse 22 (some i))
+                leaf_refused (Argument n names b adjacent) (state_of m p) (take_arg mark is names adjacent (state_of m p)) (argument_value n names b) (refuse 22 (some i.key))
                 (d.same is t ∙ ap (value_of area m' r.numbers) h)
                 ∙ rw (k.0, k.1);
             left = d.left;
@@ -217,7 +211,7 @@ module _ (mark : ℕ) (area words m : List ℕ) (p : Numbers) (m' : List ℕ) wh
         leaf_told (Positional n at b) (state_of m p) (take_positional_word mark is (state_of m p)) (positional_value n at b) x (state_of m' r.numbers)
         (d.same is t ∙ h)
 
-    pub positional_missing : r.operand ≡ Operand-as-Missing → q ≡ leaf_refusal 20 0 r.numbers
+    pub positional_missing : r.operand ≡ None → q ≡ leaf_refusal 20 0 r.numbers
         → (n : ℕ) → Evaluates mark area words (Positional n at b) m p m' q
     unfolding told leaf_run positional_value refuse_missing scalar_words
     positional_missing h eq n = rw eq (record {
@@ -225,12 +219,12 @@ module _ (mark : ℕ) (area words m : List ℕ) (p : Numbers) (m' : List ℕ) wh
       left = d.left;
     })
 
-    pub positional_taken : (i : ℕ) (s : Bool) (x : Part) → r.operand ≡ Operand-as-Taken i s x
-        → LeafTells (placed_value at b (record { place = i; strict = s; text = part_bytes area x })) r.numbers q
+    pub positional_taken : (x : TookOperand) → r.operand ≡ Some x
+        → LeafTells (placed_value at b (record { place = x.place; strict = x.strict; text = part_bytes area x.text })) r.numbers q
         → (n : ℕ) → Evaluates mark area words (Positional n at b) m p m' q
     unfolding positional_value
-    positional_taken i s x h w n =
-        let y : Operand = record { place = i; strict = s; text = part_bytes area x } in
+    positional_taken x h w n =
+        let y : Operand = record { place = x.place; strict = x.strict; text = part_bytes area x.text } in
         record {
           same = λ is t.
               positional_told (some y) (ap (operand_of area m' r.numbers) h) n is t

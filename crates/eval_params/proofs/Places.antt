@@ -13,12 +13,13 @@ use Rattle.rules.specs.State.{State, Found, parsed, get, find, remove, with_curr
 use Rattle.rules.specs.Take.{Took, took, Taken, Operand, matches_arg, value_text, take_value, take_arg, is_operand, operand, take_positional_word}
 use Rattle.rules.specs.Sound.{Good}
 use Rattle.rules.proofs.StepLaws.{Free, Finds, find_good, free_below_lem, get_free, current_good_lem, remove_step}
-use Rattle.split_arg.specs.declared.Part.{Part}
 use Rattle.state_marks.specs.declared.Numbers.{Numbers}
 use Rattle.state_marks.specs.Lent.{state_of}
-use Rattle.take.specs.declared.Value.TheVariants.{Taken as Value-as-Taken, NoArgument}
+use Rattle.std.specs.Prelude.{Some, Ok, Err}
+use Rattle.take.specs.declared.Word.{Word}
+use Rattle.take.specs.declared.NoArgument.{NoArgument}
 use Rattle.take.specs.declared.Argument.{Argument}
-use Rattle.take.specs.declared.Operand.TheVariants.{Taken as Operand-as-Taken}
+use Rattle.take.specs.declared.Operand.{Operand as TookOperand}
 use Rattle.take.specs.declared.Positional.{Positional}
 use Rattle.take_search.specs.States.{CanTake}
 use Rattle.take.specs.Takes.{value_of, operand_of, TakesArg, TakesPositional}
@@ -108,18 +109,18 @@ module _ (mark : ℕ) (area words m : List ℕ) (p : Numbers) (g : CanTake area 
   below i h = omega (arith, g.same, g.fine.small)
 
   pub operand_place_lem : (r : Positional) → TakesPositional mark area words m p m' r
-      → (i : ℕ) (strict : Bool) (t : Part) → r.operand ≡ Operand-as-Taken i strict t → i < 256
-  operand_place_lem r d i strict t e =
+      → (w : TookOperand) → r.operand ≡ Some w → w.place < 256
+  operand_place_lem r d w e =
       let k = d.same g.items (g.table, g.same) ∙ ap (operand_of area m' r.numbers) e in
-      below i (operand_below mark g.items (state_of m p) good _ _ k)
+      below w.place (operand_below mark g.items (state_of m p) good _ _ k)
 
   module _ (n : Named) (adjacent : Bool) (r : Argument) (d : TakesArg mark area words n adjacent m p m' r) where
-    pub value_place_lem : (i : ℕ) (t : Part) → r.value ≡ Value-as-Taken i t → i < 256
-    value_place_lem i t e =
+    pub value_place_lem : (w : Word) → r.value ≡ Ok (Some w) → w.place < 256
+    value_place_lem w e =
         let k = d.same g.items (g.table, g.same) ∙ ap (value_of area m' r.numbers) e in
-        below i (value_below mark g.items (state_of m p) good g.told n adjacent _ _ k)
+        below w.place (value_below mark g.items (state_of m p) good g.told n adjacent _ _ k)
 
-    pub key_place : (i : ℕ) → r.value ≡ NoArgument i → i < 256
+    pub key_place : (k : NoArgument) → r.value ≡ Err k → k.key < 256
     key_place i e =
         let k = d.same g.items (g.table, g.same) ∙ ap (value_of area m' r.numbers) e in
-        below i (key_below mark g.items (state_of m p) good g.told n adjacent i k)
+        below i.key (key_below mark g.items (state_of m p) good g.told n adjacent i.key k)

@@ -1,7 +1,6 @@
 -- What the evaluation of a leaf asks for, and what it answers.
-use Rattle.std.specs.Prelude.{Bool, true, false, List, [], ◌≡◌, ℕ, eqb}
-use Rattle.std.proofs.Math.Option.{Option, some, none}
-use Rattle.std.specs.Prelude.{if◌then◌else◌}
+use Rattle.std.specs.Prelude.{Bool, true, false, List, [], ◌≡◌, ℕ}
+use Rattle.std.proofs.Math.Option.{some}
 use Rattle.rules.specs.Outcome.{Outcome}
 use Rattle.rules.specs.Value.{Base, Value}
 use Rattle.rules.specs.Tree.{Named, Flag, Argument}
@@ -45,7 +44,3 @@ leaf_run o s = record { outcome = o; state = s; tries = 1; trace = [] }
 pub record LeafTells (o : State → Outcome Value) (p : Numbers) (r : Ran) : Type 0 where
   pub same : (m : List ℕ) → told (leaf_run (o (state_of m p)) (state_of m p)) ≡ some (answered r m)
   pub kept : r.numbers ≡ p
-
--- the number of a refusal, or 0 for none
-unfoldable pub position_refusal : ℕ → Option ℕ
-position_refusal n = if eqb n 0 then none else some n

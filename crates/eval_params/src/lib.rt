@@ -2,7 +2,7 @@
 // told where to search from answers the same: its caller knows that no earlier place is the one that is sought.
 #![tactic(auto)]
 
-ghost use Rattle.std.specs.Prelude.{◌≡◌, Bool, true, false, not, List, ℕ, ◌≤◌, ◌<◌, min, length, get_or};
+ghost use Rattle.std.specs.Prelude.{◌≡◌, Bool, true, false, not, List, ℕ, ◌≤◌, ◌<◌, length, get_or};
 ghost use Rattle.std.specs.Prelude.{if◌then◌else◌};
 ghost use Rattle.rules.specs.Sheet.{sheet_area, sheet_fault};
 ghost use Rattle.rules.specs.Value.{text, number};
@@ -16,13 +16,13 @@ ghost use Rattle.take_table.specs.Bits.{bit_at};
 ghost use Rattle.take_search.specs.States.{CanTake};
 ghost use Rattle.take.specs.Takes.{HasBits, Skips};
 ghost use Rattle.eval_told.specs.Told.{Evaluates};
-ghost use Rattle.eval_params.specs.Leaves.{Leaf, leaf_value, leaf_refusal, LeafTells, position_refusal};
+ghost use Rattle.eval_number.specs.Number.{option_of};
+ghost use Rattle.eval_params.specs.Leaves.{Leaf, leaf_value, leaf_refusal, LeafTells};
 
-use eval_number::Number;
 use eval_told::Ran;
 use split_arg::Part;
 use state_marks::Numbers;
-use wire::wide;
+use take::Operand;
 
 fn value(word: u32, numbers: Numbers) -> Ran
     ensures { result ≡ leaf_value word numbers }
@@ -36,20 +36,14 @@ fn refused(number: u32, place: u32, numbers: Numbers) -> Ran
     eval_told::refusal(number, place, 1, numbers)
 }
 
-fn least(a: usize, b: usize) -> usize
-    ensures { result ≡ min a b }
-{
-    if a < b { a } else { b }
-}
-
 // The bytes of a part. A take does not say that the part lies inside the sheet; behind the sheet's end there are no bytes.
 fn text_bytes(sheet: &[u8], x: Part) -> &[u8]
     requires { sheet_fault sheet.now ≡ 0 }
     ensures { result.now ≡ part_bytes (sheet_area sheet.now) x }
 {
     let area = wire::area_start(2, split_sheet::count(sheet));
-    let from = least(area + x.offset as usize, sheet.len());
-    let to = least(from + x.length as usize, sheet.len());
+    let from = (area + x.offset as usize).min(sheet.len());
+    let to = (from + x.length as usize).min(sheet.len());
     &sheet[from..to]
 }
 
@@ -62,42 +56,32 @@ fn parsed(sheet: &[u8], place: usize, t: Part, numeric: bool, numbers: Numbers) 
         return value(place as u32, numbers);
     }
     match eval_number::parse(text_bytes(sheet, t)) {
-        Number::Value(n) => value(n, numbers),
-        Number::Bad => refused(25, numbers.current, numbers),
+        Some(n) => value(n, numbers),
+        None => refused(25, numbers.current, numbers),
     }
 }
 
-// 23 for a strict positional whose word is no PosWord, 24 for a non-strict one whose word is, else 0.
-fn wrong_position(position: usize, strict: bool) -> u32
-    ensures { wrong_position (position_of position) strict ≡ position_refusal result }
+// 23 for a strict positional whose word is no PosWord, 24 for a non-strict one whose word is.
+#[tactic(auto, unfolding(rules::specs::Eval::wrong_position, rules::specs::Tree::position_of))]
+fn wrong_position(position: usize, strict: bool) -> Option<u32>
+    ensures { wrong_position (position_of position) strict ≡ option_of result }
 {
-    if position == 0 {
-        return 0;
+    match (position, strict) {
+        (1, false) => Some(23),
+        (2.., true) => Some(24),
+        _ => None,
     }
-    if position == 1 {
-        return if strict { 0 } else { 23 };
-    }
-    if strict { 24 } else { 0 }
 }
 
 // The value of a word that a positional took. In a wrong position it stays used.
-fn placed(
-    sheet: &[u8],
-    place: usize,
-    strict: bool,
-    t: Part,
-    position: usize,
-    numeric: bool,
-    numbers: Numbers,
-) -> Ran
-    requires { (sheet_fault sheet.now ≡ 0) × (place < 256) }
-    ensures { LeafTells (placed_value (position_of position) (if numeric then number else text) (record { place = place; strict = strict; text = part_bytes (sheet_area sheet.now) t })) numbers result }
+fn placed(sheet: &[u8], word: Operand, position: usize, numeric: bool, numbers: Numbers) -> Ran
+    requires { (sheet_fault sheet.now ≡ 0) × (word.place < 256) }
+    ensures { LeafTells (placed_value (position_of position) (if numeric then number else text) (record { place = word.place; strict = word.strict; text = part_bytes (sheet_area sheet.now) word.text })) numbers result }
 {
-    let wrong = wrong_position(position, strict);
-    if wrong != 0 {
-        return refused(wrong, place as u32 + 1, numbers);
+    match wrong_position(position, word.strict) {
+        Some(wrong) => refused(wrong, word.place as u32 + 1, numbers),
+        None => parsed(sheet, word.place, word.text, numeric, numbers),
     }
-    parsed(sheet, place, t, numeric, numbers)
 }
 
 // Whether no item has the names of a node.
@@ -120,8 +104,7 @@ pub fn eval_flag(
     requires { Fine marks.old p × (mark_parsed mark ≡ true) × HasBits known.now p node }
     ensures { (area words : List ℕ) (names : Named) → Leaf known.now area words marks.old p node mark names false → (n : ℕ) → Evaluates mark area words (Flag n names switch) marks.old p marks.new result }
 {
-    let start = wide(p.start);
-    eval_flag_from(known, marks, p, start, node, switch, mark)
+    eval_flag_from(known, marks, p, p.start as usize, node, switch, mark)
 }
 
 pub fn eval_flag_from(
@@ -161,8 +144,17 @@ pub fn eval_argument(
     requires { (sheet_fault sheet.now ≡ 0) × HasBits known.now p node × ((names : Named) × (adjacent : Bool) × Leaf known.now (sheet_area sheet.now) items.now marks.old p node mark names adjacent) }
     ensures { (names : Named) (adjacent : Bool) → Leaf known.now (sheet_area sheet.now) items.now marks.old p node mark names adjacent → (n : ℕ) → Evaluates mark (sheet_area sheet.now) items.now (Argument n names (if numeric then number else text) adjacent) marks.old p marks.new result }
 {
-    let start = wide(p.start);
-    eval_argument_from(known, sheet, items, marks, p, start, node, numeric, mark)
+    eval_argument_from(
+        known,
+        sheet,
+        items,
+        marks,
+        p,
+        p.start as usize,
+        node,
+        numeric,
+        mark,
+    )
 }
 
 pub fn eval_argument_from(
@@ -181,11 +173,10 @@ pub fn eval_argument_from(
 {
     let taken = take::take_arg_known(known, items, marks, p, from, node, mark);
     let left = taken.numbers;
-    let found = taken.value;
-    match found {
-        take::Value::Missing => refused(20, 0, left),
-        take::Value::Taken(place, t) => parsed(sheet, place, t, numeric, left),
-        take::Value::NoArgument(key) => refused(22, key as u32 + 1, left),
+    match taken.value {
+        Ok(None) => refused(20, 0, left),
+        Ok(Some(word)) => parsed(sheet, word.place, word.text, numeric, left),
+        Err(e) => refused(22, e.key as u32 + 1, left),
     }
 }
 
@@ -202,8 +193,16 @@ pub fn eval_positional(
     requires { (sheet_fault sheet.now ≡ 0) × CanTake (sheet_area sheet.now) items.now marks.old p mark }
     ensures { (n : ℕ) → Evaluates mark (sheet_area sheet.now) items.now (Positional n (position_of position) (if numeric then number else text)) marks.old p marks.new result }
 {
-    let start = wide(p.start);
-    eval_positional_from(sheet, items, marks, p, start, position, numeric, mark)
+    eval_positional_from(
+        sheet,
+        items,
+        marks,
+        p,
+        p.start as usize,
+        position,
+        numeric,
+        mark,
+    )
 }
 
 pub fn eval_positional_from(
@@ -221,11 +220,8 @@ pub fn eval_positional_from(
 {
     let taken = take::take_positional_word_from(items, marks, p, from, mark);
     let left = taken.numbers;
-    let operand = taken.operand;
-    match operand {
-        take::Operand::Missing => refused(20, 0, left),
-        take::Operand::Taken(place, strict, t) => placed(
-            sheet, place, strict, t, position, numeric, left,
-        ),
+    match taken.operand {
+        None => refused(20, 0, left),
+        Some(word) => placed(sheet, word, position, numeric, left),
     }
 }

@@ -29,7 +29,7 @@ use Rattle.rules.proofs.Places.{left}
 use Rattle.rules.proofs.StepLaws.{arg_takes, positional_takes}
 use Rattle.rules.proofs.Went.{if_holds}
 use Rattle.eval_structs.specs.declared.Counting.TheVariants.{Counted, Uncounted, Absent, PassedOn}
-use Rattle.eval_structs.specs.Decisions.{with_remaining, counted_of, option_way}
+use Rattle.eval_structs.specs.Decisions.{with_remaining, option_way}
 use Rattle.form_layout.specs.Layout.{node_of}
 use Rattle.form_layout.specs.declared.Node.{Node as LaidOut}
 use Rattle.state_marks.specs.declared.Numbers.{Numbers}
@@ -305,7 +305,7 @@ module _
     optional_unchanged o h =
         optional_ends catch b known s words m p mark n z m' ran said m' o
         (h m m' (optional_given catch b known s words m p mark n z m' ran said)
-        (absent_by b known s words m p mark n z.below m' ran said catch r f e (counted_of 4294967295)))
+        (absent_by b known s words m p mark n z.below m' ran said catch r f e none))
 
 -- ---- whose marks are kept, by the node as the code reads it
 leaf_place : (p : ℕ) → leb 2 p ≡ is_non_strict (position_of p)
@@ -346,15 +346,15 @@ no_guard (Fallback v t) a = refl
 no_guard (Guard l h t) a = absurd (a refl)
 
 module _ (b : List ℕ) (n : ℕ) (y : LaidOut) (h : get_elem? (read_form b).nodes n ≡ some (node_of y)) where
-  pub leaf_positional : y.kind ≡ 3 → (t : Tree) → tree_at b n ≡ some t → leb 2 y.p ≡ keeps_leaf t
+  pub leaf_positional : (node_of y).kind ≡ 3 → (t : Tree) → tree_at b n ≡ some t → leb 2 y.p ≡ keeps_leaf t
   unfolding keeps_leaf
   leaf_positional k t e = leaf_place y.p ∙ ap keeps_leaf (positional_tree b n t e (node_of y) h k).1
 
-  pub leaf_argument : y.kind ≡ 2 → (t : Tree) → tree_at b n ≡ some t → false ≡ keeps_leaf t
+  pub leaf_argument : (node_of y).kind ≡ 2 → (t : Tree) → tree_at b n ≡ some t → false ≡ keeps_leaf t
   unfolding keeps_leaf
   leaf_argument k t e = ap keeps_leaf (argument_tree b n t e (node_of y) h k).same
 
-  pub leaf_other : (y.kind ≡ 3 → ⊥) → (y.kind ≡ 2 → ⊥) → (t : Tree) → tree_at b n ≡ some t → true ≡ keeps_leaf t
+  pub leaf_other : ((node_of y).kind ≡ 3 → ⊥) → ((node_of y).kind ≡ 2 → ⊥) → (t : Tree) → tree_at b n ≡ some t → true ≡ keeps_leaf t
   leaf_other a c t e =
       let k = sym (tree_number b n t e (node_of y) h) in
       no_leaf t (λ q. a (k ∙ q)) (λ q. c (k ∙ q))
@@ -374,14 +374,14 @@ module _ (b : List ℕ) (n : ℕ) (u : Bool) (f : (t : Tree) → tree_at b n ≡
     keeps_by t q = rw (← f t q, e, c)
 
     module _ (y : LaidOut) (h : get_elem? (read_form b).nodes n ≡ some (node_of y)) where
-      pub keeps_guard : y.kind ≡ 11 → (r : Bool) → ((t : Tree) → tree_at b y.p ≡ some t → r ≡ keeps_leaf t)
+      pub keeps_guard : (node_of y).kind ≡ 11 → (r : Bool) → ((t : Tree) → tree_at b y.p ≡ some t → r ≡ keeps_leaf t)
           → (t : Tree) → tree_at b n ≡ some t → r ≡ keeps_marks catch t
       unfolding keeps_under
       keeps_guard k r g t q =
           let w = guard_tree b n t q (node_of y) h k in
           g w.child w.node ∙ ap keeps_under w.same ∙ keeps_by t q
 
-      pub keeps_other : (y.kind ≡ 11 → ⊥) → (r : Bool) → ((t : Tree) → tree_at b n ≡ some t → r ≡ keeps_leaf t)
+      pub keeps_other : ((node_of y).kind ≡ 11 → ⊥) → (r : Bool) → ((t : Tree) → tree_at b n ≡ some t → r ≡ keeps_leaf t)
           → (t : Tree) → tree_at b n ≡ some t → r ≡ keeps_marks catch t
       keeps_other a r g t q =
           g t q ∙ no_guard t (λ w. a (sym (tree_number b n t q (node_of y) h) ∙ w)) ∙ keeps_by t q

@@ -24,6 +24,8 @@ use Rattle.rules.proofs.Places.{left}
 use Rattle.rules.proofs.KindLaws.{choice_kind_lem, base_kind_lem}
 use Rattle.form_layout.specs.Layout.{node_of}
 use Rattle.form_layout.specs.declared.Node.{Node}
+use Rattle.form_layout.specs.declared.Kind.TheVariants as laid
+use Rattle.form_layout.proofs.KindNumbers.{not_kind}
 use Rattle.form_layout.proofs.Sizes.{sized}
 use Rattle.state_marks.specs.declared.Numbers.{Numbers}
 use Rattle.state_marks.specs.Lent.{Fine}
@@ -38,7 +40,7 @@ use Rattle.eval_shortcut.specs.Stands.{Standing, Scalar}
 use Rattle.eval_params.specs.Leaves as params
 use Rattle.eval_shortcut.specs.Children.{Wraps, Wrapped, Falls, BothSides, Hint, NodeSays}
 use Rattle.eval_shortcut.proofs.Trees.{Leaf, Single, Fallen, Double, form_good_lem, node_inside, sound_at, flag_tree, argument_tree, positional_tree, optional_tree, count_tree}
-use Rattle.eval_shortcut.proofs.Trees.{last_tree, choice_tree, fallback_tree, other_tree}
+use Rattle.eval_shortcut.proofs.Trees.{last_tree, choice_tree, fallback_tree, guard_tree, other_kind}
 
 -- ---- kinds of children
 optional_base : (k : Option Kind) → is_scalar (k >>? optional_kind) ≡ true → (b : Base) × (k ≡ some (one b))
@@ -191,11 +193,11 @@ module _ (b known s words m : List ℕ) (p : Numbers) (mark n : ℕ) (z : Scalar
       named = built q.place (named_at b x.p x.q) (ap well_built q.same ∙ sound.built);
     }
 
-    flag_leaf : x.kind ≡ 1 → params.Leaf known (sheet_area s) words m p n mark (named_at b x.p x.q) false
+    flag_leaf : (node_of x).kind ≡ 1 → params.Leaf known (sheet_area s) words m p n mark (named_at b x.p x.q) false
     unfolding well_built node_matches is_named_node is_adjacent
     flag_leaf k = named_leaf _ false (λ i d e. e) (λ i. rw k) (flag_tree b n z.stands.tree z.stands.node (node_of x) h k)
 
-    argument_leaf : x.kind ≡ 2 → params.Leaf known (sheet_area s) words m p n mark (named_at b x.p x.q) (eqb (x.r % 2) 1)
+    argument_leaf : (node_of x).kind ≡ 2 → params.Leaf known (sheet_area s) words m p n mark (named_at b x.p x.q) (eqb (x.r % 2) 1)
     unfolding well_built node_matches is_named_node is_adjacent
     argument_leaf k =
         named_leaf _ (eqb (x.r % 2) 1) (λ i d e. left (is_named d) _ e) (λ i. rw k) (argument_tree b n z.stands.tree z.stands.node (node_of x) h k)
@@ -203,7 +205,7 @@ module _ (b known s words m : List ℕ) (p : Numbers) (mark n : ℕ) (z : Scalar
     pub flag_ready : Fine m p × (parsed mark ≡ true) × HasBits known p n
     flag_ready = (z.stands.state.fine, z.stands.state.told, leaf_reaches)
 
-    pub argument_ready : x.kind ≡ 2
+    pub argument_ready : (node_of x).kind ≡ 2
         → (sheet_fault s ≡ 0) × HasBits known p n × ((names : rules.Named) × (adjacent : Bool) × params.Leaf known (sheet_area s) words m p n mark names adjacent)
     argument_ready k = (z.stands.made, leaf_reaches, (_, _, argument_leaf k))
 
@@ -215,57 +217,57 @@ module _ (b known s words m : List ℕ) (p : Numbers) (mark n : ℕ) (z : Scalar
       hint_of : {t : Tree} → t ≡ z.stands.tree → Hint t (sheet_area s) words m p from
       hint_of e = subst (λ (t : Tree). Hint t (sheet_area s) words m p from) (sym e) k
 
-      pub flag_skips : x.kind ≡ 1 → Skips (sheet_area s) words (matches_arg (named_at b x.p x.q) false) m p from
+      pub flag_skips : (node_of x).kind ≡ 1 → Skips (sheet_area s) words (matches_arg (named_at b x.p x.q) false) m p from
       flag_skips e = hint_of (flag_tree b n z.stands.tree z.stands.node (node_of x) h e).same
 
-      pub argument_skips : x.kind ≡ 2 → Skips (sheet_area s) words (matches_arg (named_at b x.p x.q) (eqb (x.r % 2) 1)) m p from
+      pub argument_skips : (node_of x).kind ≡ 2 → Skips (sheet_area s) words (matches_arg (named_at b x.p x.q) (eqb (x.r % 2) 1)) m p from
       argument_skips e = hint_of (argument_tree b n z.stands.tree z.stands.node (node_of x) h e).same
 
-      pub argument_turn : x.kind ≡ 2
+      pub argument_turn : (node_of x).kind ≡ 2
           → (sheet_fault s ≡ 0) × HasBits known p n
           × ((names : rules.Named) × (adjacent : Bool) × params.Leaf known (sheet_area s) words m p n mark names adjacent
           × Skips (sheet_area s) words (matches_arg names adjacent) m p from)
       argument_turn e = (z.stands.made, leaf_reaches, (_, _, argument_leaf e, argument_skips e))
 
-      pub positional_skips : x.kind ≡ 3 → Skips (sheet_area s) words is_operand m p from
+      pub positional_skips : (node_of x).kind ≡ 3 → Skips (sheet_area s) words is_operand m p from
       positional_skips e = hint_of (positional_tree b n z.stands.tree z.stands.node (node_of x) h e).1
 
     module _ (m' : List ℕ) (r : Ran) where
-      flag_says : x.kind ≡ 1
+      flag_says : (node_of x).kind ≡ 1
           → ((k : ℕ) → Evaluates mark (sheet_area s) words (Flag k (named_at b x.p x.q) (eqb x.r 1)) m p m' r)
           → NodeSays b s words m p mark n m' r
       flag_says k f =
           let q = flag_tree b n z.stands.tree z.stands.node (node_of x) h k in
           says m' r q.same (f q.place)
 
-      argument_says : x.kind ≡ 2
+      argument_says : (node_of x).kind ≡ 2
           → ((k : ℕ) → Evaluates mark (sheet_area s) words (Argument k (named_at b x.p x.q) (if leb 2 x.r then number else text) (eqb (x.r % 2) 1)) m p m' r)
           → NodeSays b s words m p mark n m' r
       argument_says k f =
           let q = argument_tree b n z.stands.tree z.stands.node (node_of x) h k in
           says m' r q.same (f q.place)
 
-      pub flag_node : x.kind ≡ 1
+      pub flag_node : (node_of x).kind ≡ 1
           → ((area items : List ℕ) (names : rules.Named) → params.Leaf known area items m p n mark names false
           → (k : ℕ) → Evaluates mark area items (Flag k names (eqb x.r 1)) m p m' r)
           → NodeSays b s words m p mark n m' r
       flag_node k f = flag_says k (f (sheet_area s) words (named_at b x.p x.q) (flag_leaf k))
 
-      pub argument_node : x.kind ≡ 2
+      pub argument_node : (node_of x).kind ≡ 2
           → ((names : rules.Named) (adjacent : Bool) → params.Leaf known (sheet_area s) words m p n mark names adjacent
           → (k : ℕ) → Evaluates mark (sheet_area s) words (Argument k names (if leb 2 x.r then number else text) adjacent) m p m' r)
           → NodeSays b s words m p mark n m' r
       argument_node k f = argument_says k (f (named_at b x.p x.q) (eqb (x.r % 2) 1) (argument_leaf k))
 
       module _ (from : ℕ) (hint : Hint z.stands.tree (sheet_area s) words m p from) where
-        pub flag_again : x.kind ≡ 1
+        pub flag_again : (node_of x).kind ≡ 1
             → ((area items : List ℕ) (names : rules.Named) → params.Leaf known area items m p n mark names false
             → Skips area items (matches_arg names false) m p from
             → (k : ℕ) → Evaluates mark area items (Flag k names (eqb x.r 1)) m p m' r)
             → NodeSays b s words m p mark n m' r
         flag_again k f = flag_says k (f (sheet_area s) words (named_at b x.p x.q) (flag_leaf k) (flag_skips from hint k))
 
-        pub argument_again : x.kind ≡ 2
+        pub argument_again : (node_of x).kind ≡ 2
             → ((names : rules.Named) (adjacent : Bool) → params.Leaf known (sheet_area s) words m p n mark names adjacent
             → Skips (sheet_area s) words (matches_arg names adjacent) m p from
             → (k : ℕ) → Evaluates mark (sheet_area s) words (Argument k names (if leb 2 x.r then number else text) adjacent) m p m' r)
@@ -274,7 +276,7 @@ module _ (b known s words m : List ℕ) (p : Numbers) (mark n : ℕ) (z : Scalar
             argument_says k (f (named_at b x.p x.q) (eqb (x.r % 2) 1) (argument_leaf k) (argument_skips from hint k))
 
       pub positional_says :
-          x.kind ≡ 3
+          (node_of x).kind ≡ 3
           → ((k : ℕ) → Evaluates mark (sheet_area s) words (Positional k (position_of x.p) (if eqb x.r 2 then number else text)) m p m' r)
           → NodeSays b s words m p mark n m' r
       positional_says k f =
@@ -282,73 +284,78 @@ module _ (b known s words m : List ℕ) (p : Numbers) (mark n : ℕ) (z : Scalar
           says m' r q.1 (f q.0)
 
     -- ---- one child
-    optional_below : x.kind ≡ 4 → Single (Optional (eqb x.r 1)) b n x.p z.stands.tree
+    optional_below : (node_of x).kind ≡ 4 → Single (Optional (eqb x.r 1)) b n x.p z.stands.tree
     optional_below = optional_tree b n z.stands.tree z.stands.node (node_of x) h
 
-    pub optional_less : x.kind ≡ 4 → x.p < n
+    pub optional_less : (node_of x).kind ≡ 4 → x.p < n
     optional_less k = (optional_below k).less
 
-    pub optional_ready : x.kind ≡ 4 → Wraps (Optional (eqb x.r 1)) b known s words m p mark x.p
+    pub optional_ready : (node_of x).kind ≡ 4 → Wraps (Optional (eqb x.r 1)) b known s words m p mark x.p
     optional_ready k = child_wraps _ (over_optional (eqb x.r 1)) x.p (optional_below k)
 
-    pub optional_says : (m' : List ℕ) (r : Ran) → x.kind ≡ 4 → Wrapped (Optional (eqb x.r 1)) mark b s words x.p m p m' r → NodeSays b s words m p mark n m' r
+    pub optional_says : (m' : List ℕ) (r : Ran) → (node_of x).kind ≡ 4 → Wrapped (Optional (eqb x.r 1)) mark b s words x.p m p m' r → NodeSays b s words m p mark n m' r
     optional_says m' r k = child_says _ (over_optional (eqb x.r 1)) x.p (optional_below k) m' r
 
-    count_below : x.kind ≡ 7 → Single Count b n x.p z.stands.tree
+    count_below : (node_of x).kind ≡ 7 → Single Count b n x.p z.stands.tree
     count_below = count_tree b n z.stands.tree z.stands.node (node_of x) h
 
-    pub count_less : x.kind ≡ 7 → x.p < n
+    pub count_less : (node_of x).kind ≡ 7 → x.p < n
     count_less k = (count_below k).less
 
-    pub count_ready : x.kind ≡ 7 → Wraps Count b known s words m p mark x.p
+    pub count_ready : (node_of x).kind ≡ 7 → Wraps Count b known s words m p mark x.p
     count_ready k = child_wraps _ over_count x.p (count_below k)
 
-    pub count_says : (m' : List ℕ) (r : Ran) → x.kind ≡ 7 → Wrapped Count mark b s words x.p m p m' r → NodeSays b s words m p mark n m' r
+    pub count_says : (m' : List ℕ) (r : Ran) → (node_of x).kind ≡ 7 → Wrapped Count mark b s words x.p m p m' r → NodeSays b s words m p mark n m' r
     count_says m' r k = child_says _ over_count x.p (count_below k) m' r
 
-    last_below : x.kind ≡ 8 → Single Last b n x.p z.stands.tree
+    last_below : (node_of x).kind ≡ 8 → Single Last b n x.p z.stands.tree
     last_below = last_tree b n z.stands.tree z.stands.node (node_of x) h
 
-    pub last_less : x.kind ≡ 8 → x.p < n
+    pub last_less : (node_of x).kind ≡ 8 → x.p < n
     last_less k = (last_below k).less
 
-    pub last_ready : x.kind ≡ 8 → Wraps Last b known s words m p mark x.p
+    pub last_ready : (node_of x).kind ≡ 8 → Wraps Last b known s words m p mark x.p
     last_ready k = child_wraps _ over_last x.p (last_below k)
 
-    pub last_says : (m' : List ℕ) (r : Ran) → x.kind ≡ 8 → Wrapped Last mark b s words x.p m p m' r → NodeSays b s words m p mark n m' r
+    pub last_says : (m' : List ℕ) (r : Ran) → (node_of x).kind ≡ 8 → Wrapped Last mark b s words x.p m p m' r → NodeSays b s words m p mark n m' r
     last_says m' r k = child_says _ over_last x.p (last_below k) m' r
 
     -- the rest of the kinds is the guard's
-    module _
-        (k₁ : x.kind ≡ 1 → ⊥)
-        (k₂ : x.kind ≡ 2 → ⊥)
-        (k₃ : x.kind ≡ 3 → ⊥)
-        (k₄ : x.kind ≡ 4 → ⊥)
-        (k₇ : x.kind ≡ 7 → ⊥)
-        (k₈ : x.kind ≡ 8 → ⊥)
-        (k₉ : x.kind ≡ 9 → ⊥)
-        (k₁₀ : x.kind ≡ 10 → ⊥)
-      where
-        guard_below : Single (Guard x.lo x.hi) b n x.p z.stands.tree
-        guard_below = other_tree b n z.stands.tree z.stands.node (node_of x) h z.scalar k₁ k₂ k₃ k₄ k₇ k₈ k₉ k₁₀
+    pub guard_is :
+        (x.kind ≡ laid.Flag → ⊥)
+        → (x.kind ≡ laid.Argument → ⊥)
+        → (x.kind ≡ laid.Positional → ⊥)
+        → (x.kind ≡ laid.Optional → ⊥)
+        → (x.kind ≡ laid.Count → ⊥)
+        → (x.kind ≡ laid.Last → ⊥)
+        → (x.kind ≡ laid.Choice → ⊥)
+        → (x.kind ≡ laid.Fallback → ⊥)
+        → (node_of x).kind ≡ 11
+    guard_is f a p o c l d e =
+        other_kind b n z.stands.tree z.stands.node (node_of x) h z.scalar (not_kind x.kind 1 refl f) (not_kind x.kind 2 refl a)
+        (not_kind x.kind 3 refl p) (not_kind x.kind 4 refl o) (not_kind x.kind 7 refl c) (not_kind x.kind 8 refl l)
+        (not_kind x.kind 9 refl d) (not_kind x.kind 10 refl e)
 
-        pub guard_less : x.p < n
-        guard_less = guard_below.less
+    guard_below : (node_of x).kind ≡ 11 → Single (Guard x.lo x.hi) b n x.p z.stands.tree
+    guard_below = guard_tree b n z.stands.tree z.stands.node (node_of x) h
 
-        pub guard_ready : Wraps (Guard x.lo x.hi) b known s words m p mark x.p
-        guard_ready = child_wraps _ (over_guard x.lo x.hi) x.p guard_below
+    pub guard_less : (node_of x).kind ≡ 11 → x.p < n
+    guard_less k = (guard_below k).less
 
-        pub guard_says : (m' : List ℕ) (r : Ran) → Wrapped (Guard x.lo x.hi) mark b s words x.p m p m' r → NodeSays b s words m p mark n m' r
-        guard_says m' r = child_says _ (over_guard x.lo x.hi) x.p guard_below m' r
+    pub guard_ready : (node_of x).kind ≡ 11 → Wraps (Guard x.lo x.hi) b known s words m p mark x.p
+    guard_ready k = child_wraps _ (over_guard x.lo x.hi) x.p (guard_below k)
+
+    pub guard_says : (m' : List ℕ) (r : Ran) → (node_of x).kind ≡ 11 → Wrapped (Guard x.lo x.hi) mark b s words x.p m p m' r → NodeSays b s words m p mark n m' r
+    guard_says m' r k = child_says _ (over_guard x.lo x.hi) x.p (guard_below k) m' r
 
     -- ---- a fallback, and a choice
-    fallback_below : x.kind ≡ 10 → Fallen b n x.p z.stands.tree
+    fallback_below : (node_of x).kind ≡ 10 → Fallen b n x.p z.stands.tree
     fallback_below = fallback_tree b n z.stands.tree z.stands.node (node_of x) h
 
-    pub fallback_less : x.kind ≡ 10 → x.p < n
+    pub fallback_less : (node_of x).kind ≡ 10 → x.p < n
     fallback_less k = (fallback_below k).single.less
 
-    pub fallback_ready : x.kind ≡ 10 → Falls b known s words m p mark n x.p
+    pub fallback_ready : (node_of x).kind ≡ 10 → Falls b known s words m p mark n x.p
     fallback_ready k =
         let q = fallback_below k in
         record {
@@ -357,16 +364,16 @@ module _ (b known s words m : List ℕ) (p : Numbers) (mark n : ℕ) (z : Scalar
           stands = z.stands.node ∙ ap some (sym q.single.same);
         }
 
-    choice_below : x.kind ≡ 9 → Double b n x.p x.q z.stands.tree
+    choice_below : (node_of x).kind ≡ 9 → Double b n x.p x.q z.stands.tree
     choice_below = choice_tree b n z.stands.tree z.stands.node (node_of x) h
 
-    pub choice_less : x.kind ≡ 9 → x.p < n
+    pub choice_less : (node_of x).kind ≡ 9 → x.p < n
     choice_less k = (choice_below k).less
 
-    pub choice_less₂ : x.kind ≡ 9 → x.q < n
+    pub choice_less₂ : (node_of x).kind ≡ 9 → x.q < n
     choice_less₂ k = (choice_below k).less₂
 
-    pub choice_ready : x.kind ≡ 9 → BothSides b known s words m p mark x.p x.q
+    pub choice_ready : (node_of x).kind ≡ 9 → BothSides b known s words m p mark x.p x.q
     unfolding leaves kind_of
     choice_ready k =
         let q = choice_below k in
@@ -387,7 +394,7 @@ module _ (b known s words m : List ℕ) (p : Numbers) (mark n : ℕ) (z : Scalar
 
     pub choice_says :
         (m' : List ℕ) (r : Ran)
-        → x.kind ≡ 9
+        → (node_of x).kind ≡ 9
         → ((t u : Tree) → tree_at b x.p ≡ some t → tree_at b x.q ≡ some u → Evaluates mark (sheet_area s) words (Choice t u) m p m' r)
         → NodeSays b s words m p mark n m' r
     choice_says m' r k f =

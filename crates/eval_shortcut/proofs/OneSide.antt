@@ -61,37 +61,37 @@ module _ (b known : List ℕ) (n : ℕ) (y : Node) (h : get_elem? (read_form b).
   absent : Bool
   absent = not (bit_at (get_or known 0 0) n)
 
-  pub misses_switch : y.kind ≡ 1 → y.r ≡ 1 → (t : Tree) → tree_at b n ≡ some t → false ≡ misses_by known n t
+  pub misses_switch : (node_of y).kind ≡ 1 → y.r ≡ 1 → (t : Tree) → tree_at b n ≡ some t → false ≡ misses_by known n t
   unfolding misses_by absent
   misses_switch k q t e =
       let s : false ≡ (not (eqb y.r 1) && absent) = rw (eq-eqb y.r 1 q) in
       s ∙ ap (misses_by known n) (flag_tree b n t e (node_of y) h k).same
 
   module _ (r : Bool) (f : r ≡ not (bit_at (get_or known 0 0) n)) where
-    pub misses_flag : y.kind ≡ 1 → (y.r ≡ 1 → ⊥) → (t : Tree) → tree_at b n ≡ some t → r ≡ misses_by known n t
+    pub misses_flag : (node_of y).kind ≡ 1 → (y.r ≡ 1 → ⊥) → (t : Tree) → tree_at b n ≡ some t → r ≡ misses_by known n t
     unfolding misses_by absent
     misses_flag k q t e =
         let s : absent ≡ (not (eqb y.r 1) && absent) = rw (ne_eqb y.r 1 q) in
         f ∙ s ∙ ap (misses_by known n) (flag_tree b n t e (node_of y) h k).same
 
-    pub misses_argument : y.kind ≡ 2 → (t : Tree) → tree_at b n ≡ some t → r ≡ misses_by known n t
+    pub misses_argument : (node_of y).kind ≡ 2 → (t : Tree) → tree_at b n ≡ some t → r ≡ misses_by known n t
     unfolding misses_by
     misses_argument k t e = f ∙ ap (misses_by known n) (argument_tree b n t e (node_of y) h k).same
 
-  pub misses_none : (y.kind ≡ 1 → ⊥) → (y.kind ≡ 2 → ⊥) → (t : Tree) → tree_at b n ≡ some t → false ≡ misses_by known n t
+  pub misses_none : ((node_of y).kind ≡ 1 → ⊥) → ((node_of y).kind ≡ 2 → ⊥) → (t : Tree) → tree_at b n ≡ some t → false ≡ misses_by known n t
   misses_none a c t e =
       let k = sym (tree_number b n t e (node_of y) h) in
       no_name known n t (λ q. a (k ∙ q)) (λ q. c (k ∙ q))
 
 module _ (b known : List ℕ) (n : ℕ) (y : Node) (h : get_elem? (read_form b).nodes n ≡ some (node_of y)) (r : Bool) (f : r ≡ true → Missing known n) (e : r ≡ true) where
-  pub flag_misses : y.kind ≡ 1 → (y.r ≡ 1 → ⊥) → Misses b known n
+  pub flag_misses : (node_of y).kind ≡ 1 → (y.r ≡ 1 → ⊥) → Misses b known n
   flag_misses k q = record {
     gone = λ s words m p mark z.
         flag_node b known s words m p mark n z y h m (missing_of p) k
         (λ area items names leaf i. rw (ne_eqb y.r 1 q) ((f e).flag area items m p mark names leaf i));
   }
 
-  pub argument_misses : y.kind ≡ 2 → Misses b known n
+  pub argument_misses : (node_of y).kind ≡ 2 → Misses b known n
   argument_misses k = record {
     gone = λ s words m p mark z.
         argument_node b known s words m p mark n z y h m (missing_of p) k

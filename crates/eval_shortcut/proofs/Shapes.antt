@@ -115,31 +115,32 @@ module _ (b : List ℕ) (k : ℕ) (t : Tree) (h : tree_at b k ≡ some t) where
       pub lower : x.p < k
       pub same : is_scalar (kind_of t) ≡ is_scalar (kind_of tree)
 
-    pub beneath : (x.kind ≡ 4) ⊎ (x.kind ≡ 9) → Beneath
+    pub beneath : ((node_of x).kind ≡ 4) ⊎ ((node_of x).kind ≡ 9) → Beneath
     beneath z = let (a, e, w) = shape_at in go a e w
       where
         go : (a : Accepted) → check_form b ≡ accepted a → Shape a.trees k (node_of x) t → Beneath
         go a e (through c y i q) = record { tree = c; node = at_tree b a e x.p ∙ i.1; lower = i.0; same = q }
         go a e (listed y q) =
             absurd
-            (⊎_elim (λ (u : x.kind ≡ 4). ⊎_elim (λ v. omega arith) (λ v. omega arith) y) (λ (u : x.kind ≡ 9). ⊎_elim (λ v. omega arith) (λ v. omega arith) y) z)
-        go a e (single n y o u q) = absurd (⊎_elim (λ (v : x.kind ≡ 4). ⊎_elim (λ w. omega arith) (λ w. omega arith) o) (λ (v : x.kind ≡ 9). u (sym y ∙ v)) z)
+            (⊎_elim (λ (u : (node_of x).kind ≡ 4). ⊎_elim (λ v. omega arith) (λ v. omega arith) y) (λ (u : (node_of x).kind ≡ 9). ⊎_elim (λ v. omega arith) (λ v. omega arith) y) z)
+        go a e (single n y o u q) = absurd (⊎_elim (λ (v : (node_of x).kind ≡ 4). ⊎_elim (λ w. omega arith) (λ w. omega arith) o) (λ (v : (node_of x).kind ≡ 9). u (sym y ∙ v)) z)
 
-    pub list_here : (n : ℕ) → n ≡ x.kind → 4 ≤ n → n < 7 → ((n ≡ 4) ⊎ (n ≡ 9) → ⊥) → false ≡ is_scalar (kind_of t)
-    list_here n same l m z = let (a, e, w) = shape_at in go a w
+    pub list_here : ((node_of x).kind ≡ 5) ⊎ ((node_of x).kind ≡ 6) → false ≡ is_scalar (kind_of t)
+    list_here l = let (a, e, w) = shape_at in go a w
       where
         go : (a : Accepted) → Shape a.trees k (node_of x) t → false ≡ is_scalar (kind_of t)
-        go a (through c y i q) = absurd (z (⊎_elim (λ (v : x.kind ≡ 4). inl (same ∙ v)) (λ (v : x.kind ≡ 9). inr (same ∙ v)) y))
+        go a (through c y i q) = absurd (⊎_elim (λ v. ⊎_elim (λ w. omega arith) (λ w. omega arith) y) (λ v. ⊎_elim (λ w. omega arith) (λ w. omega arith) y) l)
         go a (listed y q) = sym q
-        go a (single i y o u q) = absurd (⊎_elim (λ (v : i ≤ 3). omega arith) (λ (v : 7 ≤ i). omega arith) o)
+        go a (single i y o u q) = absurd (⊎_elim (λ v. ⊎_elim (λ w. omega arith) (λ w. omega arith) o) (λ v. ⊎_elim (λ w. omega arith) (λ w. omega arith) o) l)
 
-    pub single_here : (n : ℕ) → n ≡ x.kind → (n < 4) ⊎ (7 ≤ n) → ((n ≡ 4) ⊎ (n ≡ 9) → ⊥) → true ≡ is_scalar (kind_of t)
-    single_here n same l z = let (a, e, w) = shape_at in go a w
-      where
-        go : (a : Accepted) → Shape a.trees k (node_of x) t → true ≡ is_scalar (kind_of t)
-        go a (through c y i q) = absurd (z (⊎_elim (λ (v : x.kind ≡ 4). inl (same ∙ v)) (λ (v : x.kind ≡ 9). inr (same ∙ v)) y))
-        go a (listed y q) = absurd (⊎_elim (λ (v : n < 4). ⊎_elim (λ w. omega arith) (λ w. omega arith) y) (λ (v : 7 ≤ n). ⊎_elim (λ w. omega arith) (λ w. omega arith) y) l)
-        go a (single i y o u q) = sym q
+    module _ (optional : (node_of x).kind ≡ 4 → ⊥) (many : (node_of x).kind ≡ 5 → ⊥) (some : (node_of x).kind ≡ 6 → ⊥) (choice : (node_of x).kind ≡ 9 → ⊥) where
+      pub single_here : true ≡ is_scalar (kind_of t)
+      single_here = let (a, e, w) = shape_at in go a w
+        where
+          go : (a : Accepted) → Shape a.trees k (node_of x) t → true ≡ is_scalar (kind_of t)
+          go a (through c y i q) = absurd (⊎_elim optional choice y)
+          go a (listed y q) = absurd (⊎_elim many some y)
+          go a (single i y o u q) = sym q
 
 -- ---- the walk from a node down through optionals and choices
 pub record Walked (b : List ℕ) (node n : ℕ) : Type 0 where
@@ -155,10 +156,10 @@ walked_first b node (t, h) = record {
 }
 
 module _ (b : List ℕ) (node n : ℕ) (w : Walked b node n) (x : declared.Node) (s : get_elem? (read_form b).nodes n ≡ some (node_of x)) where
-  pub walked_less : (x.kind ≡ 4) ⊎ (x.kind ≡ 9) → x.p < n
+  pub walked_less : ((node_of x).kind ≡ 4) ⊎ ((node_of x).kind ≡ 9) → x.p < n
   walked_less z = (beneath b n w.tree w.here x s z).lower
 
-  pub walked_next : (x.kind ≡ 4) ⊎ (x.kind ≡ 9) → Walked b node x.p
+  pub walked_next : ((node_of x).kind ≡ 4) ⊎ ((node_of x).kind ≡ 9) → Walked b node x.p
   walked_next z =
       let under = beneath b n w.tree w.here x s z in
       record { tree = under.tree; here = under.node; same = λ t h. w.same t h ∙ under.same }

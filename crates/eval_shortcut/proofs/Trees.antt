@@ -277,7 +277,7 @@ module _ (b : List ℕ) (n : ℕ) (t : Tree) (e : tree_at b n ≡ some t) where
       kind_is : (k : ℕ) → eqb x.kind k ≡ true → x.kind ≡ k
       kind_is k = eqb-true x.kind k
 
-      other_kind :
+      pub other_kind :
           (x.kind ≡ 1 → ⊥)
           → (x.kind ≡ 2 → ⊥)
           → (x.kind ≡ 3 → ⊥)
@@ -302,15 +302,3 @@ module _ (b : List ℕ) (n : ℕ) (t : Tree) (e : tree_at b n ≡ some t) where
           (branch (eqb x.kind 11) _ _ (λ q z. kind_is 11 q)
           (λ z. absurd (none-ne-some t z))))))))))))
           made
-
-      pub other_tree :
-          (x.kind ≡ 1 → ⊥)
-          → (x.kind ≡ 2 → ⊥)
-          → (x.kind ≡ 3 → ⊥)
-          → (x.kind ≡ 4 → ⊥)
-          → (x.kind ≡ 7 → ⊥)
-          → (x.kind ≡ 8 → ⊥)
-          → (x.kind ≡ 9 → ⊥)
-          → (x.kind ≡ 10 → ⊥)
-          → Single (Guard x.lo x.hi) b n x.p t
-      other_tree a b c d i j k l = guard_tree (other_kind a b c d i j k l)

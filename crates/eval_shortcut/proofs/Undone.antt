@@ -243,23 +243,23 @@ no_other (Fallback v t) a c d e = absurd (e refl)
 no_other (Guard l h t) a c d e = refl
 
 module _ (b : List ℕ) (n : ℕ) (y : Node) (h : get_elem? (read_form b).nodes n ≡ some (node_of y)) where
-  pub undoes_flag : y.kind ≡ 1 → (t : Tree) → tree_at b n ≡ some t → true ≡ undoes t
+  pub undoes_flag : (node_of y).kind ≡ 1 → (t : Tree) → tree_at b n ≡ some t → true ≡ undoes t
   unfolding undoes
   undoes_flag k t e = ap undoes (flag_tree b n t e (node_of y) h k).same
 
-  pub undoes_argument : y.kind ≡ 2 → (t : Tree) → tree_at b n ≡ some t → ltb y.r 2 ≡ undoes t
+  pub undoes_argument : (node_of y).kind ≡ 2 → (t : Tree) → tree_at b n ≡ some t → ltb y.r 2 ≡ undoes t
   unfolding undoes
   undoes_argument k t e = text_below y.r ∙ ap undoes (argument_tree b n t e (node_of y) h k).same
 
-  pub undoes_choice : y.kind ≡ 9 → (t : Tree) → tree_at b n ≡ some t → true ≡ undoes t
+  pub undoes_choice : (node_of y).kind ≡ 9 → (t : Tree) → tree_at b n ≡ some t → true ≡ undoes t
   unfolding undoes
   undoes_choice k t e = ap undoes (choice_tree b n t e (node_of y) h k).same
 
-  pub undoes_fallback : y.kind ≡ 10 → (t : Tree) → tree_at b n ≡ some t → true ≡ undoes t
+  pub undoes_fallback : (node_of y).kind ≡ 10 → (t : Tree) → tree_at b n ≡ some t → true ≡ undoes t
   unfolding undoes
   undoes_fallback k t e = ap undoes (fallback_tree b n t e (node_of y) h k).single.same
 
-  pub undoes_other : (y.kind ≡ 1 → ⊥) → (y.kind ≡ 2 → ⊥) → (y.kind ≡ 9 → ⊥) → (y.kind ≡ 10 → ⊥)
+  pub undoes_other : ((node_of y).kind ≡ 1 → ⊥) → ((node_of y).kind ≡ 2 → ⊥) → ((node_of y).kind ≡ 9 → ⊥) → ((node_of y).kind ≡ 10 → ⊥)
       → (t : Tree) → tree_at b n ≡ some t → false ≡ undoes t
   undoes_other a c d f t e =
       let k = sym (tree_number b n t e (node_of y) h) in

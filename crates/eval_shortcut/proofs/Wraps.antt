@@ -21,7 +21,7 @@ use Rattle.eval_told.specs.Nodes.{tree_at}
 use Rattle.eval_shortcut.specs.Stands.{Scalar}
 use Rattle.eval_combine.specs.Made.{ChildGiven, Undone, OptionalOf, GuardOf}
 use Rattle.eval_combine.specs.declared.Optioned.{Optioned}
-use Rattle.eval_shortcut.specs.Children.{Wraps, Hint, Turns, Spares, Beneath, starts_below, leaf_below, Searched, LeafRan, NodeSays, HandsOn}
+use Rattle.eval_shortcut.specs.Children.{Hint, Turns, Spares, Beneath, starts_below, leaf_below, Searched, LeafRan, NodeSays, HandsOn}
 use Rattle.eval_shortcut.specs.Marks.{keeps_marks, is_leaf, HasTree}
 use Rattle.eval_shortcut.proofs.Trees.{Single, kind_number, optional_tree, guard_tree, tree_number}
 use Rattle.eval_shortcut.proofs.Words.{scalar_short}
@@ -31,10 +31,10 @@ use Rattle.eval_shortcut.proofs.Absent.{absent_same}
 
 -- ---- the child of a guard or an optional is a node of the form
 module _ (b : List ℕ) (n : ℕ) (t : Tree) (e : tree_at b n ≡ some t) (x : LaidOut) (h : get_elem? (read_form b).nodes n ≡ some (node_of x)) where
-  pub guard_child : x.kind ≡ 11 → HasTree b x.p
+  pub guard_child : (node_of x).kind ≡ 11 → HasTree b x.p
   guard_child k = let q = guard_tree b n t e (node_of x) h k in record { tree = q.child; node = q.node }
 
-  pub optional_child : x.kind ≡ 4 → HasTree b x.p
+  pub optional_child : (node_of x).kind ≡ 4 → HasTree b x.p
   optional_child k = let q = optional_tree b n t e (node_of x) h k in record { tree = q.child; node = q.node }
 
 -- ---- the node that a turn evaluates first
@@ -67,7 +67,7 @@ not_below (Fallback v t) g o = refl
 not_below (Guard l h t) g o = absurd (g refl)
 
 module _ (b : List ℕ) (n : ℕ) (x : LaidOut) (h : get_elem? (read_form b).nodes n ≡ some (node_of x)) (t : Tree) (e : tree_at b n ≡ some t) where
-  pub is_leaf_by : leb x.kind 3 ≡ is_leaf t
+  pub is_leaf_by : leb (node_of x).kind 3 ≡ is_leaf t
   is_leaf_by = rw (← tree_number b n t e (node_of x) h) (leaf_number t)
 
   below_yes : starts_below t ≡ true → x.p ≡ leaf_below b n t
@@ -79,25 +79,25 @@ module _ (b : List ℕ) (n : ℕ) (x : LaidOut) (h : get_elem? (read_form b).nod
   below_no z = rw (h, leaf_below, z)
 
   module _ (leaf : Bool) (f : (c : Tree) → tree_at b x.p ≡ some c → leaf ≡ is_leaf c) where
-    starts_guard : x.kind ≡ 11 → starts_below t ≡ leaf
+    starts_guard : (node_of x).kind ≡ 11 → starts_below t ≡ leaf
     unfolding starts_below
     starts_guard k =
         let q = guard_tree b n t e (node_of x) h k in
         sym (ap starts_below q.same) ∙ sym (f q.child q.node)
 
-    pub guard_leaf : x.kind ≡ 11 → leaf ≡ true → x.p ≡ leaf_below b n t
+    pub guard_leaf : (node_of x).kind ≡ 11 → leaf ≡ true → x.p ≡ leaf_below b n t
     guard_leaf k z = below_yes (starts_guard k ∙ z)
 
-    pub guard_other : x.kind ≡ 11 → leaf ≡ false → n ≡ leaf_below b n t
+    pub guard_other : (node_of x).kind ≡ 11 → leaf ≡ false → n ≡ leaf_below b n t
     guard_other k z = below_no (starts_guard k ∙ z)
 
-    pub optional_other : x.kind ≡ 4 → leaf ≡ false → n ≡ leaf_below b n t
+    pub optional_other : (node_of x).kind ≡ 4 → leaf ≡ false → n ≡ leaf_below b n t
     unfolding starts_below
     optional_other k z =
         let q = optional_tree b n t e (node_of x) h k in
         below_no (sym (ap starts_below q.same) ∙ rw (← f q.child q.node, z))
 
-    module _ (keeps : Bool) (g : (c : Tree) → tree_at b x.p ≡ some c → keeps ≡ keeps_marks (eqb x.r 1) c) (k : x.kind ≡ 4) (z : leaf ≡ true) where
+    module _ (keeps : Bool) (g : (c : Tree) → tree_at b x.p ≡ some c → keeps ≡ keeps_marks (eqb x.r 1) c) (k : (node_of x).kind ≡ 4) (z : leaf ≡ true) where
       starts_optional : starts_below t ≡ not keeps
       unfolding starts_below
       starts_optional =
@@ -110,73 +110,55 @@ module _ (b : List ℕ) (n : ℕ) (x : LaidOut) (h : get_elem? (read_form b).nod
       pub optional_kept : keeps ≡ true → n ≡ leaf_below b n t
       optional_kept w = below_no (starts_optional ∙ ap not w)
 
-  pub no_leaf : (x.kind ≡ 11 → ⊥) → (x.kind ≡ 4 → ⊥) → n ≡ leaf_below b n t
+  pub no_leaf : ((node_of x).kind ≡ 11 → ⊥) → ((node_of x).kind ≡ 4 → ⊥) → n ≡ leaf_below b n t
   no_leaf g o =
       let k = sym (tree_number b n t e (node_of x) h) in
       below_no (not_below t (λ q. g (k ∙ q)) (λ q. o (k ∙ q)))
 
 -- ---- the node beneath, as the code reads its child
-laid : Node → LaidOut
-laid y = record { kind = y.kind; p = y.p; q = y.q; r = y.r; lo = y.lo; hi = y.hi }
-
-abbrev Under : List ℕ → ℕ → LaidOut → Type 0
+abbrev Under : List ℕ → ℕ → Node → Type 0
 Under b leaf x = (leaf ≡ x.p) × ((x.kind ≡ 11) ⊎ ((x.kind ≡ 4) × Spares (eqb x.r 1) b leaf))
 
 module _ (b : List ℕ) (n leaf : ℕ) (x : LaidOut) (h : get_elem? (read_form b).nodes n ≡ some (node_of x)) where
-  under : Beneath b n leaf → Under b leaf x
-  unfolding laid
-  under g =
-      subst (Under b leaf)
-      (ap laid (some-injective (node_of g.own) (node_of x) (sym g.read ∙ h)))
-      (g.place, g.kind)
+  under : Beneath b n leaf → Under b leaf (node_of x)
+  under g = subst (Under b leaf) (some-injective (node_of g.own) (node_of x) (sym g.read ∙ h)) (g.place, g.kind)
 
-  searched_under : Searched b n leaf → (leaf ≡ n → ⊥) → Under b leaf x
+  searched_under : Searched b n leaf → (leaf ≡ n → ⊥) → Under b leaf (node_of x)
   searched_under w l = ⊎_elim (λ e. absurd (l e)) (λ g. under g) w
 
   pub searched_place : Searched b n leaf → (leaf ≡ n → ⊥) → leaf ≡ x.p
   searched_place w l = (searched_under w l).0
 
-  pub searched_optional : Searched b n leaf → (leaf ≡ n → ⊥) → (x.kind ≡ 11 → ⊥) → (x.kind ≡ 4) × Spares (eqb x.r 1) b leaf
+  pub searched_optional : Searched b n leaf → (leaf ≡ n → ⊥) → ((node_of x).kind ≡ 11 → ⊥) → ((node_of x).kind ≡ 4) × Spares (eqb x.r 1) b leaf
   searched_optional w l k = ⊎_elim (λ e. absurd (k e)) (λ g. g) (searched_under w l).1
 
 -- ---- what a guard and an optional are, from what the code reads
 module _ (b known s words m : List ℕ) (p : Numbers) (mark n : ℕ) (z : Scalar b known s words m p mark n) (x : LaidOut) (h : get_elem? (read_form b).nodes n ≡ some (node_of x)) where
-  over_less : x.kind ≡ 11 → x.p < n
-  over_less k =
-      guard_less b known s words m p mark n z x h (λ e. omega arith) (λ e. omega arith) (λ e. omega arith) (λ e. omega arith)
-      (λ e. omega arith) (λ e. omega arith) (λ e. omega arith) (λ e. omega arith)
-
-  over_ready : x.kind ≡ 11 → Wraps (Guard x.lo x.hi) b known s words m p mark x.p
-  over_ready k =
-      guard_ready b known s words m p mark n z x h (λ e. omega arith) (λ e. omega arith) (λ e. omega arith) (λ e. omega arith)
-      (λ e. omega arith) (λ e. omega arith) (λ e. omega arith) (λ e. omega arith)
-
   module _ (m' : List ℕ) (ran : Ran) (said : NodeSays b s words m p mark x.p m' ran) where
-    guard_answers : x.kind ≡ 11 → (r : Ran) → GuardOf x.lo x.hi ran r → NodeSays b s words m p mark n m' r
+    guard_answers : (node_of x).kind ≡ 11 → (r : Ran) → GuardOf x.lo x.hi ran r → NodeSays b s words m p mark n m' r
     guard_answers k r g =
-        guard_says b known s words m p mark n z x h (λ e. omega arith) (λ e. omega arith) (λ e. omega arith) (λ e. omega arith)
-        (λ e. omega arith) (λ e. omega arith) (λ e. omega arith) (λ e. omega arith) m' r
-        (guard_ends x.lo x.hi b known s words m p mark x.p (over_ready k) m' ran said r g)
+        guard_says b known s words m p mark n z x h m' r k
+        (guard_ends x.lo x.hi b known s words m p mark x.p (guard_ready b known s words m p mark n z x h k) m' ran said r g)
 
-    guard_short : x.kind ≡ 11 → ran.len < 1000
+    guard_short : (node_of x).kind ≡ 11 → ran.len < 1000
     unfolding kind_of
     guard_short k =
-        let y = over_ready k in
+        let y = guard_ready b known s words m p mark n z x h k in
         let e = (base_kind_lem number (kind_of y.below.stands.tree) y.sound.kind).1 in
         let l = base_len b known s words m p mark x.p y.below m' ran said number e in
         let w = scalar_short ran.len ran.word in
         omega arith
 
     -- an absent leaf that spares the marks left them as they were
-    undone : x.kind ≡ 4 → (catch : Bool) → Spares catch b x.p → Undone catch m p m' ran
+    undone : (node_of x).kind ≡ 4 → (catch : Bool) → Spares catch b x.p → Undone catch m p m' ran
     undone k catch f w =
         let y = (optional_ready b known s words m p mark n z x h k).below in
         absent_same b known s words m p mark x.p y m' ran said catch _ w (f y.stands.tree y.stands.node)
 
-    optional_short : x.kind ≡ 4 → ran.len < 1000
+    optional_short : (node_of x).kind ≡ 4 → ran.len < 1000
     optional_short k = (optional_given (eqb x.r 1) b known s words m p mark x.p (optional_ready b known s words m p mark n z x h k) m' ran said).short
 
-    optional_answers : x.kind ≡ 4 → Spares (eqb x.r 1) b x.p → (o : Optioned)
+    optional_answers : (node_of x).kind ≡ 4 → Spares (eqb x.r 1) b x.p → (o : Optioned)
         → ((before m : List ℕ) → ChildGiven before p m ran → Undone (eqb x.r 1) before p m ran → OptionalOf (eqb x.r 1) before p ran m m o)
         → NodeSays b s words m p mark n m' o.ran
     optional_answers k f o g =
@@ -196,11 +178,11 @@ module _ (b : List ℕ) (n leaf : ℕ) (p : Numbers) (ran : Ran) where
   child_itself e known s words m m' mark z said = said_at b p ran s words m mark m' e said
 
   module _ (a : LeafRan b n leaf ran) (l : leaf ≡ n → ⊥) (x : LaidOut) (h : get_elem? (read_form b).nodes n ≡ some (node_of x)) where
-    pub guard_hands : x.kind ≡ 11 → (r : Ran) → GuardOf x.lo x.hi ran r → HandsOn b n leaf p ran r
+    pub guard_hands : (node_of x).kind ≡ 11 → (r : Ran) → GuardOf x.lo x.hi ran r → HandsOn b n leaf p ran r
     guard_hands k r g known s words m m' mark z said =
         guard_answers b known s words m p mark n z x h m' ran (said_at b p ran s words m mark m' (searched_place b n leaf x h a.searched l) said) k r g
 
-    pub optional_hands : (x.kind ≡ 11 → ⊥) → (o : Optioned)
+    pub optional_hands : ((node_of x).kind ≡ 11 → ⊥) → (o : Optioned)
         → ((before m : List ℕ) → ChildGiven before p m ran → Undone (eqb x.r 1) before p m ran → OptionalOf (eqb x.r 1) before p ran m m o)
         → HandsOn b n leaf p ran o.ran
     optional_hands k o g known s words m m' mark z said =
@@ -216,7 +198,7 @@ module _ (b known s words m : List ℕ) (p : Numbers) (mark n : ℕ) (z : Scalar
       let x = g.own in
       let e = g.place in
       ⊎_elim
-      (λ k. let l = over_less b known s words m p mark n z x g.read k in omega arith)
+      (λ k. let l = guard_less b known s words m p mark n z x g.read k in omega arith)
       (λ k. let l = optional_less b known s words m p mark n z x g.read k.0 in omega arith)
       g.kind
 
@@ -243,7 +225,7 @@ module _ (b known s words m : List ℕ) (p : Numbers) (mark n from : ℕ) (z : T
       (⊎_elim
       (λ k. single_turns (Guard x.lo x.hi) (λ t i. i) x.p
       (guard_tree b n z.below.stands.tree z.below.stands.node (node_of x) g.read k)
-      (over_ready b known s words m p mark n z.below x g.read k).below)
+      (guard_ready b known s words m p mark n z.below x g.read k).below)
       (λ k. single_turns (Optional (eqb x.r 1)) (λ t i. i) x.p
       (optional_tree b n z.below.stands.tree z.below.stands.node (node_of x) g.read k.0)
       (optional_ready b known s words m p mark n z.below x g.read k.0).below)

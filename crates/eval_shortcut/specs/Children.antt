@@ -69,7 +69,7 @@ pub record Beneath (b : List ℕ) (child leaf : ℕ) : Type 0 where
   pub own : LaidOut
   pub read : get_elem? (read_form b).nodes child ≡ some (node_of own)
   pub place : leaf ≡ own.p
-  pub kind : (own.kind ≡ 11) ⊎ ((own.kind ≡ 4) × Spares (eqb own.r 1) b leaf)
+  pub kind : ((node_of own).kind ≡ 11) ⊎ (((node_of own).kind ≡ 4) × Spares (eqb own.r 1) b leaf)
 
 -- whether a turn evaluates first the node beneath a child: a leaf, where the child is a guard or an optional with no marks to put back
 unfoldable pub starts_below : Tree → Bool

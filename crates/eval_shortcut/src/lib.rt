@@ -10,6 +10,7 @@ ghost use Rattle.eval_shortcut.specs.Children.{leaf_below, Searched, LeafRan, Ha
 ghost use Rattle.eval_shortcut.specs.OneSide.{Searchable, misses_by, stays_by, alone_by, Misses, Stays, Alone};
 
 use eval_told::Ran;
+use form_layout::Kind;
 use state_marks::Numbers;
 
 // Whether a refusal of this node leaves the state as it was, whatever the refusal.
@@ -18,12 +19,9 @@ fn undoes(form: &[u8], node: usize) -> bool
     ensures { (t : Tree) → tree_at form.now node ≡ some t → result ≡ undoes t }
 {
     let x = form_layout::node_at(form, node);
-    let kind = x.kind;
-    match kind {
-        1 => true,
-        2 => x.r < 2,
-        9 => true,
-        10 => true,
+    match x.kind {
+        Kind::Flag | Kind::Choice | Kind::Fallback => true,
+        Kind::Argument => x.r < 2,
         _ => false,
     }
 }
@@ -34,13 +32,11 @@ fn keeps_leaf(form: &[u8], node: usize) -> bool
     ensures { (t : Tree) → tree_at form.now node ≡ some t → result ≡ keeps_leaf t }
 {
     let x = form_layout::node_at(form, node);
-    if x.kind == 3 {
-        return 2 <= x.p;
+    match x.kind {
+        Kind::Argument => false,
+        Kind::Positional => 2 <= x.p,
+        _ => true,
     }
-    if x.kind == 2 {
-        return false;
-    }
-    true
 }
 
 // Whether a child that is absent may have used something, so that the marks must be put back.
@@ -55,7 +51,7 @@ pub fn keeps_marks(form: &[u8], child: usize, catch: bool) -> bool
         return true;
     }
     let x = form_layout::node_at(form, child);
-    if x.kind == 11 {
+    if let Kind::Guard = x.kind {
         return keeps_leaf(form, x.p);
     }
     keeps_leaf(form, child)
@@ -68,16 +64,11 @@ fn is_missing(form: &[u8], known: &[u64], node: usize) -> bool
     ensures misses { result ≡ true → Misses form.now known.now node }
 {
     let x = form_layout::node_at(form, node);
-    if x.kind == 1 {
-        if x.r == 1 {
-            return false;
-        }
-        return eval_params::is_missing(known, node);
+    match x.kind {
+        Kind::Flag => x.r != 1 && eval_params::is_missing(known, node),
+        Kind::Argument => eval_params::is_missing(known, node), // every argument is required
+        _ => false,
     }
-    if x.kind == 2 {
-        return eval_params::is_missing(known, node); // every argument is required
-    }
-    false
 }
 
 // Whether a refusal of a node leaves the state as it was: it undoes its refusals, or no item has its names.
@@ -86,10 +77,7 @@ pub fn stays(form: &[u8], known: &[u64], node: usize) -> bool
     ensures value { (t : Tree) → tree_at form.now node ≡ some t → result ≡ stays_by known.now node t }
     ensures stays { result ≡ true → Stays form.now known.now node }
 {
-    if undoes(form, node) {
-        return true;
-    }
-    is_missing(form, known, node)
+    undoes(form, node) || is_missing(form, known, node)
 }
 
 // Whether a refusal of a node leaves the state as it was, and the other side of its choice is missing: then no copies are needed.
@@ -98,10 +86,7 @@ pub fn alone(form: &[u8], known: &[u64], node: usize, other: usize) -> bool
     ensures value { (t u : Tree) → tree_at form.now node ≡ some t → tree_at form.now other ≡ some u → result ≡ alone_by known.now node t other u }
     ensures alone { result ≡ true → Alone form.now known.now node other }
 {
-    if stays(form, known, node) {
-        return is_missing(form, known, other);
-    }
-    false
+    stays(form, known, node) && is_missing(form, known, other)
 }
 
 // Whether a node is a flag, an argument or a positional.
@@ -110,7 +95,7 @@ fn is_leaf(form: &[u8], node: usize) -> bool
     ensures { (t : Tree) → tree_at form.now node ≡ some t → result ≡ is_leaf t }
 {
     let x = form_layout::node_at(form, node);
-    x.kind <= 3
+    x.kind.is_leaf()
 }
 
 // The node that a turn evaluates first: the leaf right beneath a guard, or beneath an optional that has no marks to put back.
@@ -121,22 +106,11 @@ pub fn leaf_below(form: &[u8], child: usize) -> usize
     ensures searched { Searched form.now child result }
 {
     let x = form_layout::node_at(form, child);
-    if x.kind == 11 {
-        if is_leaf(form, x.p) {
-            return x.p;
-        }
-        return child;
+    match x.kind {
+        Kind::Guard if is_leaf(form, x.p) => x.p,
+        Kind::Optional if is_leaf(form, x.p) && !keeps_marks(form, x.p, x.r == 1) => x.p,
+        _ => child,
     }
-    if x.kind != 4 {
-        return child;
-    }
-    if !is_leaf(form, x.p) {
-        return child;
-    }
-    if keeps_marks(form, x.p, x.r == 1) {
-        return child;
-    }
-    x.p
 }
 
 // What the child makes of the result of the leaf beneath it.
@@ -148,12 +122,10 @@ pub fn wrap(form: &[u8], child: usize, leaf: usize, ran: Ran, p: Numbers) -> Ran
         return ran;
     }
     let x = form_layout::node_at(form, child);
-    if x.kind == 11 {
+    if let Kind::Guard = x.kind {
         return eval_combine::guard(ran, x.lo, x.hi);
     }
-    let made = eval_combine::optional_unchanged(ran, p, x.r == 1);
-    let answer = made.ran;
-    answer
+    eval_combine::optional_unchanged(ran, p, x.r == 1).ran
 }
 
 // Whether the value of a node is a list or an optional list: through optionals and choices to what is beneath.
@@ -161,13 +133,13 @@ pub fn is_list(form: &[u8], node: usize) -> bool
     requires { (t : Tree) × (tree_at form.now node ≡ some t) }
     ensures { (t : Tree) → tree_at form.now node ≡ some t → not result ≡ is_scalar (kind_of t) }
 {
+    // A loop: each step goes down to a child, which no range counts.
     let mut n = node;
     loop {
         let x = form_layout::node_at(form, n);
-        let kind = x.kind;
-        match kind {
-            4 | 9 => n = x.p,
-            5 | 6 => return true,
+        match x.kind {
+            Kind::Optional | Kind::Choice => n = x.p,
+            Kind::Many | Kind::AtLeastOne => return true,
             _ => return false,
         }
     }

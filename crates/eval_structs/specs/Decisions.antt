@@ -1,6 +1,7 @@
 -- What the answers of the decisions stand for.
 use Rattle.std.specs.Prelude.{◌≡◌, Bool, true, false, List, [], ℕ, eqb}
 use Rattle.std.proofs.Math.Option.{Option, some, none}
+use Rattle.std.specs.Prelude.{Option as Maybe, Some, None}
 use Rattle.std.specs.Prelude.{if◌then◌else◌}
 use Rattle.rules.specs.Outcome.{Outcome, ok, refused, fault, at, or_else305, or_else307, refuse, can_catch}
 use Rattle.rules.specs.Value.{BaseValue, is_number, Value, base, list_of}
@@ -21,8 +22,9 @@ with_remaining n = record { marks = []; remaining = n; current = none; start = 0
 
 -- ---- `parse_option`
 -- what remained after the last counted success
-unfoldable pub counted_of : ℕ → Option ℕ
-counted_of n = if eqb n 4294967295 then none else some n
+abbrev pub counted_of : Maybe ℕ → Option ℕ
+counted_of None = none
+counted_of (Some n) = some n
 
 unfoldable pub option_way : ℕ → Bool → ℕ → ℕ → Option ℕ → Counting
 option_way number catch given left len =

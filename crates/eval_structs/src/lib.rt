@@ -38,29 +38,11 @@ pub enum Pick {
     Neither(rules::Refused),
 }
 
-// `last` is what remained after the last counted success, 4294967295 before the first.
-fn fewer(left: u32, last: u32) -> bool
-    ensures { result ≡ fewer left (counted_of last) }
-{
-    if last == 4294967295 {
-        return true;
-    }
-    left < last
-}
-
-fn catches(catch: bool, number: u32) -> bool
-    ensures { result ≡ (catch && not (wrong_input (refuse number none))) }
-{
-    if catch {
-        return !eval_error::wrong_input(number);
-    }
-    false
-}
-
+#[tactic(auto, unfolding(crate::specs::Decisions::with_remaining, rules::specs::Eval::swallowed, rules::specs::Outcome::is_missing))]
 fn swallowed(catch: bool, number: u32, given: u32, left: u32) -> bool
     ensures { result ≡ swallowed catch (refuse number none) (with_remaining given) (with_remaining left) }
 {
-    if catches(catch, number) {
+    if catch && !eval_error::wrong_input(number) {
         return true;
     }
     if number == 20 {
@@ -69,30 +51,32 @@ fn swallowed(catch: bool, number: u32, given: u32, left: u32) -> bool
     eval_error::can_catch(number)
 }
 
-// From how the child ended, what remained in the state that it was given and what remained in the one that it left.
-pub fn parse_option(number: u32, catch: bool, given: u32, left: u32, last: u32) -> Counting
+// From how the child ended, what remained in the state that it was given and what remained in the one that it left. `last` is what
+// remained after the last counted success, if there was one.
+#[tactic(auto, unfolding(crate::specs::Decisions::option_way, rules::specs::Eval::fewer))]
+pub fn parse_option(number: u32, catch: bool, given: u32, left: u32, last: Option<u32>) -> Counting
     ensures { result ≡ option_way number catch given left (counted_of last) }
 {
     if number == 0 {
-        if fewer(left, last) {
-            return Counting::Counted;
-        }
-        return Counting::Uncounted;
+        return match last {
+            None => Counting::Counted,
+            Some(n) if left < n => Counting::Counted,
+            Some(_) => Counting::Uncounted,
+        };
     }
     if swallowed(catch, number, given, left) {
-        return Counting::Absent;
+        Counting::Absent
+    } else {
+        Counting::PassedOn
     }
-    Counting::PassedOn
 }
 
 // `count` and `last` stop after a success that used nothing.
+#[tactic(auto, unfolding(crate::specs::Decisions::with_remaining, rules::specs::Eval::idle))]
 pub fn idle(stops: bool, given: u32, left: u32) -> bool
     ensures { result ≡ idle stops (with_remaining given) (with_remaining left) }
 {
-    if stops {
-        return given == left;
-    }
-    false
+    stops && given == left
 }
 
 // "some": 21 if nothing was counted.
@@ -105,6 +89,7 @@ pub fn parse_some(counted: u32) -> u32
     if counted == 0 { 21 } else { 0 }
 }
 
+#[tactic(auto, unfolding(crate::specs::Decisions::fallback_way))]
 pub fn parse_fallback(number: u32) -> Fallback
     ensures { result ≡ fallback_way number }
 {
@@ -118,39 +103,33 @@ pub fn parse_fallback(number: u32) -> Fallback
 }
 
 // Guard: 26 for a number that is not within lo and hi.
+#[tactic(auto, unfolding(crate::specs::Decisions::guard_by, rules::specs::Eval::guarded))]
 pub fn parse_guard(lo: u32, hi: u32, n: u32) -> u32
     ensures { (s : State) → guarded lo hi (base (is_number n)) s ≡ guard_by result n s }
 {
-    if lo <= n {
-        if n <= hi {
-            return 0;
-        }
-    }
-    26
+    if lo <= n && n <= hi { 0 } else { 26 }
 }
 
 // Of two successes that used nothing the first.
 fn two_successes(given: u32, left_a: u32, left_b: u32) -> Pick
     ensures { result ≡ (if eqb given left_a && eqb given left_b then First else Winner) }
 {
-    if given == left_a {
-        if given == left_b {
-            return Pick::First;
-        }
+    if given == left_a && given == left_b {
+        Pick::First
+    } else {
+        Pick::Winner
     }
-    Pick::Winner
 }
 
 // A success that used nothing gives way to a refusal for wrong input.
 fn one_success(side: Pick, given: u32, left: u32, e: rules::Refused) -> Pick
     ensures { result ≡ (if eqb given left && wrong_input (refuse e.number none) then Neither e else side) }
 {
-    if given == left {
-        if eval_error::wrong_input(e.number) {
-            return Pick::Neither(e);
-        }
+    if given == left && eval_error::wrong_input(e.number) {
+        Pick::Neither(e)
+    } else {
+        side
     }
-    side
 }
 
 // From how both sides ended, what remained in the state that they were given and what remained in those that they left.
@@ -169,14 +148,10 @@ pub fn this_or_that_picks_first(
         → b.remaining ≡ left_b
         → forgotten (picks_first s a b o u) ≡ pick_by result a b }
 {
-    if err_a.number == 0 {
-        if err_b.number == 0 {
-            return two_successes(given, left_a, left_b);
-        }
-        return one_success(Pick::First, given, left_a, err_b);
+    match (err_a.number, err_b.number) {
+        (0, 0) => two_successes(given, left_a, left_b),
+        (0, _) => one_success(Pick::First, given, left_a, err_b),
+        (_, 0) => one_success(Pick::Second, given, left_b, err_a),
+        _ => Pick::Neither(eval_error::combine_with(err_a, err_b)),
     }
-    if err_b.number == 0 {
-        return one_success(Pick::Second, given, left_b, err_a);
-    }
-    Pick::Neither(eval_error::combine_with(err_a, err_b))
 }

@@ -6,6 +6,16 @@ ghost use Rattle.eval_told.specs.Results.{value_ran, refusal_ran, more_tries, wr
 
 use state_marks::Numbers;
 
+// What stays as it is while a line is run: the form, which of its nodes each item matches, and the items, with the sheet that they
+// were split from.
+#[derive(Clone, Copy)]
+pub struct Line<'a> {
+    pub form: &'a [u8],
+    pub known: &'a [u64],
+    pub sheet: &'a [u8],
+    pub items: &'a [u32],
+}
+
 // Number 0 is a value, else it is the refusal's, with its place plus 1. `len` is how many words the value has. A value that is
 // no list goes as one word, or as 1 and a word where it is optional and present; an absent one is the word 0. The words of a
 // list stand in the answer slice. A refusal has no words.
@@ -51,14 +61,9 @@ pub fn more_tries(ran: Ran, tries: u32) -> Ran
     requires { tries + ran.tries < 4294967296 }
     ensures { result ≡ more_tries ran tries }
 {
-    let left = ran.numbers;
     Ran {
-        number: ran.number,
-        place: ran.place,
         tries: tries + ran.tries,
-        len: ran.len,
-        word: ran.word,
-        numbers: left,
+        ..ran
     }
 }
 
@@ -66,13 +71,9 @@ pub fn more_tries(ran: Ran, tries: u32) -> Ran
 pub fn wrote(ran: Ran, len: u32) -> Ran
     ensures { result ≡ written ran len }
 {
-    let left = ran.numbers;
     Ran {
-        number: ran.number,
-        place: ran.place,
-        tries: ran.tries,
         len,
         word: 0,
-        numbers: left,
+        ..ran
     }
 }

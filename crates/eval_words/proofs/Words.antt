@@ -9,9 +9,7 @@ use native.Mathlib.Omega.{arith}
 use lib.ListN.{length, length-drop, get_or, set, take, drop, replicate}
 use lib.Seq.{sets, set_comm, set-set, set-get_or, sets-eq, drop_at, length-take-le, take-append_seam}
 use borrow.Author.Tests.{eq-eqb, ne_eqb}
-use Rattle.std.specs.Prelude.{if◌then◌else◌}
-use Rattle.eval_told.specs.Told.{scalar_words}
-use Rattle.eval_words.specs.Stored.{Put, WroteValue, settled}
+use Rattle.eval_words.specs.Stored.{settled}
 
 -- ---- stores
 -- a store before the others commutes with them
@@ -64,38 +62,6 @@ sets_part w o at h =
 pub sets_read : (w o o' : List ℕ) (at n : ℕ) → o' ≡ sets o at w → n ≡ length w → at + length w ≤ length o → take n (drop at o') ≡ w
 sets_read w o o' at n q e h = rw (q, e) (sets_part w o at h)
 
--- ---- the words of a value
-pub put_none : (o : List ℕ) (at len word : ℕ) → len ≡ 0 → Put o at len word o 0
-unfolding scalar_words
-put_none o at len word e = rw e (record { width = refl; same = refl })
-
-pub put_one : (o : List ℕ) (at len word : ℕ) → len ≡ 1 → Put o at len word (set o at word) 1
-unfolding scalar_words
-put_one o at len word e = rw e (record { width = refl; same = refl })
-
-pub put_two : (o : List ℕ) (at len word : ℕ) → (len ≡ 0 → ⊥) → (len ≡ 1 → ⊥) → Put o at len word (set (set o at 1) (at + 1) word) 2
-unfolding scalar_words
-put_two o at len word a b = record { width = rw (ne_eqb len 0 a, ne_eqb len 1 b); same = rw (ne_eqb len 0 a, ne_eqb len 1 b, add-one at) }
-
--- ---- where values are written
-pub wrote_put :
-    (writes : Bool) (o : List ℕ) (at size len word : ℕ) (o' : List ℕ) (r n : ℕ)
-    → writes ≡ true
-    → n ≡ size
-    → Put o (at + 1 + n) len word o' r
-    → WroteValue writes o (at + 1 + size) len word o' r
-wrote_put writes o at size len word o' r n e k h = rw (e, ← k) (record { width = h.width; same = h.same })
-
-pub wrote_none : (writes : Bool) (o : List ℕ) (at len word : ℕ) → writes ≡ false → WroteValue writes o at len word o 0
-wrote_none writes o at len word e = rw e (record { width = refl; same = refl })
-
-pub zeroed : (writes : Bool) (o : List ℕ) (at size : ℕ) (o' : List ℕ) (n : ℕ) → writes ≡ true → n ≡ size → o' ≡ sets o (at + 1) (replicate n 0)
-    → o' ≡ (if writes then sets o (at + 1) (replicate size 0) else o)
-zeroed writes o at size o' n e k h = rw (e, ← k) h
-
-pub untouched : (writes : Bool) (o : List ℕ) (at size : ℕ) → writes ≡ false → o ≡ (if writes then sets o (at + 1) (replicate size 0) else o)
-untouched writes o at size e = rw e
-
 -- ---- words set aside
 pub lifted :
     (o v : List ℕ) (at n : ℕ) (r : List ℕ)
@@ -110,14 +76,6 @@ lifted o v at n r a b l e =
     let all : at + n - at ≡ n = omega arith in
     let there : r ≡ sets v 0 w = rw all at e in
     rw there (ap (λ (j : ℕ). take j (sets v 0 w)) (sym long) ∙ sets_part w v 0 (omega arith))
-
--- and put behind a 1
-pub shifted :
-    (o kept : List ℕ) (at n : ℕ) (r : List ℕ)
-    → take n kept ≡ take n (drop at o)
-    → r ≡ sets (set o at 1) (at + 1) (take n kept)
-    → r ≡ sets o at (1 ∷ take n (drop at o))
-shifted o kept at n r k e = e ∙ rw (add-one at, k)
 
 -- ---- which words of a choice stand
 module _ (o : List ℕ) (at : ℕ) (kept : List ℕ) (n : ℕ) where

@@ -9,7 +9,6 @@ ghost use Rattle.eval_words.specs.Stored.{Put, WroteValue, CountedList, Aside, s
 
 use eval_told::Ran;
 use state_marks::Numbers;
-use wire::wide;
 
 // The most words of a list: its count, and two for each of its values.
 const LIST_WORDS: usize = 515;
@@ -28,20 +27,23 @@ pub struct Repeated {
 }
 
 // Writes the words of a value that is no list. How many they are comes back.
+#[tactic(auto, unfolding(eval_told::specs::Told::scalar_words))]
 pub fn put(out: &mut [u32], at: usize, len: u32, word: u32) -> u32
     requires { at + 2 ≤ length out.old }
     ensures { Put out.old at len word out.new result }
 {
-    if len == 0 {
-        return 0;
+    match len {
+        0 => 0,
+        1 => {
+            out[at] = word;
+            1
+        }
+        _ => {
+            out[at] = 1;
+            out[at + 1] = word;
+            2
+        }
     }
-    if len == 1 {
-        out[at] = word;
-        return 1;
-    }
-    out[at] = 1;
-    out[at + 1] = word;
-    2
 }
 
 // A value goes behind the `size` words from `at + 1` on, if values are written.
@@ -50,9 +52,10 @@ pub fn write_value(out: &mut [u32], writes: bool, at: usize, size: u32, len: u32
     ensures { WroteValue writes out.old (at + 1 + size) len word out.new result }
 {
     if writes {
-        return put(out, at + 1 + wide(size), len, word);
+        put(out, at + 1 + size as usize, len, word)
+    } else {
+        0
     }
-    0
 }
 
 // The `size` words from `at + 1` on are 0 again, if values were written.
@@ -61,7 +64,7 @@ pub fn unwrite(out: &mut [u32], writes: bool, at: usize, size: u32)
     ensures { out.new ≡ (if writes then sets out.old (at + 1) (replicate size 0) else out.old) }
 {
     if writes {
-        wire::fill(out, at + 1, wide(size), 0);
+        wire::fill(out, at + 1, size as usize, 0);
     }
 }
 
@@ -85,16 +88,13 @@ pub fn one_more(all: Repeated, ran: Ran, width: u32) -> Repeated
     requires { OneMoreFits all ran width }
     ensures { result ≡ one_more all ran width }
 {
-    let left = ran.numbers;
     Repeated {
-        number: 0,
-        place: 0,
         tries: all.tries + ran.tries,
         count: all.count + 1,
         size: all.size + width,
         len: ran.len,
         word: ran.word,
-        numbers: left,
+        ..nothing(ran.numbers)
     }
 }
 
@@ -107,11 +107,8 @@ pub fn ended(all: Repeated, tries: u32, numbers: Numbers) -> Repeated
         number: 0,
         place: 0,
         tries: all.tries + tries,
-        count: all.count,
-        size: all.size,
-        len: all.len,
-        word: all.word,
-        numbers: numbers,
+        numbers,
+        ..all
     }
 }
 
@@ -120,48 +117,42 @@ pub fn passed_on(all: Repeated, ran: Ran) -> Repeated
     requires { all.tries + ran.tries ≤ 16512 }
     ensures { result ≡ passed_on all ran }
 {
-    let left = ran.numbers;
     Repeated {
         number: ran.number,
         place: ran.place,
         tries: all.tries + ran.tries,
-        count: 0,
-        size: 0,
-        len: 0,
-        word: 0,
-        numbers: left,
+        ..nothing(ran.numbers)
     }
 }
 
 pub fn refused_list(all: Repeated) -> Ran
     ensures { result ≡ denied_list all }
 {
-    let left = all.numbers;
-    eval_told::refusal(all.number, all.place, all.tries, left)
+    eval_told::refusal(all.number, all.place, all.tries, all.numbers)
 }
 
 pub fn counted(all: Repeated) -> Ran
     ensures { result ≡ counted_values all }
 {
-    let left = all.numbers;
-    eval_told::value(all.tries, 1, all.count, left)
+    eval_told::value(all.tries, 1, all.count, all.numbers)
 }
 
 pub fn last_value(all: Repeated) -> Ran
     ensures { result ≡ last_value all }
 {
-    let left = all.numbers;
-    eval_told::value(all.tries, all.len, all.word, left)
+    eval_told::value(all.tries, all.len, all.word, all.numbers)
 }
 
 // Where the next turn of a repeat over a leaf searches from: behind what this turn used.
+#[tactic(auto, unfolding(crate::specs::Values::next_from))]
 pub fn next_from(from: usize, given: u32, after: Numbers) -> usize
     ensures { result ≡ next_from from given after }
 {
     if after.remaining < given {
-        return wide(after.current);
+        after.current as usize
+    } else {
+        from
     }
-    from
 }
 
 // Copies marks, if that is wanted.
@@ -173,20 +164,13 @@ pub fn copy_if(wanted: bool, from: &[u16; 256], to: &mut [u16; 256])
     }
 }
 
-fn blank() -> [u32; LIST_WORDS]
-    ensures { length result ≡ 515 }
-{
-    [0u32; LIST_WORDS]
-}
-
 // A copy of the n words from `at` on.
 fn lift(out: &[u32], at: usize, n: usize) -> [u32; LIST_WORDS]
     requires { (n ≤ 515) × (at + n ≤ length out.now) }
     ensures { take n result ≡ take n (drop at out.now) }
 {
-    let end = at + n;
-    let mut kept = blank();
-    wire::copy(&mut kept, 0, &out[at..end]);
+    let mut kept = [0u32; LIST_WORDS];
+    wire::copy(&mut kept, 0, &out[at..at + n]);
     kept
 }
 
@@ -211,6 +195,7 @@ pub fn shift(out: &mut [u32], at: usize, n: usize)
 }
 
 // Which words of a choice stand: the first side's were set aside, the second's, `m` of them, are there.
+#[tactic(auto, unfolding(crate::specs::Stored::settled))]
 pub fn settle(
     out: &mut [u32],
     at: usize,
@@ -239,6 +224,5 @@ pub fn counted_list(all: Repeated, at: usize, out: &mut [u32]) -> Ran
     ensures { CountedList all out.old at out.new result }
 {
     out[at] = all.count;
-    let left = all.numbers;
-    eval_told::value(all.tries, all.size + 1, 0, left)
+    eval_told::value(all.tries, all.size + 1, 0, all.numbers)
 }

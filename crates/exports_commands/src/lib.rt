@@ -18,7 +18,7 @@ use command_run::CommandAnswer;
 pub extern "C" fn silverpoise_commands_check(table: &[u8]) -> TableRefused
     ensures { table_told (table_forms table.now) (entry_at_fault table.now) ≡ some result }
 {
-    command_check::check(table)
+    command_check::check_told(table)
 }
 
 #[unsafe(no_mangle)]

@@ -10,8 +10,7 @@ use native.Mathlib.Omega.{arith}
 use lib.Dec.{eqb}
 use lib.ListN.{length, get_or, get_elem?, drop, replicate, length-map, drop_of_length-le}
 use lib.Seq.{drop-cons, ext_get_or}
-use borrow.Author.Tests.{eq-eqb, ne_eqb, eqb-true, eqb-false}
-use borrow.Author.Count.{below_more}
+use borrow.Author.Tests.{ne_eqb, eqb-true, eqb-false}
 use Rattle.rules.specs.Base.{is_some, numbers, first_fault}
 use Rattle.rules.specs.Form.{Node, Form}
 use Rattle.rules.specs.Codes.{check_code}
@@ -22,13 +21,11 @@ use Rattle.rules.proofs.Acceptance.{Made, flag_made, argument_made, positional_m
 use Rattle.rules.proofs.Acceptance.{inside_same}
 use Rattle.rules.proofs.Acceptance.{tree_made, lookup_some}
 use Rattle.form_kinds.specs.Known.{code_by, codes, code_at, SoundCodes, Done}
-use Rattle.form_names.specs.Names.{fault_or}
-use Rattle.form_names.proofs.Faults.{fault_here, fault_nowhere, fault_same}
+use Rattle.form_names.proofs.Faults.{fault_nowhere, fault_same}
 use Rattle.form_kinds.proofs.Steps.{lookup_none, drop_there}
 use Rattle.form_kinds.proofs.Table.{codes_length, codes_at, same_or, all_zero, empty_sound}
 use Rattle.form_kinds.proofs.Trees.{tree_code, code_of, tree_code_lem, real_code}
 use Rattle.form_check.specs.Uses.{greatest}
-use Rattle.form_check.proofs.Counting.{fault_some, fault_none}
 
 made_kind : (f : Form) (ts : List Tree) (k : ℕ) (x : Node) (t : Tree) → Made f ts k x t → is_some (kind_of t) ≡ true
 unfolding is_some kind_of
@@ -143,15 +140,6 @@ module _ (c : List ℕ) (n : ℕ) where
   abbrev pub good_in : ℕ → Bool
   good_in k = not (eqb (get_or c k 0) 32)
 
-  pub codes_here : (k : ℕ) → k < n → ((j : ℕ) → j < k → good_in j ≡ true) → get_or c k 0 ≡ 32 → k ≡ fault_or n (first_fault good_in 0 (numbers n 0))
-  codes_here k l h e = rw (fault_here good_in n k l h (rw (eq-eqb (get_or c k 0) 32 e)))
-
-  pub codes_next : (k : ℕ) → ((j : ℕ) → j < k → good_in j ≡ true) → (get_or c k 0 ≡ 32 → ⊥) → (j : ℕ) → j < k + 1 → good_in j ≡ true
-  codes_next k h e = below_more (λ (j : ℕ). good_in j ≡ true) k h (rw (ne_eqb (get_or c k 0) 32 e))
-
-  pub codes_nowhere : (k : ℕ) → n ≤ k → ((j : ℕ) → j < k → good_in j ≡ true) → n ≡ fault_or n (first_fault good_in 0 (numbers n 0))
-  codes_nowhere k l h = rw (fault_nowhere good_in n k l h)
-
 -- ---- the lowest node at fault is the first that has no tree
 abbrev verdict : Option ℕ → Refused
 verdict none = record { number = 0; place = 0 }
@@ -198,9 +186,8 @@ module _ (f : Form) where
     pub nodes_small : (m : ℕ) → m ≡ greatest c → m < 32 → r ≡ record { number = 0; place = 0 } → r ≡ check_code (trees_from f [] f.nodes)
     nodes_small m g h z = z ∙ sym (judged none (fault_nowhere (good_in c n) n n (omega arith) (λ k a. rw (ne_eqb (get_or c k 0) 32 (λ w. omega (arith, w, greatest_bounds c k))))))
 
-    module _ (i : ℕ) (s : i ≡ fault_or n (first_fault (good_in c n) 0 (numbers n 0))) where
-      pub nodes_bad : i < n → r ≡ record { number = 3; place = i + 1 } → r ≡ check_code (trees_from f [] f.nodes)
-      nodes_bad h z = z ∙ rw (add-one i) (sym (judged (some i) (fault_some (good_in c n) n i s h)))
+    pub nodes_bad : (i : ℕ) → first_fault (good_in c n) 0 (numbers n 0) ≡ some i → r ≡ record { number = 3; place = i + 1 } → r ≡ check_code (trees_from f [] f.nodes)
+    nodes_bad i s z = z ∙ rw (add-one i) (sym (judged (some i) s))
 
-      pub nodes_good : n ≤ i → r ≡ record { number = 0; place = 0 } → r ≡ check_code (trees_from f [] f.nodes)
-      nodes_good h z = z ∙ sym (judged none (fault_none (good_in c n) n i s h))
+    pub nodes_good : first_fault (good_in c n) 0 (numbers n 0) ≡ none → r ≡ record { number = 0; place = 0 } → r ≡ check_code (trees_from f [] f.nodes)
+    nodes_good s z = z ∙ sym (judged none s)

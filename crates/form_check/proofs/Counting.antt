@@ -1,26 +1,26 @@
 -- How often each node is used: the table of the code against the rules' count.
+use Rattle.std.specs.Prelude.{Option as Found, Some, None, cond, not, position}
+use Rattle.std.specs.List.{position_from}
+use Rattle.std.proofs.lemmas.Iterator.Adapters.{position_from-zero}
+use Rattle.std.specs.Prelude.{if◌then◌else◌}
 use mathlib.Core.Bool.{Bool, true, false, ◌&&◌, and-eq-true_iff, false≢true}
 use mathlib.Core.List.{List, [], ◌∷◌, ◌++◌}
 use mathlib.Core.Logic.{⊎_elim, ◌≢◌}
 use mathlib.Core.Option.{Option, some, none}
 use mathlib.Core.Path.{◌≡◌, refl, sym, ◌∙◌, ap}
-use Prim.Native.Nat.{ℕ, suc, ◌+◌, ◌≤◌, ◌<◌, min}
+use Prim.Native.Nat.{ℕ, zero, suc, ◌+◌, ◌≤◌, ◌<◌, min}
 use native.Mathlib.Numerals.{add-one}
 use native.Mathlib.Omega.{arith}
 use lib.Dec.{ltb, eqb}
-use lib.ListN.{length, get_or, get_elem?, set, drop, replicate, length-set, length-replicate, get_or-replicate, drop_of_length-le}
-use lib.Seq.{get_or-set_same, get_or-set_other}
-use borrow.Author.Tests.{eq-eqb, ne_eqb, le-leb, lt-leb, lt-ltb, le-ltb, ltb-true, ltb-false, eqb-true, eqb-false}
-use borrow.Author.Count.{below_more}
+use lib.ListN.{length, get_or, get_elem?, set, take, drop, replicate, length-set, length-replicate, get_or-replicate, drop_of_length-le}
+use lib.Seq.{drop-cons, get_or-set_same, get_or-set_other}
+use borrow.Author.Tests.{eq-eqb, ne_eqb, lt-ltb, le-ltb, ltb-true, ltb-false, eqb-true, eqb-false}
 use Rattle.rules.specs.Base.{all, occurrences, numbers, concat_map, first_fault, ◌>>?◌}
 use Rattle.rules.specs.Form.{Node, Form}
 use Rattle.rules.specs.Tree.{Tree}
 use Rattle.rules.specs.Accept.{children_of, uses, used_once, trees_at}
 use Rattle.rules.proofs.Acceptance.{lookup_some}
-use Rattle.form_names.specs.Names.{fault_or}
-use Rattle.form_names.proofs.Faults.{fault_here, fault_nowhere, fault_inside, fault_same}
-use Rattle.form_layout.specs.declared.Node as layout
-use Rattle.form_layout.specs.Layout.{node_of}
+use Rattle.form_names.proofs.Faults.{fault_same}
 use Rattle.form_kinds.proofs.Steps.{lookup_none, drop_there}
 use Rattle.form_kinds.proofs.Table.{same_or}
 use Rattle.form_check.specs.Uses.{added, tally, FieldsCounted}
@@ -42,21 +42,6 @@ pub tally_append : (c l m : List ℕ) → tally c (l ++ m) ≡ tally (tally c l)
 unfolding tally
 tally_append c [] m = refl
 tally_append c (k ∷ l) m = tally_append (added c k) l m
-
--- ---- children
-module _ (x : layout.Node) (c : List ℕ) where
-  pub children_none : x.kind ≤ 3 → c ≡ tally c (children_of (node_of x))
-  unfolding children_of tally
-  children_none h = rw (le-leb x.kind 3 h)
-
-  module _ (h : 3 < x.kind) (d : List ℕ) (e : d ≡ added c x.p) where
-    pub children_two : x.kind ≡ 9 → (g : List ℕ) → g ≡ added d x.q → g ≡ tally c (children_of (node_of x))
-    unfolding children_of tally
-    children_two k g r = rw (lt-leb x.kind 3 h, eq-eqb x.kind 9 k, ← e) r
-
-    pub children_one : (x.kind ≡ 9 → ⊥) → d ≡ tally c (children_of (node_of x))
-    unfolding children_of tally
-    children_one k = rw (lt-leb x.kind 3 h, ne_eqb x.kind 9 k) e
 
 -- ---- the loop over the fields: those below i are nodes, and are counted
 pub record FieldsFrom (n : ℕ) (l c₀ c : List ℕ) (i : ℕ) : Type 0 where
@@ -165,50 +150,47 @@ once_at ks j h = go (eqb (occurrences j ks) 1) refl
     go true e = eq-eqb (get_or (tally (replicate 64 0) ks) j 0) 1 (omega (arith, held, eqb-true (occurrences j ks) 1 e))
     go false e = ne_eqb (get_or (tally (replicate 64 0) ks) j 0) 1 (λ (z : get_or (tally (replicate 64 0) ks) j 0 ≡ 1). eqb-false (occurrences j ks) 1 e (omega (arith, held)))
 
--- ---- a fault that was looked for among n
-module _ (p : ℕ → Bool) (n i : ℕ) (r : i ≡ fault_or n (first_fault p 0 (numbers n 0))) where
-  by_option : (o : Option ℕ) → first_fault p 0 (numbers n 0) ≡ o → i ≡ fault_or n o
-  by_option o k = rw k at r
+-- ---- the lowest of the first n entries that a test finds, as a fault among n numbers
+abbrev told : Found ℕ → Option ℕ
+told None = none
+told (Some i) = some i
 
-  pub fault_some : i < n → first_fault p 0 (numbers n 0) ≡ some i
-  fault_some l = go (first_fault p 0 (numbers n 0)) refl
+module _ (test good : ℕ → Bool) (c : List ℕ) (same : (k : ℕ) → good k ≡ not (test (get_or c k 0))) where
+  found_from : (n k : ℕ) → k + n ≤ length c → first_fault good k (numbers n k) ≡ told (position_from test k (take n (drop k c)))
+  unfolding first_fault numbers
+  found_from zero k h = refl
+  found_from (suc n) k h = rw (drop-cons c k 0 (omega arith), same k) (go (test (get_or c k 0)) (found_from n (suc k) (omega arith)))
     where
-      go : (o : Option ℕ) → first_fault p 0 (numbers n 0) ≡ o → o ≡ some i
-      go none k = absurd (omega (arith, by_option none k))
-      go (some j) k = ap some (sym (by_option (some j) k))
+      go :
+          (t : Bool)
+          → first_fault good (suc k) (numbers n (suc k)) ≡ told (position_from test (suc k) (take n (drop (suc k) c)))
+          → (if not t then first_fault good (suc k) (numbers n (suc k)) else some k) ≡ told (cond t (Some k) (position_from test (k + 1) (take n (drop (suc k) c))))
+      go true later = refl
+      go false later = rw (add-one k) later
 
-  pub fault_none : n ≤ i → first_fault p 0 (numbers n 0) ≡ none
-  fault_none l = go (first_fault p 0 (numbers n 0)) refl
-    where
-      go : (o : Option ℕ) → first_fault p 0 (numbers n 0) ≡ o → o ≡ none
-      go none k = refl
-      go (some j) k = absurd (omega (arith, by_option (some j) k, (fault_inside p n 0 j k).1))
+  module _ (n : ℕ) (h : n ≤ length c) (r : Found ℕ) (e : r ≡ position test (take n c)) where
+    found : first_fault good 0 (numbers n 0) ≡ told r
+    found = found_from n 0 (omega arith) ∙ ap told (sym (e ∙ position_from-zero test (take n c)))
+
+    pub found_some : (i : ℕ) → r ≡ Some i → first_fault good 0 (numbers n 0) ≡ some i
+    found_some i s = found ∙ ap told s
+
+    pub found_none : r ≡ None → first_fault good 0 (numbers n 0) ≡ none
+    found_none s = found ∙ ap told s
+
+pub not_not : (t : Bool) → t ≡ not (not t)
+not_not true = refl
+not_not false = refl
 
 -- ---- the lowest node that is not used once
 module _ (c : List ℕ) (n : ℕ) where
   abbrev pub once_in : ℕ → Bool
   once_in k = eqb (get_or c k 0) 1
 
-  pub uses_here : (k : ℕ) → k < n → ((j : ℕ) → j < k → once_in j ≡ true) → (get_or c k 0 ≡ 1 → ⊥) → k ≡ fault_or n (first_fault once_in 0 (numbers n 0))
-  uses_here k l h e = rw (fault_here once_in n k l h (ne_eqb (get_or c k 0) 1 e))
-
-  pub uses_next : (k : ℕ) → ((j : ℕ) → j < k → once_in j ≡ true) → get_or c k 0 ≡ 1 → (j : ℕ) → j < k + 1 → once_in j ≡ true
-  uses_next k h e = below_more (λ (j : ℕ). once_in j ≡ true) k h (eq-eqb (get_or c k 0) 1 e)
-
-  pub uses_nowhere : (k : ℕ) → n ≤ k → ((j : ℕ) → j < k → once_in j ≡ true) → n ≡ fault_or n (first_fault once_in 0 (numbers n 0))
-  uses_nowhere k l h = rw (fault_nowhere once_in n k l h)
-
 module _ (f : Form) (n : ℕ) (h : n ≤ 64) (c : List ℕ) (e : c ≡ tally (replicate 64 0) (uses f)) where
-  uses_same : first_fault (once_in c n) 0 (numbers n 0) ≡ first_fault (used_once f) 0 (numbers n 0)
+  pub uses_same : first_fault (once_in c n) 0 (numbers n 0) ≡ first_fault (used_once f) 0 (numbers n 0)
   unfolding used_once
   uses_same = fault_same (once_in c n) (used_once f) n 0 (λ k a b. rw e (once_at (uses f) k (omega arith)))
-
-  module _ (i : ℕ) (r : i ≡ fault_or n (first_fault (once_in c n) 0 (numbers n 0))) where
-    pub some_fault : i < n → first_fault (used_once f) 0 (numbers n 0) ≡ some i
-    some_fault l = sym uses_same ∙ fault_some (once_in c n) n i r l
-
-    pub no_fault_used : n ≤ i → first_fault (used_once f) 0 (numbers n 0) ≡ none
-    no_fault_used l = sym uses_same ∙ fault_none (once_in c n) n i r l
 
 -- ---- the trees of the fields
 module _ (ts : List Tree) (n : ℕ) (long : length ts ≡ n) where

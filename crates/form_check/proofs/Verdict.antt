@@ -20,7 +20,7 @@ use Rattle.rules.proofs.Acceptance.{trees_length}
 use Rattle.form_names.specs.Names.{names_in, fault_or}
 use Rattle.form_layout.proofs.Sizes.{from, from_drop, record_drop, nodes_length, names_length}
 use Rattle.form_check.specs.Uses.{tally, FieldsCounted, records_fault}
-use Rattle.form_check.proofs.Counting.{once_in, uses_tally, some_fault, no_fault_used, trees_none, trees_some}
+use Rattle.form_check.proofs.Counting.{once_in, uses_tally, uses_same, trees_none, trees_some}
 
 abbrev pub said : ℕ → ℕ → Refused
 said n k = record { number = n; place = k }
@@ -36,7 +36,7 @@ module _ (b : List ℕ) (ts : List Tree) (long : length ts ≡ node_count b) (n 
   uses_outside z e = e ∙ rw (trees_none ts n trees (read_form b).fields (sym s.nodes ∙ not-true g z), check_use)
 
   module _ (z : not g ≡ false) (few : node_count b ≤ 64) (e₀ : c₀ ≡ replicate 64 0) (d : List ℕ)
-      (ed : d ≡ tally c (concat_map children_of (read_form b).nodes)) (i : ℕ) (ei : i ≡ fault_or n (first_fault (once_in d n) 0 (numbers n 0))) where
+      (ed : d ≡ tally c (concat_map children_of (read_form b).nodes)) where
     count : length (read_form b).nodes ≡ n
     count = nodes_length b ∙ sym en
 
@@ -46,17 +46,17 @@ module _ (b : List ℕ) (ts : List Tree) (long : length ts ≡ node_count b) (n 
     some_trees : (us : List Tree) × (trees_at ts (read_form b).fields ≡ some us)
     some_trees = trees_some ts n trees (read_form b).fields (sym s.nodes ∙ not-false g z)
 
-    pub uses_fault : i < n → r ≡ said 4 (i + 1) → r ≡ check_code (check_use (read_form b) ts)
+    pub uses_fault : (i : ℕ) → first_fault (once_in d n) 0 (numbers n 0) ≡ some i → r ≡ said 4 (i + 1) → r ≡ check_code (check_use (read_form b) ts)
     unfolding check_use
-    uses_fault l e =
+    uses_fault i w e =
         let (us, h) = some_trees in
-        e ∙ rw (h, count, some_fault (read_form b) n (omega arith) d used i ei l, check_use, add-one i)
+        e ∙ rw (h, count, sym (uses_same (read_form b) n (omega arith) d used) ∙ w, check_use, add-one i)
 
-    pub uses_good : n ≤ i → r ≡ said 0 0 → r ≡ check_code (check_use (read_form b) ts)
+    pub uses_good : first_fault (once_in d n) 0 (numbers n 0) ≡ none → r ≡ said 0 0 → r ≡ check_code (check_use (read_form b) ts)
     unfolding check_use
-    uses_good l e =
+    uses_good w e =
         let (us, h) = some_trees in
-        e ∙ rw (h, count, no_fault_used (read_form b) n (omega arith) d used i ei l, check_use)
+        e ∙ rw (h, count, sym (uses_same (read_form b) n (omega arith) d used) ∙ w, check_use)
 
 -- ---- name records
 map_same : {A B : Type 0} (g h : A → B) → ((a : A) → g a ≡ h a) → (l : List A) → map g l ≡ map h l

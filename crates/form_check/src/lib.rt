@@ -5,6 +5,7 @@ ghost use Rattle.std.specs.Prelude.{◌≡◌, true, not, List, [], ◌≤◌, �
 ghost use Rattle.rules.specs.Base.{numbers, concat_map, first_fault};
 ghost use Rattle.rules.specs.Codes.{check_code};
 ghost use Rattle.rules.specs.Form.{node_count, read_form};
+ghost use Rattle.rules.specs.Reported.{reported};
 ghost use Rattle.rules.specs.Tree.{Tree};
 ghost use Rattle.rules.specs.Accept.{length_good, trees_from, children_of, check_use, check_form};
 ghost use Rattle.form_names.specs.Names.{fault_or};
@@ -13,25 +14,8 @@ ghost use Rattle.form_kinds.specs.Known.{codes};
 ghost use Rattle.form_check.specs.Uses.{greatest, added, tally, FieldsCounted, records_fault};
 
 use form_kinds::AT_FAULT;
-
-// What a form is refused for: its length or counts, a name record, a node, a node that is not used once.
-const BAD_COUNTS: u32 = 1;
-
-const BAD_NAME: u32 = 2;
-
-const BAD_NODE: u32 = 3;
-
-const BAD_USE: u32 = 4;
-
-fn refused(number: u32, place: usize) -> rules::Refused
-    requires { place ≤ 128 }
-    ensures { result ≡ record { number = number; place = place } }
-{
-    rules::Refused {
-        number: number,
-        place: place as u32,
-    }
-}
+use form_layout::Kind;
+use rules::{Refusal, RefusedAt};
 
 // Puts the codes of all nodes into an empty table. The highest is asked for first, and works out those beneath it; every node is
 // asked for, used or not, unless its code is known by then.
@@ -39,9 +23,7 @@ fn fill_all(b: &[u8], table: &mut [u8; 64])
     requires { (length_good b.now ≡ true) × (table.old ≡ replicate 64 0) }
     ensures { table.new ≡ codes (read_form b.now) 64 }
 {
-    let mut k = form_layout::node_count(b);
-    while 0 < k {
-        k -= 1;
+    for k in (0..form_layout::node_count(b)).rev() {
         if table[k] == 0 {
             form_kinds::fill(b, k, table);
         }
@@ -54,47 +36,27 @@ fn greatest(codes: &[u8; 64]) -> u8
     ensures { result ≡ greatest codes.now }
 {
     let mut most: u8 = 0;
-    let mut k = 0;
-    while k < 64 {
-        if most < codes[k] {
-            most = codes[k];
-        }
-        k += 1;
+    for c in codes {
+        most = most.max(*c);
     }
     most
 }
 
-// The lowest of n nodes that is at fault by its code, or n.
-fn codes_fault(codes: &[u8; 64], n: usize) -> usize
-    requires { n ≤ 64 }
-    ensures { result ≡ fault_or n (first_fault (λ k. not (eqb (get_or codes.now k 0) 32)) 0 (numbers n 0)) }
-{
-    let mut k = 0;
-    while k < n {
-        if codes[k] == AT_FAULT {
-            return k;
-        }
-        k += 1;
-    }
-    n
-}
-
 // The lowest node at fault.
-fn check_nodes(b: &[u8]) -> rules::Refused
+fn check_nodes(b: &[u8]) -> Result<(), RefusedAt>
     requires { length_good b.now ≡ true }
-    ensures { result ≡ check_code (trees_from (read_form b.now) [] (read_form b.now).nodes) }
+    ensures { reported result ≡ check_code (trees_from (read_form b.now) [] (read_form b.now).nodes) }
 {
     let n = form_layout::node_count(b);
-    let mut codes = form_kinds::empty();
+    let mut codes = [0u8; 64];
     fill_all(b, &mut codes);
     if greatest(&codes) < AT_FAULT {
-        return refused(0, 0); // none is at fault
+        return Ok(()); // none is at fault
     }
-    let fault = codes_fault(&codes, n);
-    if fault < n {
-        return refused(BAD_NODE, fault + 1);
+    match codes[..n].iter().position(|c| *c == AT_FAULT) {
+        Some(fault) => Err(RefusedAt::at(Refusal::BadNode, fault)),
+        None => Ok(()),
     }
-    refused(0, 0)
 }
 
 // One more use of node k: 0, 1, or 2 for more.
@@ -113,31 +75,27 @@ fn count_fields(b: &[u8], n: usize, counts: &mut [u8; 64]) -> bool
     ensures { FieldsCounted n (read_form b.now).fields counts.old counts.new result }
 {
     let f = form_layout::field_count(b);
-    let mut i = 0;
-    while i < f {
+    for i in 0..f {
         let k = form_layout::field_at(b, i);
         if n <= k {
             return false;
         }
         add(counts, k);
-        i += 1;
     }
     true
 }
 
+#[tactic(auto, using(crate::proofs::Counting::added_outside, std::proofs::lemmas::Bool::Decides::nat_tests), unfolding(rules::specs::Accept::children_of, crate::specs::Uses::tally))]
 fn add_children(x: form_layout::Node, counts: &mut [u8; 64])
     ensures { counts.new ≡ tally counts.old (children_of (node_of x)) }
 {
-    if x.kind <= 3 {
+    if x.kind.is_leaf() {
         return;
     }
     if x.p < 64 {
         add(counts, x.p);
     }
-    if x.kind != 9 {
-        return;
-    }
-    if x.q < 64 {
+    if x.kind == Kind::Choice && x.q < 64 {
         add(counts, x.q);
     }
 }
@@ -147,51 +105,26 @@ fn count_children(b: &[u8], counts: &mut [u8; 64])
     ensures { counts.new ≡ tally counts.old (concat_map children_of (read_form b.now).nodes) }
 {
     let n = form_layout::node_count(b);
-    let mut k = 0;
-    while k < n {
-        let x = form_layout::node_at(b, k);
-        add_children(x, counts);
-        k += 1;
+    for k in 0..n {
+        add_children(form_layout::node_at(b, k), counts);
     }
-}
-
-fn none() -> [u8; 64]
-    ensures { result ≡ replicate 64 0 }
-{
-    [0u8; 64]
-}
-
-// The lowest of n nodes that is not used once, or n.
-fn uses_fault(counts: &[u8; 64], n: usize) -> usize
-    requires { n ≤ 64 }
-    ensures { result ≡ fault_or n (first_fault (λ k. eqb (get_or counts.now k 0) 1) 0 (numbers n 0)) }
-{
-    let mut k = 0;
-    while k < n {
-        if counts[k] != 1 {
-            return k;
-        }
-        k += 1;
-    }
-    n
 }
 
 // Of the trees, only their number counts here.
-fn check_uses(b: &[u8]) -> rules::Refused
+fn check_uses(b: &[u8]) -> Result<(), RefusedAt>
     requires { length_good b.now ≡ true }
-    ensures { (ts : List Tree) → length ts ≡ node_count b.now → result ≡ check_code (check_use (read_form b.now) ts) }
+    ensures { (ts : List Tree) → length ts ≡ node_count b.now → reported result ≡ check_code (check_use (read_form b.now) ts) }
 {
     let n = form_layout::node_count(b);
-    let mut counts = none();
+    let mut counts = [0u8; 64];
     if !count_fields(b, n, &mut counts) {
-        return refused(BAD_USE, 0);
+        return Err(RefusedAt::from(Refusal::BadUse));
     }
     count_children(b, &mut counts);
-    let fault = uses_fault(&counts, n);
-    if fault < n {
-        return refused(BAD_USE, fault + 1);
+    match counts[..n].iter().position(|c| *c != 1) {
+        Some(fault) => Err(RefusedAt::at(Refusal::BadUse, fault)),
+        None => Ok(()),
     }
-    refused(0, 0)
 }
 
 // The lowest name record at fault, or their count.
@@ -205,19 +138,16 @@ fn records_fault(b: &[u8]) -> usize
 }
 
 // The form check: whether the form is accepted, or its first fault.
-pub fn check(b: &[u8]) -> rules::Refused
-    ensures { result ≡ check_code (check_form b.now) }
+pub fn check(b: &[u8]) -> Result<(), RefusedAt>
+    ensures { reported result ≡ check_code (check_form b.now) }
 {
     if !form_layout::length_good(b) {
-        return refused(BAD_COUNTS, 0);
+        return Err(RefusedAt::from(Refusal::BadCounts));
     }
     let fault = records_fault(b);
     if fault < form_layout::name_count(b) {
-        return refused(BAD_NAME, fault + 1);
+        return Err(RefusedAt::at(Refusal::BadName, fault));
     }
-    let nodes = check_nodes(b);
-    if nodes.number != 0 {
-        return nodes;
-    }
+    check_nodes(b)?;
     check_uses(b)
 }

@@ -13,7 +13,7 @@ use lib.Seq.{sets, length-sets, sets-eq, take_at, get_or-take}
 use borrow.Author.Tests.{eq-eqb, ne_eqb}
 use Rattle.std.specs.Prelude.{if◌then◌else◌}
 use Rattle.wire.proofs.Stores.{Stored, stored_first, stored_next, stored_last}
-use Rattle.rules.specs.Base.{contains, same, concat_map}
+use Rattle.rules.specs.Base.{contains, concat_map}
 use Rattle.rules.specs.Codes.{place_code}
 use Rattle.rules.specs.Form.{Node, Name, name_count, read_form, name_bytes, one_character}
 use Rattle.rules.specs.Tree.{Named, short_of, names_of, named_of, named_by}

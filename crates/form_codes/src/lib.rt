@@ -26,13 +26,12 @@ pub fn codes(form: &[u8], out: &mut [u32])
     ensures { WroteCodes form.now out.old out.new }
 {
     let count = form_layout::name_count(form);
-    let mut k = 0;
-    while k < count {
+    for k in 0..count {
         out[k] = code(form, k);
-        k += 1;
     }
 }
 
+// A literal with a contract: the proofs of other crates cite it.
 pub fn no_codes() -> [u32; 128]
     ensures { result ≡ replicate 128 0 }
 {
@@ -44,7 +43,7 @@ pub fn codes_of(form: &[u8]) -> [u32; 128]
     requires { GoodNames form.now }
     ensures { CodedNames form.now result }
 {
-    let mut words = no_codes();
+    let mut words = [0u32; 128];
     codes(form, &mut words);
     words
 }

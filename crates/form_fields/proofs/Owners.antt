@@ -1,14 +1,13 @@
 -- Which node has a node as a child, and which field has it in its tree.
 use mathlib.Core.Path.{◌≡◌, refl, sym, ◌∙◌, ap}
-use mathlib.Core.Bool.{Bool, true, false}
+use mathlib.Core.Bool.{Bool}
 use mathlib.Core.List.{List, ◌∷◌}
 use mathlib.Core.Option.{some, some-injective}
 use Prim.Native.Nat.{ℕ, suc, ◌+◌, ◌≤◌, ◌<◌}
 use native.Mathlib.Numerals.{add-one}
 use native.Mathlib.Omega.{arith}
-use lib.Dec.{eqb}
 use lib.ListN.{get_elem?, drop, drop_of_length-le}
-use borrow.Author.Tests.{eq-eqb, ne_eqb, le-leb, lt-leb}
+use borrow.Author.Tests.{eq-eqb, ne_eqb}
 use Rattle.std.specs.Prelude.{if◌then◌else◌}
 use Rattle.rules.specs.Base.{contains}
 use Rattle.rules.specs.Form.{Node, node_count, field_count, read_form}
@@ -23,47 +22,8 @@ abbrev pub HasChild : List Node → ℕ → ℕ → Bool → Type 0
 HasChild nodes m n r = (x : Node) → get_elem? nodes m ≡ some x → r ≡ contains (children_of x) n
 
 module _ (nodes : List Node) (m n : ℕ) (y : Node) (here : get_elem? nodes m ≡ some y) where
-  told : (r : Bool) → r ≡ contains (children_of y) n → HasChild nodes m n r
+  pub told : (r : Bool) → r ≡ contains (children_of y) n → HasChild nodes m n r
   told r e x h = e ∙ ap (λ (z : Node). contains (children_of z) n) (some-injective y x (sym here ∙ h))
-
-  pub no_child : y.kind ≤ 3 → HasChild nodes m n false
-  unfolding children_of contains
-  no_child l = told false (rw (le-leb y.kind 3 l))
-
-  module _ (inner : 3 < y.kind) where
-    pub first_child : y.p ≡ n → HasChild nodes m n true
-    unfolding children_of contains
-    first_child e = told true (go (eqb y.kind 9) refl)
-      where
-        go : (b : Bool) → eqb y.kind 9 ≡ b → true ≡ contains (children_of y) n
-        go true k = rw (lt-leb y.kind 3 inner, k, eq-eqb y.p n e)
-        go false k = rw (lt-leb y.kind 3 inner, k, eq-eqb y.p n e)
-
-    module _ (other : y.p ≡ n → ⊥) where
-      pub only_child : (y.kind ≡ 9 → ⊥) → HasChild nodes m n false
-      unfolding children_of contains
-      only_child k = told false (rw (lt-leb y.kind 3 inner, ne_eqb y.kind 9 k, ne_eqb y.p n other))
-
-      module _ (k : y.kind ≡ 9) where
-        pub second_child : y.q ≡ n → HasChild nodes m n true
-        unfolding children_of contains
-        second_child e = told true (rw (lt-leb y.kind 3 inner, eq-eqb y.kind 9 k, ne_eqb y.p n other, eq-eqb y.q n e))
-
-        pub neither_child : (y.q ≡ n → ⊥) → HasChild nodes m n false
-        unfolding children_of contains
-        neither_child e = told false (rw (lt-leb y.kind 3 inner, eq-eqb y.kind 9 k, ne_eqb y.p n other, ne_eqb y.q n e))
-
--- ---- one step up
-
-abbrev pub ClimbsTo : List Node → ℕ → ℕ → ℕ → Type 0
-ClimbsTo nodes m n r = (x : Node) → get_elem? nodes m ≡ some x → r ≡ (if contains (children_of x) n then m else n)
-
-module _ (nodes : List Node) (m n : ℕ) (b : Bool) (h : HasChild nodes m n b) where
-  pub climbs_up : b ≡ true → ClimbsTo nodes m n m
-  climbs_up e x here = rw (← h x here, e)
-
-  pub climbs_not : b ≡ false → ClimbsTo nodes m n n
-  climbs_not e x here = rw (← h x here, e)
 
 -- ---- up to the top
 
@@ -81,11 +41,11 @@ unfolding top_from
 top_step m at x xs r e = ap (λ (k : ℕ). top_from (suc m) k xs) (sym e)
 
 module _ (b : List ℕ) (n m at : ℕ) (t : TopFrom b n m at) (count : ℕ) (e : count ≡ node_count b) where
-  pub top_next : m < count → (r : ℕ) → ClimbsTo (read_form b).nodes m at r → TopFrom b n (m + 1) r
-  top_next h r c =
+  pub top_next : m < count → (g : Bool) → HasChild (read_form b).nodes m at g → (r : ℕ) → r ≡ (if g then m else at) → TopFrom b n (m + 1) r
+  top_next h g c r er =
       let nodes : List Node = (read_form b).nodes in
       let (x, here) = lookup_some nodes m (omega (arith, nodes_length b)) in
-      let goes = top_step m at x (drop (suc m) nodes) r (c x here) in
+      let goes = top_step m at x (drop (suc m) nodes) r (er ∙ ap (λ (t : Bool). if t then m else at) (c x here)) in
       record { same = t.same ∙ ap (top_from m at) (drop_below nodes m x here) ∙ goes ∙ rw (add-one m) refl }
 
   pub top_last : count ≤ m → at ≡ top_of (read_form b) n
@@ -117,7 +77,8 @@ module _ (b : List ℕ) (n top k : ℕ) (t : FieldFrom b top k) (et : top ≡ to
       same = t.same ∙ rw (drop_below (read_form b).fields k x here, ne_eqb top x (λ z. other (sym z)), add-one k) (omega arith);
     }
 
-  pub field_last : count ≤ k → k ≡ field_of (read_form b) n
+  pub field_last : count ≤ k → count ≡ field_of (read_form b) n
   unfolding field_of index_of
   field_last h =
-      sym (rw (← et) (t.same ∙ rw (drop_of_length-le (read_form b).fields {i = k} (omega (arith, fields_length b))) (omega arith)))
+      let all : count ≡ k = omega (arith, t.within) in
+      all ∙ sym (rw (← et) (t.same ∙ rw (drop_of_length-le (read_form b).fields {i = k} (omega (arith, fields_length b))) (omega arith)))

@@ -4,57 +4,32 @@
 ghost use Rattle.std.specs.Prelude.{◌≡◌, true, ◌≤◌, ◌<◌};
 ghost use Rattle.std.proofs.Math.Option.{some};
 ghost use Rattle.std.proofs.Math.ListN.{get_elem?};
-ghost use Rattle.std.specs.Prelude.{if◌then◌else◌};
 ghost use Rattle.rules.specs.Base.{contains};
 ghost use Rattle.rules.specs.Codes.{kind_code};
 ghost use Rattle.rules.specs.Form.{Node, Name, node_count, field_count, read_form, portable_name, portable};
 ghost use Rattle.rules.specs.Tree.{Tree, kind_of};
 ghost use Rattle.rules.specs.Value.{Kind};
 ghost use Rattle.rules.specs.Accept.{Accepted, accepted, length_good, children_of, top_of, field_of, check_form};
-ghost use Rattle.form_layout.specs.Layout.{HasName};
-ghost use Rattle.form_layout.specs.Layout.{GoodNames};
+ghost use Rattle.form_layout.specs.Layout.{GoodNames, HasName};
 
 // The kind of node k, by number.
 pub fn kind(b: &[u8], k: usize) -> u32
     requires { (length_good b.now ≡ true) × (k < node_count b.now) }
     ensures { (a : Accepted) (t : Tree) (κ : Kind) → check_form b.now ≡ accepted a → get_elem? a.trees k ≡ some t → kind_of t ≡ some κ → result ≡ kind_code κ }
 {
-    let mut codes = form_kinds::empty();
+    let mut codes = [0u8; 64];
     form_kinds::fill(b, k, &mut codes);
-    let c = codes[k];
-    (c % 16) as u32
+    u32::from(codes[k] % 16)
 }
 
 // Whether node `m` has node `n` as a child.
+#[tactic(auto, using(crate::proofs::Owners::told, std::proofs::lemmas::Bool::Decides::nat_tests), unfolding(rules::specs::Accept::children_of, rules::specs::Base::contains))]
 fn is_child(b: &[u8], m: usize, n: usize) -> bool
     requires { (length_good b.now ≡ true) × (m < node_count b.now) }
     ensures { (x : Node) → get_elem? (read_form b.now).nodes m ≡ some x → result ≡ contains (children_of x) n }
 {
     let x = form_layout::node_at(b, m);
-    if x.kind <= 3 {
-        return false;
-    }
-    if x.p == n {
-        return true;
-    }
-    if x.kind != 9 {
-        return false;
-    }
-    if x.q == n {
-        return true;
-    }
-    false
-}
-
-// The node that has node `n` as a child, if it is `m`; else `n` itself.
-fn climbed(b: &[u8], m: usize, n: usize) -> usize
-    requires { (length_good b.now ≡ true) × (m < node_count b.now) }
-    ensures { (x : Node) → get_elem? (read_form b.now).nodes m ≡ some x → result ≡ (if contains (children_of x) n then m else n) }
-{
-    if is_child(b, m, n) {
-        return m;
-    }
-    n
+    !x.kind.is_leaf() && (x.p == n || (x.kind == form_layout::Kind::Choice && x.q == n))
 }
 
 // From node `n` up to the one that no other has as a child. Children have lower numbers, so one pass is enough.
@@ -64,10 +39,10 @@ fn top_of(b: &[u8], n: usize) -> usize
 {
     let count = form_layout::node_count(b);
     let mut at = n;
-    let mut m = 0;
-    while m < count {
-        at = climbed(b, m, at);
-        m += 1;
+    for m in 0..count {
+        if is_child(b, m, at) {
+            at = m;
+        }
     }
     at
 }
@@ -79,14 +54,12 @@ pub fn field_of(b: &[u8], n: usize) -> usize
 {
     let top = top_of(b, n);
     let count = form_layout::field_count(b);
-    let mut k = 0;
-    while k < count {
+    for k in 0..count {
         if form_layout::field_at(b, k) == top {
             return k;
         }
-        k += 1;
     }
-    k
+    count
 }
 
 // Whether name k passes for the portable mark.
@@ -105,12 +78,10 @@ pub fn is_portable(b: &[u8]) -> bool
     ensures { result ≡ portable (read_form b.now) }
 {
     let m = form_layout::name_count(b);
-    let mut k = 0;
-    while k < m {
+    for k in 0..m {
         if !portable_at(b, k) {
             return false;
         }
-        k += 1;
     }
     true
 }

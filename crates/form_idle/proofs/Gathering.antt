@@ -4,11 +4,10 @@ use mathlib.Core.List.{List, [], ◌∷◌}
 use mathlib.Core.Logic.{⊎_elim, ◌≢◌}
 use mathlib.Core.Option.{some, some-injective, none-ne-some}
 use mathlib.Core.Path.{◌≡◌, refl, sym, ◌∙◌, ap, subst}
-use Prim.Native.Nat.{ℕ, zero, suc, ◌+◌, ◌^◌, ◌≤◌, ◌<◌}
+use Prim.Native.Nat.{ℕ, zero, suc, ◌+◌, ◌*◌, ◌%◌, ◌^◌, ◌≤◌, ◌<◌}
 use native.Mathlib.Nat.{zero-lt-suc, zero-add, add-zero, pow-suc}
 use native.Mathlib.Numerals.{add-one}
 use native.Mathlib.Omega.{arith}
-use lib.Dec.{eqb}
 use lib.ListN.{length, get_elem?, drop, set, replicate, length-set, length-replicate, drop_of_length-le}
 use lib.Pow.{pow_mono}
 use lib.Seq.{get_or-set_same, get_or-set_other}
@@ -25,6 +24,7 @@ use Rattle.form_layout.specs.Layout.{node_of}
 use Rattle.form_layout.proofs.Sizes.{sized, nodes_length}
 use Rattle.form_kinds.proofs.Steps.{drop_there}
 use Rattle.form_kinds.proofs.Table.{same_or}
+use Rattle.form_idle.proofs.Nodes.{bit_is}
 use Rattle.form_idle.specs.Idles.{is_by_child, idle_by, repeat_by, said_in}
 
 -- ---- a node's tree, from what is said of its children
@@ -74,7 +74,7 @@ accepted_tree b a e k x h =
     subst (λ (i : ℕ). TreeAt f a.trees i x) (zero-add k) (tree_at_lem f a.trees 0 f.nodes all k x h)
 
 -- ---- after k nodes: what the table says of each, and the bits of those found
-pub record Gathered (b : List ℕ) (n k : ℕ) (table : List ℕ) (found : ℕ) : Type 0 where
+pub record Gathered (b : List ℕ) (n k : ℕ) (table : List Bool) (found : ℕ) : Type 0 where
   pub count : n ≡ node_count b
   pub few : n ≤ 64
   pub long : length table ≡ 64
@@ -82,12 +82,12 @@ pub record Gathered (b : List ℕ) (n k : ℕ) (table : List ℕ) (found : ℕ) 
   pub told : (a : Accepted) → check_form b ≡ accepted a → (j : ℕ) (t : Tree) → j < k → get_elem? a.trees j ≡ some t → said_in table j ≡ may_idle t
   pub sum : (a : Accepted) → check_form b ≡ accepted a → found + bit_set (idle_from k (drop k a.trees)) ≡ bit_set (idle_repeats a)
 
-pub gathered_first : (b : List ℕ) → length_good b ≡ true → (n : ℕ) → n ≡ node_count b → (table : List ℕ) → table ≡ replicate 64 0 → Gathered b n 0 table 0
+pub gathered_first : (b : List ℕ) → length_good b ≡ true → (n : ℕ) → n ≡ node_count b → (table : List Bool) → table ≡ replicate 64 false → Gathered b n 0 table 0
 unfolding idle_repeats
 gathered_first b g n c table e = record {
   count = c;
   few = omega (arith, c, sized b g);
-  long = ap length e ∙ length-replicate {A = ℕ} 64 0;
+  long = ap length e ∙ length-replicate {A = Bool} 64 false;
   small = zero-lt-suc 0;
   told = λ a h j t l. absurd (omega arith);
   sum = λ a h. zero-add _;
@@ -99,17 +99,11 @@ bit_small k true v e = omega (arith, e)
 bit_small k false v e = omega (arith, e)
 
 -- and the sum fits in 64 bits
-pub sum_fits :
-    (b : List ℕ) (n k : ℕ) (table : List ℕ) (found : ℕ)
-    → Gathered b n k table found
-    → k < n
-    → (g : Bool) (v : ℕ)
-    → v ≡ (if g then 2 ^ k else 0)
-    → found + v < 18446744073709551616
-sum_fits b n k table found h l g v e =
+pub sum_fits : (b : List ℕ) (n k : ℕ) (table : List Bool) (found : ℕ) → Gathered b n k table found → k < n → found + 1 * 2 ^ k % 2 ^ 64 < 18446744073709551616
+sum_fits b n k table found h l =
     let inside : suc k ≤ 64 = omega (arith, h.few, l) in
     let most : 2 ^ suc k ≤ 2 ^ 64 = pow_mono inside in
-    omega (arith, h.small, bit_small k g v e, most, pow-suc 2 k)
+    omega (arith, h.small, bit_is k (omega arith), most, pow-suc 2 k)
 
 sum_next :
     (k found : ℕ) (t : Tree) (ts : List Tree) (v : ℕ)
@@ -126,24 +120,19 @@ sum_next k found t ts v e = go (is_idle_repeat t) e
     go false e = omega (arith, e)
 
 module _
-    (b : List ℕ) (n k : ℕ) (table : List ℕ) (found : ℕ) (before : Gathered b n k table found) (inside : k < n)
+    (b : List ℕ) (n k : ℕ) (table : List Bool) (found : ℕ) (before : Gathered b n k table found) (inside : k < n)
     (x : declared.Node) (here : get_elem? (read_form b).nodes k ≡ some (node_of x))
     (first second : Bool) (ef : first ≡ said_in table x.p) (es : second ≡ said_in table x.q)
     (idle : Bool) (ei : idle ≡ idle_by (node_of x) first second)
-    (m : ℕ) (em : m ≡ (if idle then 1 else 0))
     (repeats : Bool) (er : repeats ≡ repeat_by (node_of x) first)
     (v : ℕ) (ev : v ≡ (if repeats then 2 ^ k else 0))
   where
     children : (a : Accepted) → check_form b ≡ accepted a → (i : ℕ) (c : Tree) → Child a.trees k i c → said_in table i ≡ may_idle c
     children a h i c l = before.told a h i c l.0 l.1
 
-    said_mark : (g : Bool) (n : ℕ) → n ≡ (if g then 1 else 0) → eqb n 1 ≡ g
-    said_mark true n e = rw e refl
-    said_mark false n e = rw e refl
-
     told_next :
         (a : Accepted) → check_form b ≡ accepted a → (j : ℕ) (t : Tree) → j < k + 1 → get_elem? a.trees j ≡ some t
-        → said_in (set table k m) j ≡ may_idle t
+        → said_in (set table k idle) j ≡ may_idle t
     unfolding said_in
     told_next a h j t l e =
         ⊎_elim
@@ -152,8 +141,8 @@ module _
         let same : at.tree ≡ t = some-injective at.tree t (sym at.stands ∙ ap (get_elem? a.trees) (sym z) ∙ e) in
         let is : idle ≡ may_idle at.tree =
         ei ∙ rw (ef, es) (made_idle (read_form b) a.trees k (node_of x) (said_in table) (children a h) at.tree at.made) in
-        rw (z, get_or-set_same table k m 0 (omega (arith, before.long, before.few, inside))) (said_mark idle m em ∙ is ∙ ap may_idle same))
-        (λ (z : j ≢ k). rw (get_or-set_other table k j m 0 z) (before.told a h j t (omega (arith, l, z)) e))
+        rw (z, get_or-set_same table k idle false (omega (arith, before.long, before.few, inside))) (is ∙ ap may_idle same))
+        (λ (z : j ≢ k). rw (get_or-set_other table k j idle false z) (before.told a h j t (omega (arith, l, z)) e))
         (same_or j k)
 
     sum_more : (a : Accepted) → check_form b ≡ accepted a → found + v + bit_set (idle_from (k + 1) (drop (k + 1) a.trees)) ≡ bit_set (idle_repeats a)
@@ -165,18 +154,18 @@ module _
         (sum_next k found at.tree (drop (suc k) a.trees) v (rw is at ev)
         ∙ rw (← drop_there a.trees k at.tree at.stands) (before.sum a h))
 
-    pub gathered_next : (table' : List ℕ) → table' ≡ set table k m → Gathered b n (k + 1) table' (found + v)
-    gathered_next table' e = rw e (record {
+    pub gathered_next : (found' : ℕ) → found' ≡ found + v → (table' : List Bool) → table' ≡ set table k idle → Gathered b n (k + 1) table' found'
+    gathered_next found' ef table' e = rw (ef, e) (record {
       count = before.count;
       few = before.few;
-      long = length-set table k m ∙ before.long;
+      long = length-set table k idle ∙ before.long;
       small = omega (arith, before.small, bit_small k repeats v ev, ap (λ (i : ℕ). 2 ^ i) (add-one k) ∙ pow-suc 2 k);
       told = told_next;
       sum = sum_more;
     })
 
 pub gathered_last :
-    (b : List ℕ) (n k : ℕ) (table : List ℕ) (found : ℕ)
+    (b : List ℕ) (n k : ℕ) (table : List Bool) (found : ℕ)
     → Gathered b n k table found
     → n ≤ k
     → (a : Accepted)

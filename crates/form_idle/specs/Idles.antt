@@ -1,5 +1,5 @@
 -- Whether a node may be idle, from what its children may, and the answer of the call as numbers.
-use Rattle.std.specs.Prelude.{Bool, true, ◌&&◌, ◌||◌, List, ℕ, leb, eqb, get_or}
+use Rattle.std.specs.Prelude.{Bool, true, false, ◌&&◌, ◌||◌, List, ℕ, leb, eqb, get_or}
 use Rattle.std.proofs.Math.Option.{Option, some, none}
 use Rattle.std.specs.Prelude.{if◌then◌else◌}
 use Rattle.rules.specs.Outcome.{Outcome, ok, refused, fault}
@@ -23,9 +23,9 @@ idle_by x first second =
 unfoldable pub repeat_by : Node → Bool → Bool
 repeat_by x first = leb 5 x.kind && (leb x.kind 8 && first)
 
--- 1 in a table for what may be idle
-unfoldable pub said_in : List ℕ → ℕ → Bool
-said_in table n = eqb (get_or table n 0) 1
+-- whether a table has node n as one that may be idle
+unfoldable pub said_in : List Bool → ℕ → Bool
+said_in table n = get_or table n false
 
 -- a set as bits; refused, it is 0 and the refusal stands beside it. A fault has no answer
 abbrev pub idle_answer : Outcome (List ℕ) → Option IdleAnswer

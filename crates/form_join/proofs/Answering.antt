@@ -14,7 +14,10 @@ use Rattle.rules.specs.Accept.{Checked, accepted, refused_at, Accepted, check_fo
 use Rattle.rules.specs.Codes.{place_code, check_code}
 use Rattle.rules.specs.Encode.{encode_form}
 use Rattle.rules.specs.Run.{padded}
+use Rattle.rules.specs.Reported.{number_of, place_told, told}
 use Rattle.rules.specs.declared.Refused.{Refused}
+use Rattle.rules.specs.declared.RefusedAt.{RefusedAt}
+use Rattle.rules.proofs.ReportedLaws.{numbered}
 use Rattle.rules.proofs.Acceptance.{and-true, accepted_form}
 use Rattle.rules.proofs.GivenLaws.{check_accepted, check_length}
 use Rattle.rules_join.specs.Join.{Moves, moves_behind, move_name, move_nodes, join_by, join_forms, joined, not_joined, in_limits, join_into, join}
@@ -25,7 +28,8 @@ use Rattle.form_join.specs.Moved.{FormPasses, moved_fields, moved_names, moved_n
 use Rattle.form_join.specs.Written.{WritesBoth, CanJoin, BothGood, counts_of, fitting, count_bytes, joined_fields, joined_nodes, joined_names, joined_area, joined_head, joined_tail}
 use Rattle.form_join.specs.Written.{joined_bytes}
 use Rattle.form_join.specs.Answers.{answered, ReportsJoin, Refuses, Fills, BothPass}
-use Rattle.form_join.proofs.MovedLaws.{area_length_lem, moved_accepted, moved_nodes_lem, moved_fields_lem, moved_names_lem}
+use Rattle.form_join.specs.Sizes.{moved_accepted, moved_nodes_lem, moved_fields_lem, moved_names_lem}
+use Rattle.form_join.proofs.MovedLaws.{area_length_lem}
 
 -- ---- the limits
 
@@ -191,41 +195,57 @@ joined_filled x y o o' o'' r can cleared w =
 
 -- ---- the form check of each
 
-pub passes : (b : List ℕ) (r : Refused) → r ≡ check_code (check_form b) → r.number ≡ 0 → FormPasses b
-passes b r e z = let (a, h) = check_accepted b r e z in record { form = a; accepts = h; good = check_length b r e z }
+pub passes : (b : List ℕ) → record { number = 0; place = 0 } ≡ check_code (check_form b) → FormPasses b
+passes b e = let (a, h) = check_accepted b _ e refl in record { form = a; accepts = h; good = check_length b _ e refl }
 
-module _ (x y : List ℕ) (n : ℕ) (q : Refused) (eq : q ≡ check_code (check_form x)) where
-  pub first_reported : (q.number ≡ 0 → ⊥) → (r : Joined) (o : List ℕ) → Refuses q.number q.place 1 n r o → ReportsJoin (join x y n) r o
+pub both_pass :
+    (x y : List ℕ)
+    → record { number = 0; place = 0 } ≡ check_code (check_form x)
+    → record { number = 0; place = 0 } ≡ check_code (check_form y)
+    → BothPass x y
+both_pass x y e f = record { first = passes x e; second = passes y f }
+
+module _ (x y : List ℕ) (n : ℕ) where
+  pub first_reported :
+      (e : RefusedAt)
+      → told e ≡ check_code (check_form x)
+      → (r : Joined) (o : List ℕ)
+      → Refuses (number_of e.refusal) (place_told e.place) 1 n r o
+      → ReportsJoin (join x y n) r o
   unfolding join not_joined
-  first_reported z r o f = go (check_form x) refl
+  first_reported e is r o f = go (check_form x) refl
     where
       go : (c : Checked Accepted) → check_form x ≡ c → ReportsJoin (join x y n) r o
-      go (accepted a) h = absurd (z (ap (λ (s : Refused). s.number) (eq ∙ ap check_code h)))
+      go (accepted a) h = absurd (numbered e.refusal (ap (λ (s : Refused). s.number) (is ∙ ap check_code h)))
       go (refused_at k i) h =
-          let same : q ≡ record { number = k; place = place_code i } = eq ∙ ap check_code h in
-          rw (h, join) (record { answer = f.answer ∙ rw same; output = f.output })
+          let same : told e ≡ record { number = k; place = place_code i } = is ∙ ap check_code h in
+          rw (h, join) (record { answer = f.answer ∙ ap (λ (s : Refused). answered s.number s.place 0 1) same; output = f.output })
 
-  module _ (z : q.number ≡ 0) (u : Refused) (eu : u ≡ check_code (check_form y)) where
-    pub second_reported : (u.number ≡ 0 → ⊥) → (r : Joined) (o : List ℕ) → Refuses u.number u.place 2 n r o → ReportsJoin (join x y n) r o
-    unfolding join not_joined
-    second_reported w r o f = go (check_form y) refl
-      where
-        first : FormPasses x
-        first = passes x q eq z
+  pub second_reported :
+      record { number = 0; place = 0 } ≡ check_code (check_form x)
+      → (e : RefusedAt)
+      → told e ≡ check_code (check_form y)
+      → (r : Joined) (o : List ℕ)
+      → Refuses (number_of e.refusal) (place_told e.place) 2 n r o
+      → ReportsJoin (join x y n) r o
+  unfolding join not_joined
+  second_reported z e is r o f = go (check_form y) refl
+    where
+      first : FormPasses x
+      first = passes x z
 
-        go : (c : Checked Accepted) → check_form y ≡ c → ReportsJoin (join x y n) r o
-        go (accepted b) h = absurd (w (ap (λ (s : Refused). s.number) (eu ∙ ap check_code h)))
-        go (refused_at k i) h =
-            let same : u ≡ record { number = k; place = place_code i } = eu ∙ ap check_code h in
-            rw (first.accepts, join, h, join) (record { answer = f.answer ∙ rw same; output = f.output })
-
-    pub both_pass : u.number ≡ 0 → BothPass x y
-    both_pass w = record { first = passes x q eq z; second = passes y u eu w }
+      go : (c : Checked Accepted) → check_form y ≡ c → ReportsJoin (join x y n) r o
+      go (accepted b) h = absurd (numbered e.refusal (ap (λ (s : Refused). s.number) (is ∙ ap check_code h)))
+      go (refused_at k i) h =
+          let same : told e ≡ record { number = k; place = place_code i } = is ∙ ap check_code h in
+          rw (first.accepts, join, h, join) (record { answer = f.answer ∙ ap (λ (s : Refused). answered s.number s.place 0 2) same; output = f.output })
 
 -- nothing is written
 pub refused_cleared :
-    (number place form : ℕ) (o o' : List ℕ)
+    (e : RefusedAt) (r : Refused)
+    → r ≡ told e
+    → (form : ℕ) (o o' : List ℕ)
     → o' ≡ take 0 o ++ replicate (length o - 0) 0
-    → Refuses number place form (length o) (answered number place 0 form) o'
+    → Refuses (number_of e.refusal) (place_told e.place) form (length o) (answered r.number r.place 0 form) o'
 unfolding padded
-refused_cleared number place form o o' cleared = record { answer = refl; output = cleared }
+refused_cleared e r same form o o' cleared = record { answer = ap (λ (s : Refused). answered s.number s.place 0 form) same; output = cleared }

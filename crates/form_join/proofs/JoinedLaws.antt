@@ -1,6 +1,6 @@
 -- Both forms: the first's part, and the second's moved behind it.
-use mathlib.Core.List.{List, ◌++◌}
-use mathlib.Core.Path.{◌≡◌, ap, ◌∙◌}
+use mathlib.Core.List.{List, ◌++◌, map, map-append}
+use mathlib.Core.Path.{◌≡◌, sym, ap, ◌∙◌}
 use Prim.Native.Nat.{ℕ, ◌+◌, ◌*◌, ◌≤◌, ◌<◌}
 use native.Mathlib.Nat.{mul-add, mul-le-mul_left}
 use native.Mathlib.Omega.{arith}
@@ -9,17 +9,18 @@ use lib.Seq.{sets, length-sets}
 use Rattle.rules.specs.Base.{concat_map}
 use Rattle.rules.specs.Form.{node_count, field_count, name_count, area_length, read_form}
 use Rattle.rules.specs.Encode.{bytes_of, words_of, encode_node, encode_name}
-use Rattle.rules.proofs.ConcatLaws.{concat_append}
-use Rattle.rules.proofs.Formats.{bytes_length, all_length}
+use Rattle.rules.proofs.ConcatLaws.{concat_append, concat_map_lem}
 use Rattle.rules_join.specs.Join.{Moves, moves_behind}
 use Rattle.form_layout.proofs.Sizes.{sized}
 use Rattle.form_join.specs.declared.Moves as declared
 use Rattle.form_join.specs.declared.Counts.{Counts}
-use Rattle.form_join.specs.Moved.{moves_of, SmallMoves, MovesPast, FormPasses, moved_fields, moved_names, moved_nodes}
-use Rattle.form_join.specs.Written.{WritesPart, CanWritePart, CanJoin, CanJoinAt, WritesBoth, BothGood, counts_of, CanPutCounts, count_bytes}
+use Rattle.form_join.specs.Moved.{moves_of, SmallMoves, MovesPast, FormPasses, nowhere, moved_fields, moved_names, moved_nodes}
+use Rattle.form_join.specs.Written.{WritesPart, CanWritePart, CanJoin, CanJoinAt, CanJoinPart, WritesBoth, BothGood, counts_of, CanPutCounts, count_bytes}
 use Rattle.form_join.specs.Written.{joined_fields, joined_nodes, joined_names, joined_area, joined_head, joined_tail, joined_bytes}
-use Rattle.form_join.proofs.MovedLaws.{good_eight, area_length_lem, moved_nodes_lem, moved_fields_lem, moved_names_lem, nowhere, nodes_same, fields_same, names_same}
-use Rattle.form_join.proofs.WrittenLaws.{writes_both, node_length, name_length_lem, counts_end}
+use Rattle.form_join.proofs.MovedLaws.{good_eight, area_length_lem, nodes_same, fields_same, names_same}
+use Rattle.form_join.specs.Sizes.{fields_sized, nodes_sized, names_sized}
+use Rattle.form_join.specs.Records.{joined_up, Sized, field_bytes, node_bytes, name_bytes}
+use Rattle.form_join.proofs.WrittenLaws.{writes_both, sized_length, counts_end}
 
 abbrev Stays : declared.Moves → Type 0
 Stays s = s ≡ record { nodes = 0; names = 0; area = 0 }
@@ -27,138 +28,102 @@ Stays s = s ≡ record { nodes = 0; names = 0; area = 0 }
 stay_small : (s : declared.Moves) → Stays s → SmallMoves s
 stay_small s e = rw e (record { nodes = omega arith; names = omega arith; area = omega arith })
 
--- ---- a part: elements of some bytes each
-module _ {A : Type 0} (enc : A → List ℕ) (size : ℕ) (each : (z : A) → length (enc z) ≡ size) where
-  module _ (part : Moves → List ℕ → List A) (count : List ℕ → ℕ) (many : (d : Moves) (b : List ℕ) → FormPasses b → length (part d b) ≡ count b) where
-    -- from `start` on at the latest, with `most` elements at most
-    module _ (start most : ℕ) (x y o : List ℕ) (at : ℕ) (can : CanJoinAt start x y (length o) at) (few : count x + count y ≤ most) where
-      sizes : size * count x + size * count y ≤ size * most
-      sizes = omega (arith, mul-le-mul_left size few, mul-add size (count x) (count y))
+-- ---- the records of one kind, of the first and then of the second
+module _
+    (size : ℕ) (many : List ℕ → ℕ) (moved : Moves → List ℕ → List (List ℕ))
+    (all : (d : Moves) (b : List ℕ) → FormPasses b → Sized size (many b) (moved d b))
+    (x y o : List ℕ) (at : ℕ) (can : CanJoinPart (length o) at (size * many x + size * many y) x y)
+  where
+    pub first_fit : (s : declared.Moves) → Stays s → CanWritePart (length o) at (size * many x) x s
+    first_fit s e = record { passes = can.both.first; moves = stay_small s e; room = omega (arith, can.room) }
 
-      module _ (end : start + size * most ≤ 5928) where
-        first_fit : (s : declared.Moves) → Stays s → CanWritePart (length o) at (size * count x) x s
-        first_fit s e = record {
-          passes = can.both.first;
-          moves = stay_small s e;
-          room = omega (arith, sizes, can.early, can.both.room);
-        }
+    module _ (o' : List ℕ) (m : ℕ) (s d : declared.Moves) (past : MovesPast x d) (v : WritesPart o at (joined_up (moved (moves_of s) x)) m o') where
+      pub second_fit : CanWritePart (length o') m (size * many y) y d
+      second_fit =
+          let first = joined_up (moved (moves_of s) x) in
+          let long : length first ≡ size * many x = sized_length size (many x) (moved (moves_of s) x) (all (moves_of s) x can.both.first) in
+          let same : length o' ≡ length o = ap length v.output ∙ length-sets o at first in
+          record { passes = can.both.second; moves = past.small; room = omega (arith, v.end, can.room) }
 
-        second_fit :
-            (o' : List ℕ) (m : ℕ) (s d : declared.Moves)
-            → MovesPast x d
-            → WritesPart o at (concat_map enc (part (moves_of s) x)) m o'
-            → CanWritePart (length o') m (size * count y) y d
-        second_fit o' m s d past w =
-            let first = part (moves_of s) x in
-            let long : length (concat_map enc first) ≡ size * count x = all_length enc size each first ∙ ap (λ (n : ℕ). size * n) (many (moves_of s) x can.both.first) in
-            let same : length o' ≡ length o = ap length w.output ∙ length-sets o at (concat_map enc first) in
-            record {
-              passes = can.both.second;
-              moves = past.small;
-              room = omega (arith, w.end, sizes, can.early, can.both.room);
-            }
-
-      both_written :
-          (whole : List A) (o' o'' : List ℕ) (m r : ℕ) (s d : declared.Moves)
-          → part nowhere x ≡ whole
+      pub both_written :
+          (o'' : List ℕ) (r : ℕ)
           → Stays s
-          → MovesPast x d
-          → WritesPart o at (concat_map enc (part (moves_of s) x)) m o'
-          → WritesPart o' m (concat_map enc (part (moves_of d) y)) r o''
-          → WritesBoth (start + size * most) o at (concat_map enc (whole ++ part (moves_behind (read_form x)) y)) r o''
-      both_written whole o' o'' m r s d same es past v w =
-          let first : part (moves_of s) x ≡ whole = rw es same in
-          let second = part (moves_behind (read_form x)) y in
-          let joined : concat_map enc (whole ++ second) ≡ concat_map enc (part (moves_of s) x) ++ concat_map enc (part (moves_of d) y) =
-          concat_append enc whole second ∙ rw (first, past.same) in
-          let all : WritesPart o at (concat_map enc (whole ++ second)) r o'' = rw joined (writes_both o o' o'' at m r _ _ v w) in
-          let counted : length (whole ++ second) ≡ count x + count y =
-          length-append whole second ∙ rw (← same, many nowhere x can.both.first, many (moves_behind (read_form x)) y can.both.second) in
-          let long : length (concat_map enc (whole ++ second)) ≡ size * count x + size * count y =
-          all_length enc size each (whole ++ second) ∙ ap (λ (n : ℕ). size * n) counted ∙ mul-add size (count x) (count y) in
-          record { writes = all; early = omega (arith, all.end, sizes, can.early) }
+          → WritesPart o' m (joined_up (moved (moves_of d) y)) r o''
+          → WritesPart o at (joined_up (moved nowhere x ++ moved (moves_behind (read_form x)) y)) r o''
+      both_written o'' r es w =
+          let first : moved (moves_of s) x ≡ moved nowhere x = rw es in
+          let joined = concat_append (λ (w : List ℕ). w) (moved nowhere x) (moved (moves_behind (read_form x)) y) in
+          rw (joined, ← first, ← past.same) (writes_both o o' o'' at m r _ _ v w)
+
+-- how much the records of both are, at most `most` of them
+part_size : (size n m most : ℕ) → n + m ≤ most → size * n + size * m ≤ size * most
+part_size size n m most few = omega (arith, mul-le-mul_left size few, mul-add size n m)
 
 -- ---- fields, nodes, names
+module _ {A : Type 0} (enc : A → List ℕ) (part : Moves → List ℕ → List A) where
+  -- by the codes of each
+  coded : (x y : List ℕ) (l : List A) → part nowhere x ≡ l
+      → joined_up (map enc (part nowhere x) ++ map enc (part (moves_behind (read_form x)) y)) ≡ concat_map enc (l ++ part (moves_behind (read_form x)) y)
+  coded x y l same =
+      ap joined_up (sym (map-append enc (part nowhere x) (part (moves_behind (read_form x)) y)))
+      ∙ concat_map_lem (λ (w : List ℕ). w) enc (part nowhere x ++ part (moves_behind (read_form x)) y)
+      ∙ rw same
+
+-- there is room for them
+module _ (x y : List ℕ) (n at : ℕ) where
+  pub fields_room : CanJoinAt 8 x y n at → CanJoinPart n at (2 * field_count x + 2 * field_count y) x y
+  fields_room can = record {
+    both = can.both;
+    room = omega (arith, part_size 2 (field_count x) (field_count y) 16 can.both.fields, can.early, can.both.room);
+  }
+
+  pub nodes_room : CanJoinAt 40 x y n at → CanJoinPart n at (16 * node_count x + 16 * node_count y) x y
+  nodes_room can = record {
+    both = can.both;
+    room = omega (arith, part_size 16 (node_count x) (node_count y) 64 can.both.nodes, can.early, can.both.room);
+  }
+
+  pub names_room : CanJoinAt 1064 x y n at → CanJoinPart n at (6 * name_count x + 6 * name_count y) x y
+  names_room can = record {
+    both = can.both;
+    room = omega (arith, part_size 6 (name_count x) (name_count y) 128 can.both.names, can.early, can.both.room);
+  }
+
+-- written one behind the other they end early enough
+module _ (x y o o' : List ℕ) (at r n : ℕ) (can : CanJoin x y n) where
+  abbrev both_of : (Moves → List ℕ → List (List ℕ)) → List (List ℕ)
+  both_of moved = moved nowhere x ++ moved (moves_behind (read_form x)) y
+
+  both_long : (size : ℕ) (many : List ℕ → ℕ) (moved : Moves → List ℕ → List (List ℕ))
+      → ((d : Moves) (b : List ℕ) → FormPasses b → Sized size (many b) (moved d b))
+      → length (joined_up (both_of moved)) ≡ size * many x + size * many y
+  both_long size many moved all =
+      ap length (concat_append (λ (w : List ℕ). w) (moved nowhere x) (moved (moves_behind (read_form x)) y))
+      ∙ length-append (joined_up (moved nowhere x)) (joined_up (moved (moves_behind (read_form x)) y))
+      ∙ rw (sized_length size (many x) (moved nowhere x) (all nowhere x can.first), sized_length size (many y) (moved (moves_behind (read_form x)) y) (all (moves_behind (read_form x)) y can.second))
+
+  pub fields_part : at ≤ 8 → WritesPart o at (joined_up (both_of field_bytes)) r o' → WritesBoth 40 o at (joined_fields x y) r o'
+  unfolding words_of joined_fields
+  fields_part early w = record {
+    writes = rw (coded (bytes_of 2) moved_fields x y (read_form x).fields (fields_same x)) at w;
+    early = omega (arith, w.end, both_long 2 field_count field_bytes fields_sized, part_size 2 (field_count x) (field_count y) 16 can.fields);
+  }
+
+  pub nodes_part : at ≤ 40 → WritesPart o at (joined_up (both_of node_bytes)) r o' → WritesBoth 1064 o at (joined_nodes x y) r o'
+  unfolding joined_nodes
+  nodes_part early w = record {
+    writes = rw (coded encode_node moved_nodes x y (read_form x).nodes (nodes_same x can.first)) at w;
+    early = omega (arith, w.end, both_long 16 node_count node_bytes nodes_sized, part_size 16 (node_count x) (node_count y) 64 can.nodes);
+  }
+
+  pub names_part : at ≤ 1064 → WritesPart o at (joined_up (both_of name_bytes)) r o' → WritesBoth 1832 o at (joined_names x y) r o'
+  unfolding joined_names
+  names_part early w = record {
+    writes = rw (coded encode_name moved_names x y (read_form x).names (names_same x)) at w;
+    early = omega (arith, w.end, both_long 6 name_count name_bytes names_sized, part_size 6 (name_count x) (name_count y) 128 can.names);
+  }
+
 module _ (x y o : List ℕ) (at : ℕ) where
-  module _ (can : CanJoinAt 8 x y (length o) at) where
-    abbrev few_fields : field_count x + field_count y ≤ 16
-    few_fields = can.both.fields
-
-    fields_many : (d : Moves) (b : List ℕ) → FormPasses b → length (moved_fields d b) ≡ field_count b
-    fields_many d b p = moved_fields_lem d b
-
-    pub fields_first_fit : (s : declared.Moves) → Stays s → CanWritePart (length o) at (2 * field_count x) x s
-    fields_first_fit = first_fit (bytes_of 2) 2 (bytes_length 2) moved_fields field_count fields_many 8 16 x y o at can few_fields (omega arith)
-
-    module _ (o' : List ℕ) (m : ℕ) (s d : declared.Moves) where
-      pub fields_second_fit : MovesPast x d → WritesPart o at (words_of 2 (moved_fields (moves_of s) x)) m o' → CanWritePart (length o') m (2 * field_count y) y d
-      unfolding words_of
-      fields_second_fit =
-          second_fit (bytes_of 2) 2 (bytes_length 2) moved_fields field_count fields_many 8 16 x y o at can few_fields (omega arith) o' m s d
-
-      pub both_fields :
-          (o'' : List ℕ) (r : ℕ)
-          → Stays s
-          → MovesPast x d
-          → WritesPart o at (words_of 2 (moved_fields (moves_of s) x)) m o'
-          → WritesPart o' m (words_of 2 (moved_fields (moves_of d) y)) r o''
-          → WritesBoth 40 o at (joined_fields x y) r o''
-      unfolding words_of joined_fields
-      both_fields o'' r =
-          both_written (bytes_of 2) 2 (bytes_length 2) moved_fields field_count fields_many 8 16 x y o at can few_fields
-          (read_form x).fields o' o'' m r s d (fields_same x)
-
-  module _ (can : CanJoinAt 40 x y (length o) at) where
-    abbrev few_nodes : node_count x + node_count y ≤ 64
-    few_nodes = can.both.nodes
-
-    pub nodes_first_fit : (s : declared.Moves) → Stays s → CanWritePart (length o) at (16 * node_count x) x s
-    nodes_first_fit = first_fit encode_node 16 node_length moved_nodes node_count moved_nodes_lem 40 64 x y o at can few_nodes (omega arith)
-
-    module _ (o' : List ℕ) (m : ℕ) (s d : declared.Moves) where
-      pub nodes_second_fit :
-          MovesPast x d → WritesPart o at (concat_map encode_node (moved_nodes (moves_of s) x)) m o' → CanWritePart (length o') m (16 * node_count y) y d
-      nodes_second_fit = second_fit encode_node 16 node_length moved_nodes node_count moved_nodes_lem 40 64 x y o at can few_nodes (omega arith) o' m s d
-
-      pub both_nodes :
-          (o'' : List ℕ) (r : ℕ)
-          → Stays s
-          → MovesPast x d
-          → WritesPart o at (concat_map encode_node (moved_nodes (moves_of s) x)) m o'
-          → WritesPart o' m (concat_map encode_node (moved_nodes (moves_of d) y)) r o''
-          → WritesBoth 1064 o at (joined_nodes x y) r o''
-      unfolding joined_nodes
-      both_nodes o'' r =
-          both_written encode_node 16 node_length moved_nodes node_count moved_nodes_lem 40 64 x y o at can few_nodes
-          (read_form x).nodes o' o'' m r s d (nodes_same x can.both.first)
-
-  module _ (can : CanJoinAt 1064 x y (length o) at) where
-    abbrev few_names : name_count x + name_count y ≤ 128
-    few_names = can.both.names
-
-    names_many : (d : Moves) (b : List ℕ) → FormPasses b → length (moved_names d b) ≡ name_count b
-    names_many d b p = moved_names_lem d b
-
-    pub names_first_fit : (s : declared.Moves) → Stays s → CanWritePart (length o) at (6 * name_count x) x s
-    names_first_fit = first_fit encode_name 6 name_length_lem moved_names name_count names_many 1064 128 x y o at can few_names (omega arith)
-
-    module _ (o' : List ℕ) (m : ℕ) (s d : declared.Moves) where
-      pub names_second_fit :
-          MovesPast x d → WritesPart o at (concat_map encode_name (moved_names (moves_of s) x)) m o' → CanWritePart (length o') m (6 * name_count y) y d
-      names_second_fit = second_fit encode_name 6 name_length_lem moved_names name_count names_many 1064 128 x y o at can few_names (omega arith) o' m s d
-
-      pub both_names :
-          (o'' : List ℕ) (r : ℕ)
-          → Stays s
-          → MovesPast x d
-          → WritesPart o at (concat_map encode_name (moved_names (moves_of s) x)) m o'
-          → WritesPart o' m (concat_map encode_name (moved_names (moves_of d) y)) r o''
-          → WritesBoth 1832 o at (joined_names x y) r o''
-      unfolding joined_names
-      both_names o'' r =
-          both_written encode_name 6 name_length_lem moved_names name_count names_many 1064 128 x y o at can few_names
-          (read_form x).names o' o'' m r s d (names_same x)
-
   -- ---- the areas
   module _ (n : ℕ) (can : CanJoinAt 1832 x y n at) where
     pub area_first_fits : at ≤ 5928

@@ -1,7 +1,7 @@
 -- Numbers that move up: what stands at a number, and that it stays small.
 use mathlib.Core.Bool.{Bool, true, false, ◌&&◌}
 use mathlib.Core.List.{List, [], ◌∷◌, map}
-use mathlib.Core.Logic.{⊎_elim}
+use mathlib.Core.Logic.{⊎_elim, ◌⊎◌, inl, inr}
 use mathlib.Core.Option.{Option, some, some-injective, none-ne-some}
 use mathlib.Core.Path.{◌≡◌, refl, ap, ◌∙◌}
 use Prim.Native.Nat.{ℕ, zero, suc, ◌+◌, ◌≤◌, ◌<◌}
@@ -9,10 +9,10 @@ use native.Mathlib.Nat.{zero-add}
 use native.Mathlib.Omega.{arith}
 use borrow.Author.Tests.{eq-eqb, ne_eqb, le-leb, lt-leb}
 use lib.Dec.{leb, eqb}
-use lib.ListN.{length, get_elem?, length-map, length-drop}
+use lib.ListN.{length, get_elem?, length-drop}
 use Rattle.std.specs.Prelude.{if◌then◌else◌}
 use Rattle.rules.specs.Value.{Base, yes_no, text, number, same_base, base_number, Kind, one, optional, list, list_of_optional, optional_list}
-use Rattle.rules.specs.Form.{Node, Name, Form, node_count, field_count, name_count, area_length, area_at, read_form}
+use Rattle.rules.specs.Form.{Node, Name, Form, node_count, name_count, area_length, area_at, read_form}
 use Rattle.rules.specs.Tree.{Tree, kind_of, shape_of, inner_base, same_kind}
 use Rattle.rules.specs.Accept.{Accepted, accepted, length_good, check_form}
 use Rattle.rules.specs.Codes.{base_code, kind_code}
@@ -25,11 +25,15 @@ use Rattle.rules_join.specs.Join.{Moves, moves_behind, move_name, is_text_kind, 
 use Rattle.form_names.specs.Names.{name_of}
 use Rattle.form_names.specs.declared.Name as names
 use Rattle.form_layout.specs.Layout.{node_of}
+use Rattle.form_layout.specs.declared.Kind.{Kind as LaidKind}
+use Rattle.form_layout.specs.declared.Kind.TheVariants.{Zero, Flag, Argument}
 use Rattle.form_layout.specs.declared.Node as nodes
-use Rattle.form_layout.proofs.Sizes.{sized, fields_length, nodes_length, names_length}
+use Rattle.form_layout.specs.Kinds.{kind_number}
+use Rattle.form_layout.proofs.Sizes.{sized, nodes_length, names_length}
 use Rattle.form_join.specs.declared.Moves as declared
 use Rattle.form_join.specs.Moved.{moves_of, SmallMoves, MovesPast, FormPasses, CanMoveNode, CanMoveName, CanMoveField, NodeWithin}
-use Rattle.form_join.specs.Moved.{moved_fields, moved_names, moved_nodes, IsText, NodeThere, NameThere}
+use Rattle.form_join.specs.Sizes.{moved_accepted}
+use Rattle.form_join.specs.Moved.{nowhere, moved_fields, moved_names, moved_nodes, IsText, NodeThere, NameThere}
 
 -- ---- an accepted form
 
@@ -71,8 +75,8 @@ text_code (optional_list text) = refl
 text_code (optional_list number) = refl
 
 module _ (b : List ℕ) (k kind : ℕ) where
-  pub other_kind : (kind ≡ 10 → ⊥) → IsText b k kind false
-  other_kind h a t e s = rw (ne_eqb kind 10 h)
+  pub other_kind : (kind ≡ 10 → ⊥) → (r : Bool) → r ≡ false → IsText b k kind r
+  other_kind h r z a t e s = rw (z, ne_eqb kind 10 h)
 
   pub fallback_kind :
       kind ≡ 10
@@ -86,25 +90,36 @@ module _ (b : List ℕ) (k kind : ℕ) where
 
 -- ---- numbers that are moved
 
-pub p_name : (x : nodes.Node) (d : declared.Moves) → x.kind ≤ 2 → d.names + x.p ≡ move_p (moves_of d) (node_of x)
-unfolding move_p
-p_name x d h = rw (le-leb x.kind 2 h)
+low : (k : LaidKind) → (k ≡ Zero) ⊎ ((k ≡ Flag) ⊎ (k ≡ Argument)) → kind_number k ≤ 2
+low k (inl e) = omega (arith, ap kind_number e)
+low k (inr (inl e)) = omega (arith, ap kind_number e)
+low k (inr (inr e)) = omega (arith, ap kind_number e)
 
-pub p_words : (x : nodes.Node) (d : declared.Moves) → 2 < x.kind → x.kind ≡ 3 → x.p ≡ move_p (moves_of d) (node_of x)
+pub p_name : (x : nodes.Node) (d : declared.Moves) → (x.kind ≡ Zero) ⊎ ((x.kind ≡ Flag) ⊎ (x.kind ≡ Argument)) → d.names + x.p ≡ move_p (moves_of d) (node_of x)
 unfolding move_p
-p_words x d h e = rw (lt-leb x.kind 2 h, eq-eqb x.kind 3 e)
+p_name x d h = rw (le-leb (node_of x).kind 2 (low x.kind h))
 
-pub p_child : (x : nodes.Node) (d : declared.Moves) → 2 < x.kind → (x.kind ≡ 3 → ⊥) → d.nodes + x.p ≡ move_p (moves_of d) (node_of x)
+pub p_words : (x : nodes.Node) (d : declared.Moves) → (node_of x).kind ≡ 3 → x.p ≡ move_p (moves_of d) (node_of x)
 unfolding move_p
-p_child x d h e = rw (lt-leb x.kind 2 h, ne_eqb x.kind 3 e)
+p_words x d e = rw (lt-leb (node_of x).kind 2 (omega arith), eq-eqb (node_of x).kind 3 e)
 
-pub q_child : (x : nodes.Node) (d : declared.Moves) → x.kind ≡ 9 → d.nodes + x.q ≡ move_q (moves_of d) (node_of x)
+pub p_child :
+    (x : nodes.Node) (d : declared.Moves)
+    → ((node_of x).kind ≡ 0 → ⊥)
+    → ((node_of x).kind ≡ 1 → ⊥)
+    → ((node_of x).kind ≡ 2 → ⊥)
+    → ((node_of x).kind ≡ 3 → ⊥)
+    → d.nodes + x.p ≡ move_p (moves_of d) (node_of x)
+unfolding move_p
+p_child x d z f a e = rw (lt-leb (node_of x).kind 2 (omega arith), ne_eqb (node_of x).kind 3 e)
+
+pub q_child : (x : nodes.Node) (d : declared.Moves) → (node_of x).kind ≡ 9 → d.nodes + x.q ≡ move_q (moves_of d) (node_of x)
 unfolding move_q
-q_child x d h = rw (eq-eqb x.kind 9 h)
+q_child x d h = rw (eq-eqb (node_of x).kind 9 h)
 
-pub q_other : (x : nodes.Node) (d : declared.Moves) → (x.kind ≡ 9 → ⊥) → x.q ≡ move_q (moves_of d) (node_of x)
+pub q_other : (x : nodes.Node) (d : declared.Moves) → ((node_of x).kind ≡ 9 → ⊥) → x.q ≡ move_q (moves_of d) (node_of x)
 unfolding move_q
-q_other x d h = rw (ne_eqb x.kind 9 h)
+q_other x d h = rw (ne_eqb (node_of x).kind 9 h)
 
 -- ---- how large they are
 
@@ -119,24 +134,26 @@ fallback_small f x number l m = omega (arith, m.0)
 
 module _ (f : Form) (kind : ℕ → Kind) (repeats : ℕ → Bool) (k : ℕ) (x : Node) (few : k < 64) (l : length f.names ≤ 128) where
   made_small : NodeMade f kind repeats k x → NodeWithin 128 x
-  made_small (flag_row i n r u e s) = record { p = omega (arith, n.inside); q = omega (arith, n.inside); r = omega arith }
+  made_small (flag_row i n r u e s) = record { kind = omega arith; p = omega (arith, n.inside); q = omega (arith, n.inside); r = omega arith }
   made_small (argument_row i n u r s) = record {
+    kind = omega arith;
     p = omega (arith, n.inside);
     q = omega (arith, n.inside);
     r = ⊎_elim (λ h. omega (arith, h.0)) (λ h. omega (arith, h.1)) r;
   }
   made_small (positional_row i p u r s) = record {
+    kind = omega arith;
     p = omega arith;
     q = omega (arith, u.0);
     r = ⊎_elim (λ h. omega (arith, h.0)) (λ h. omega (arith, h.0)) r;
   }
-  made_small (optional_row i p r u e s) = record { p = omega arith; q = omega (arith, u.0); r = omega arith }
-  made_small (list_row i p r u e s z) = record { p = omega arith; q = omega (arith, u.0); r = omega arith }
-  made_small (count_row i p u e s z) = record { p = omega arith; q = omega (arith, u.0); r = omega (arith, u.1.0) }
-  made_small (last_row i p u e s z) = record { p = omega arith; q = omega (arith, u.0); r = omega (arith, u.1.0) }
-  made_small (choice_row i p q u e s) = record { p = omega arith; q = omega arith; r = omega (arith, u.0) }
-  made_small (fallback_row β i p q m e g s) = record { p = omega arith; q = omega arith; r = fallback_small f x β l m }
-  made_small (guard_row i p u h e g s) = record { p = omega arith; q = omega (arith, u.0); r = omega (arith, u.1.0) }
+  made_small (optional_row i p r u e s) = record { kind = omega arith; p = omega arith; q = omega (arith, u.0); r = omega arith }
+  made_small (list_row i p r u e s z) = record { kind = omega arith; p = omega arith; q = omega (arith, u.0); r = omega arith }
+  made_small (count_row i p u e s z) = record { kind = omega arith; p = omega arith; q = omega (arith, u.0); r = omega (arith, u.1.0) }
+  made_small (last_row i p u e s z) = record { kind = omega arith; p = omega arith; q = omega (arith, u.0); r = omega (arith, u.1.0) }
+  made_small (choice_row i p q u e s) = record { kind = omega arith; p = omega arith; q = omega arith; r = omega (arith, u.0) }
+  made_small (fallback_row β i p q m e g s) = record { kind = omega arith; p = omega arith; q = omega arith; r = fallback_small f x β l m }
+  made_small (guard_row i p u h e g s) = record { kind = omega arith; p = omega arith; q = omega (arith, u.0); r = omega (arith, u.1.0) }
 
 -- ---- nodes
 
@@ -151,10 +168,6 @@ nodes_at_lem d (u ∷ ts) [] k t x p q = absurd (none-ne-some x q)
 nodes_at_lem d (u ∷ ts) (y ∷ xs) zero t x p q = rw (some-injective u t p, some-injective y x q)
 nodes_at_lem d (u ∷ ts) (y ∷ xs) (suc k) t x p q = nodes_at_lem d ts xs k t x p q
 
-pub moved_accepted : (d : Moves) (b : List ℕ) (a : Accepted) → check_form b ≡ accepted a → moved_nodes d b ≡ move_nodes d a.trees a.form.nodes
-unfolding moved_nodes
-moved_accepted d b a e = rw (e, moved_nodes)
-
 module _ (d : declared.Moves) (b : List ℕ) (k : ℕ) (has : CanMoveNode b k) (s : SmallMoves d) (x : nodes.Node) (ex : get_elem? (read_form b).nodes k ≡ some (node_of x)) where
   pub node_within : NodeWithin 128 (node_of x)
   node_within =
@@ -167,21 +180,21 @@ module _ (d : declared.Moves) (b : List ℕ) (k : ℕ) (has : CanMoveNode b k) (
   pub r_fits : d.names + x.r < 18446744073709551616
   r_fits = omega (arith, node_within.r, s.names)
 
-  module _ (p q : ℕ) (ep : p ≡ move_p (moves_of d) (node_of x)) (eq : q ≡ move_q (moves_of d) (node_of x)) (t : Bool) (et : IsText b k x.kind t) where
+  module _ (p q : ℕ) (ep : p ≡ move_p (moves_of d) (node_of x)) (eq : q ≡ move_q (moves_of d) (node_of x)) (t : Bool) (et : IsText b k (node_of x).kind t) where
     p_within : p ≤ 256
     unfolding move_p
     p_within =
         let small = node_within.p in
         let names : d.names + x.p ≤ 256 = omega (arith, s.names) in
         let nodes : d.nodes + x.p ≤ 256 = omega (arith, s.nodes) in
-        rw ep (picked (leb x.kind 2) _ _ 256 names (picked (eqb x.kind 3) _ _ 256 (omega arith) nodes))
+        rw ep (picked (leb (node_of x).kind 2) _ _ 256 names (picked (eqb (node_of x).kind 3) _ _ 256 (omega arith) nodes))
 
     q_within : q ≤ 256
     unfolding move_q
     q_within =
         let small = node_within.q in
         let nodes : d.nodes + x.q ≤ 256 = omega (arith, s.nodes) in
-        rw eq (picked (eqb x.kind 9) _ _ 256 nodes (omega arith))
+        rw eq (picked (eqb (node_of x).kind 9) _ _ 256 nodes (omega arith))
 
     moved_to :
         (r : ℕ)
@@ -198,7 +211,7 @@ module _ (d : declared.Moves) (b : List ℕ) (k : ℕ) (has : CanMoveNode b k) (
         let there : get_elem? a.form.nodes k ≡ some (node_of x) = rw form ex in
         record {
           same = rw (moved_accepted (moves_of d) b a e) (nodes_at_lem (moves_of d) a.trees a.form.nodes k u (node_of x) eu there ∙ rw (← ep, ← eq, er, et a u e eu));
-          within = record { p = p_within; q = q_within; r = h };
+          within = record { kind = omega (arith, node_within.kind); p = p_within; q = q_within; r = h };
         }
 
     pub text_there :
@@ -221,13 +234,13 @@ module _ (d : declared.Moves) (b : List ℕ) (k : ℕ) where
         let here = All-at (NameMade (read_form b).area) (read_form b).names k (name_of x) made.name_records ex in
         omega (arith, here.inside, area_length_lem b has.passes.good, made.counts.area)
 
-    pub offset_within : x.offset ≤ 4096
-    offset_within = omega (arith, name_inside)
+    pub offset_fits : d.area + x.offset < 18446744073709551616
+    offset_fits = omega (arith, name_inside, s.area)
 
-    pub name_there : (n : ℕ) → n ≡ d.area + x.offset → NameThere (moves_of d) b k (record { kind = x.kind; offset = n; size = x.size })
+    pub name_there : NameThere (moves_of d) b k (record { kind = x.kind; offset = d.area + x.offset; size = x.size })
     unfolding moved_names move_name
-    name_there n e = record {
-      same = lookup_map (move_name (moves_of d)) (read_form b).names k (name_of x) ex ∙ rw e;
+    name_there = record {
+      same = lookup_map (move_name (moves_of d)) (read_form b).names k (name_of x) ex;
       within = record { offset = omega (arith, name_inside, s.area); size = omega (arith, name_inside) };
     }
 
@@ -248,34 +261,7 @@ module _ (d : declared.Moves) (b : List ℕ) (k : ℕ) where
     unfolding moved_fields
     field_there = lookup_map (λ (n : ℕ). d.nodes + n) (read_form b).fields k x ex
 
--- ---- how many there are
-
-nodes_many : (d : Moves) (ts : List Tree) (xs : List Node) → length ts ≡ length xs → length (move_nodes d ts xs) ≡ length xs
-unfolding move_nodes
-nodes_many d [] [] e = refl
-nodes_many d [] (x ∷ xs) e = absurd (omega arith)
-nodes_many d (t ∷ ts) [] e = absurd (omega arith)
-nodes_many d (t ∷ ts) (x ∷ xs) e = ap suc (nodes_many d ts xs (omega arith))
-
-module _ (d : Moves) (b : List ℕ) where
-  pub moved_nodes_lem : FormPasses b → length (moved_nodes d b) ≡ node_count b
-  moved_nodes_lem p =
-      let a = p.form in
-      let e = p.accepts in
-      rw (moved_accepted d b a e) (nodes_many d a.trees a.form.nodes (accepted_trees b a e) ∙ rw (accepted_form b a e) (nodes_length b))
-
-  pub moved_fields_lem : length (moved_fields d b) ≡ field_count b
-  unfolding moved_fields
-  moved_fields_lem = length-map (read_form b).fields _ ∙ fields_length b
-
-  pub moved_names_lem : length (moved_names d b) ≡ name_count b
-  unfolding moved_names
-  moved_names_lem = length-map (read_form b).names _ ∙ names_length b
-
 -- ---- what moves by nothing stays
-
-abbrev pub nowhere : Moves
-nowhere = record { nodes = 0; names = 0; area = 0 }
 
 either : (c : Bool) (x y z : ℕ) → x ≡ z → y ≡ z → (if c then x else y) ≡ z
 either true x y z p q = p

@@ -4,3 +4,7 @@ pub mod Moved
 pub mod Written
 -- What is answered
 pub mod Answers
+-- Records of one kind, each by its bytes
+pub mod Records
+-- That they are
+pub mod Sizes

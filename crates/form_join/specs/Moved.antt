@@ -18,6 +18,10 @@ use Rattle.form_join.specs.declared.Moves as declared
 abbrev pub moves_of : declared.Moves → Moves
 moves_of d = record { nodes = d.nodes; names = d.names; area = d.area }
 
+-- what moves by nothing stays
+abbrev pub nowhere : Moves
+nowhere = record { nodes = 0; names = 0; area = 0 }
+
 -- no farther than behind a form
 pub record SmallMoves (d : declared.Moves) : Type 0 where
   pub nodes : d.nodes ≤ 64
@@ -49,6 +53,7 @@ pub record CanMoveField (b : List ℕ) (k : ℕ) : Type 0 where
 
 -- numbers that have room to move
 pub record NodeWithin (most : ℕ) (x : Node) : Type 0 where
+  pub kind : x.kind ≤ most
   pub p : x.p ≤ most
   pub q : x.q ≤ most
   pub r : x.r ≤ most

@@ -2,7 +2,7 @@
 use Rattle.std.specs.Prelude.{Bool, true, ◌&&◌, List, [], ◌∷◌, ◌++◌, ◌≡◌, ℕ, ◌+◌, ◌≤◌, leb, length}
 use Rattle.std.proofs.lemmas.List.Edits.{sets}
 use Rattle.rules.specs.Base.{concat_map}
-use Rattle.rules.specs.Form.{Node, Name, node_count, field_count, name_count, area_length, read_form}
+use Rattle.rules.specs.Form.{node_count, field_count, name_count, area_length, read_form}
 use Rattle.rules.specs.Accept.{length_good}
 use Rattle.rules.specs.Encode.{words_of, encode_node, encode_name}
 use Rattle.rules_join.specs.Join.{moves_behind}
@@ -47,6 +47,11 @@ pub record CanJoin (x y : List ℕ) (n : ℕ) : Type 0 where
 pub record CanJoinAt (most : ℕ) (x y : List ℕ) (n at : ℕ) : Type 0 where
   pub both : CanJoin x y n
   pub early : at ≤ most
+
+-- a part of some size, in such an output
+pub record CanJoinPart (n at size : ℕ) (x y : List ℕ) : Type 0 where
+  pub both : CanJoin x y n
+  pub room : at + size ≤ n
 
 -- both forms' part, which ends at `most` at the latest
 pub record WritesBoth (most : ℕ) (o : List ℕ) (at : ℕ) (bytes : List ℕ) (r : ℕ) (o' : List ℕ) : Type 0 where

@@ -1,20 +1,26 @@
 // Two forms made one: the first's fields, nodes, names and area, each with the second's behind it, whose numbers move up.
 #![tactic(auto)]
 
-ghost use Rattle.std.specs.Prelude.{◌≡◌, true, [], ◌∷◌, ◌+◌, ◌*◌, ◌≤◌, length};
+ghost use Rattle.std.specs.Prelude.{◌≡◌, true, List, [], ◌∷◌, ◌++◌, ℕ, ◌+◌, ◌*◌, ◌≤◌, ◌<◌, ◌^◌, length};
 ghost use Rattle.std.proofs.Math.Option.{some};
 ghost use Rattle.std.proofs.Math.ListN.{get_elem?};
 ghost use Rattle.std.proofs.lemmas.List.Edits.{sets};
-ghost use Rattle.rules.specs.Base.{concat_map};
 ghost use Rattle.rules.specs.Form.{field_count, node_count, name_count, read_form};
 ghost use Rattle.rules.specs.Accept.{length_good};
+ghost use Rattle.rules.specs.Reported.{number_of, place_told};
 ghost use Rattle.rules.specs.Encode.{words_of, encode_node, encode_name};
-ghost use Rattle.rules_join.specs.Join.{move_p, move_q, join};
+ghost use Rattle.rules_join.specs.Join.{Moves as Shift, moves_behind, move_p, move_q, join};
 ghost use Rattle.form_names.specs.Names.{name_of};
+ghost use Rattle.form_layout.specs.Kinds.{kind_number};
 ghost use Rattle.form_layout.specs.Layout.{node_of};
-ghost use Rattle.form_join.specs.Moved.{moves_of, SmallMoves, MovesPast, CanMoveNode, CanMoveName, CanMoveField, NodeWithin, moved_fields, moved_names, moved_nodes, IsText, NodeThere, NameThere};
-ghost use Rattle.form_join.specs.Written.{WritesPart, CanPutNode, CanPutName, CanWritePart, CanJoin, CanJoinAt, WritesBoth, BothGood, counts_of, fitting, CanPutCounts, count_bytes, joined_fields, joined_nodes, joined_names, joined_area, joined_head, joined_tail, joined_bytes};
+ghost use Rattle.form_join.specs.Moved.{moves_of, SmallMoves, MovesPast, CanMoveNode, CanMoveName, CanMoveField, NodeWithin, FormPasses, moved_fields, nowhere, IsText, NodeThere, NameThere};
+ghost use Rattle.form_join.specs.Written.{WritesPart, CanPutNode, CanPutName, CanWritePart, CanJoin, CanJoinAt, CanJoinPart, WritesBoth, BothGood, counts_of, fitting, CanPutCounts, count_bytes, joined_area, joined_head, joined_tail, joined_bytes};
+ghost use Rattle.form_join.specs.Records.{joined_up, Sized, CanPutMoved, PutsRecord, field_bytes, node_bytes, name_bytes};
+ghost use Rattle.form_join.specs.Sizes.{fields_sized, nodes_sized, names_sized};
 ghost use Rattle.form_join.specs.Answers.{ReportsJoin, Refuses, Fills, BothPass};
+
+use form_layout::Kind;
+use rules::{Refusal, Refused, RefusedAt};
 
 // The most nodes, fields, name records and bytes of their area that a form has, and the bytes of the longest form.
 const NODES: usize = 64;
@@ -29,9 +35,6 @@ const LONGEST: usize = 5928;
 
 // A value that is a text, by the number of its kind.
 const TEXT: u32 = 2;
-
-// Refused: a limit would be passed, or the output is too short.
-const TOO_LARGE: u32 = 18;
 
 // A place is itself plus 1, or 0 for none. `form` is the form at fault, 1 or 2, or 0. Refused, the length is 0.
 #[repr(C)]
@@ -60,26 +63,28 @@ struct Counts {
     area: usize,
 }
 
-// The first's numbers stay.
-fn stay() -> Moves
-    ensures { result ≡ record { nodes = 0; names = 0; area = 0 } }
-{
-    Moves {
-        nodes: 0,
-        names: 0,
-        area: 0,
+impl Moves {
+    // The first's numbers stay.
+    fn none() -> Moves
+        ensures { result ≡ record { nodes = 0; names = 0; area = 0 } }
+    {
+        Moves {
+            nodes: 0,
+            names: 0,
+            area: 0,
+        }
     }
-}
 
-// The second's move behind the first's.
-fn behind(b: &[u8]) -> Moves
-    requires { length_good b.now ≡ true }
-    ensures { MovesPast b.now result }
-{
-    Moves {
-        nodes: form_layout::node_count(b),
-        names: form_layout::name_count(b),
-        area: form_layout::area_length(b),
+    // The second's move behind the first's.
+    fn past(b: &[u8]) -> Moves
+        requires { length_good b.now ≡ true }
+        ensures { MovesPast b.now result }
+    {
+        Moves {
+            nodes: form_layout::node_count(b),
+            names: form_layout::name_count(b),
+            area: form_layout::area_length(b),
+        }
     }
 }
 
@@ -90,13 +95,11 @@ fn moved_p(x: form_layout::Node, d: Moves) -> usize
     requires { NodeWithin 128 (node_of x) × SmallMoves d }
     ensures { result ≡ move_p (moves_of d) (node_of x) }
 {
-    if x.kind <= 2 {
-        return d.names + x.p;
+    match x.kind {
+        Kind::Zero | Kind::Flag | Kind::Argument => d.names + x.p,
+        Kind::Positional => x.p,
+        _ => d.nodes + x.p,
     }
-    if x.kind == 3 {
-        return x.p;
-    }
-    d.nodes + x.p
 }
 
 // q is a child of a choice alone.
@@ -104,21 +107,18 @@ fn moved_q(x: form_layout::Node, d: Moves) -> usize
     requires { NodeWithin 128 (node_of x) × SmallMoves d }
     ensures { result ≡ move_q (moves_of d) (node_of x) }
 {
-    if x.kind == 9 {
-        return d.nodes + x.q;
+    match x.kind {
+        Kind::Choice => d.nodes + x.q,
+        _ => x.q,
     }
-    x.q
 }
 
 // Whether r of node k is a name, which it is of a fallback to a text.
 fn has_text(b: &[u8], k: usize, x: form_layout::Node) -> bool
     requires { CanMoveNode b.now k }
-    ensures { IsText b.now k x.kind result }
+    ensures { IsText b.now k (kind_number x.kind) result }
 {
-    if x.kind != 10 {
-        return false;
-    }
-    form_fields::kind(b, k) == TEXT
+    x.kind == Kind::Fallback && form_fields::kind(b, k) == TEXT
 }
 
 fn moved_node(b: &[u8], k: usize, d: Moves) -> form_layout::Node
@@ -128,10 +128,11 @@ fn moved_node(b: &[u8], k: usize, d: Moves) -> form_layout::Node
     let x = form_layout::node_at(b, k);
     let p = moved_p(x, d);
     let q = moved_q(x, d);
-    let mut r = x.r;
-    if has_text(b, k, x) {
-        r = d.names + x.r;
-    }
+    let r = if has_text(b, k, x) {
+        d.names + x.r
+    } else {
+        x.r
+    };
     form_layout::Node {
         kind: x.kind,
         p: p,
@@ -142,22 +143,14 @@ fn moved_node(b: &[u8], k: usize, d: Moves) -> form_layout::Node
     }
 }
 
-fn moved_offset(offset: usize, d: Moves) -> usize
-    requires { (offset ≤ 4096) × SmallMoves d }
-    ensures { result ≡ d.area + offset }
-{
-    d.area + offset
-}
-
 fn moved_name(b: &[u8], k: usize, d: Moves) -> form_names::Name
     requires { CanMoveName b.now k × SmallMoves d }
     ensures { NameThere (moves_of d) b.now k result }
 {
     let x = form_layout::name_at(b, k);
-    let offset = moved_offset(x.offset, d);
     form_names::Name {
         kind: x.kind,
-        offset: offset,
+        offset: d.area + x.offset,
         size: x.size,
     }
 }
@@ -187,7 +180,7 @@ fn put_node(out: &mut [u8], at: usize, x: form_layout::Node)
     requires { CanPutNode out.old at x }
     ensures { out.new ≡ sets out.old at (encode_node (node_of x)) }
 {
-    put_words(out, at, x.kind, x.p as u32, x.q as u32, x.r as u32);
+    put_words(out, at, x.kind.number(), x.p as u32, x.q as u32, x.r as u32);
     wire_write::put_u32(out, at + 8, x.lo);
     wire_write::put_u32(out, at + 12, x.hi);
 }
@@ -201,46 +194,105 @@ fn put_name(out: &mut [u8], at: usize, x: form_names::Name)
     wire_write::put_u16(out, at + 4, x.size as u32);
 }
 
-// A form's fields, nodes and names, moved, from `at` on; where they end.
-fn write_fields(out: &mut [u8], at: usize, b: &[u8], d: Moves) -> usize
-    requires { CanWritePart (length out.old) at (2 * field_count b.now) b.now d }
-    ensures { WritesPart out.old at (words_of 2 (moved_fields (moves_of d) b.now)) result out.new }
-{
-    let count = form_layout::field_count(b);
-    let mut k = 0;
-    while k < count {
-        wire_write::put_u16(out, at + 2 * k, moved_field(b, k, d));
-        k += 1;
-    }
-    at + 2 * count
+// The records of one kind: how many a form has, and each by its bytes, with its numbers moved.
+trait Record {
+    ghost SIZE: { ℕ };
+
+    ghost many: { List ℕ → ℕ };
+
+    ghost moved: { Shift → List ℕ → List (List ℕ) };
+
+    // The bytes of each.
+    const SIZE: usize;
+
+    fn count(b: &[u8]) -> usize
+        requires { length_good b.now ≡ true }
+        ensures { result ≡ many b.now };
+
+    // Record k goes to `at`.
+    fn put_moved(out: &mut [u8], at: usize, b: &[u8], k: usize, d: Moves)
+        requires { CanPutMoved (length out.old) at SIZE (many b.now) k b.now d }
+        ensures { PutsRecord (moved (moves_of d) b.now) k out.old at out.new };
+
+    ghost sized: { (d : Shift) (b : List ℕ) → FormPasses b → Sized SIZE (many b) (moved d b) };
 }
 
-fn write_nodes(out: &mut [u8], at: usize, b: &[u8], d: Moves) -> usize
-    requires { CanWritePart (length out.old) at (16 * node_count b.now) b.now d }
-    ensures { WritesPart out.old at (concat_map encode_node (moved_nodes (moves_of d) b.now)) result out.new }
-{
-    let count = form_layout::node_count(b);
-    let mut k = 0;
-    while k < count {
-        let x = moved_node(b, k, d);
-        put_node(out, at + 16 * k, x);
-        k += 1;
+struct Fields;
+
+impl Record for Fields {
+    ghost SIZE = { 2 };
+
+    ghost many = { field_count };
+
+    ghost moved = { field_bytes };
+
+    ghost sized = { fields_sized };
+
+    const SIZE: usize = 2;
+
+    fn count(b: &[u8]) -> usize {
+        form_layout::field_count(b)
     }
-    at + 16 * count
+
+    fn put_moved(out: &mut [u8], at: usize, b: &[u8], k: usize, d: Moves) {
+        wire_write::put_u16(out, at, moved_field(b, k, d));
+    }
 }
 
-fn write_names(out: &mut [u8], at: usize, b: &[u8], d: Moves) -> usize
-    requires { CanWritePart (length out.old) at (6 * name_count b.now) b.now d }
-    ensures { WritesPart out.old at (concat_map encode_name (moved_names (moves_of d) b.now)) result out.new }
-{
-    let count = form_layout::name_count(b);
-    let mut k = 0;
-    while k < count {
-        let x = moved_name(b, k, d);
-        put_name(out, at + 6 * k, x);
-        k += 1;
+struct Nodes;
+
+impl Record for Nodes {
+    ghost SIZE = { 16 };
+
+    ghost many = { node_count };
+
+    ghost moved = { node_bytes };
+
+    ghost sized = { nodes_sized };
+
+    const SIZE: usize = 16;
+
+    fn count(b: &[u8]) -> usize {
+        form_layout::node_count(b)
     }
-    at + 6 * count
+
+    fn put_moved(out: &mut [u8], at: usize, b: &[u8], k: usize, d: Moves) {
+        put_node(out, at, moved_node(b, k, d));
+    }
+}
+
+struct Names;
+
+impl Record for Names {
+    ghost SIZE = { 6 };
+
+    ghost many = { name_count };
+
+    ghost moved = { name_bytes };
+
+    ghost sized = { names_sized };
+
+    const SIZE: usize = 6;
+
+    fn count(b: &[u8]) -> usize {
+        form_layout::name_count(b)
+    }
+
+    fn put_moved(out: &mut [u8], at: usize, b: &[u8], k: usize, d: Moves) {
+        put_name(out, at, moved_name(b, k, d));
+    }
+}
+
+// A form's records of one kind, moved, from `at` on; where they end.
+fn write_records<R: Record>(out: &mut [u8], at: usize, b: &[u8], d: Moves) -> usize
+    requires { CanWritePart (length out.old) at (R.SIZE * R.many b.now) b.now d }
+    ensures { WritesPart out.old at (joined_up (R.moved (moves_of d) b.now)) result out.new }
+{
+    let count = R::count(b);
+    for k in 0..count {
+        R::put_moved(out, at + R::SIZE * k, b, k, d);
+    }
+    at + R::SIZE * count
 }
 
 fn write_area(out: &mut [u8], at: usize, b: &[u8]) -> usize
@@ -248,12 +300,13 @@ fn write_area(out: &mut [u8], at: usize, b: &[u8]) -> usize
     ensures { WritesPart out.old at (read_form b.now).area result out.new }
 {
     let start = form_layout::area_at(b);
-    wire_write::put(out, at, &b[start..]);
+    wire::copy(out, at, &b[start..]);
     at + form_layout::area_length(b)
 }
 
 // ---- both forms, part by part
 
+// Four sums: an `Add` for `Counts`, with its ghost members, would be there for this one use.
 fn counts_both(first: &[u8], second: &[u8]) -> Counts
     requires { BothGood first.now second.now }
     ensures { result ≡ counts_of first.now second.now }
@@ -274,19 +327,7 @@ fn counts_both(first: &[u8], second: &[u8]) -> Counts
 fn fits(c: Counts, size: usize) -> bool
     ensures { result ≡ fitting c size }
 {
-    if NODES < c.nodes {
-        return false;
-    }
-    if FIELDS < c.fields {
-        return false;
-    }
-    if NAMES < c.names {
-        return false;
-    }
-    if AREA < c.area {
-        return false;
-    }
-    LONGEST <= size
+    c.nodes <= NODES && c.fields <= FIELDS && c.names <= NAMES && c.area <= AREA && LONGEST <= size
 }
 
 fn write_counts(out: &mut [u8], c: Counts)
@@ -303,30 +344,16 @@ fn write_counts(out: &mut [u8], c: Counts)
     );
 }
 
-fn join_fields(out: &mut [u8], at: usize, first: &[u8], second: &[u8]) -> usize
-    requires { CanJoinAt 8 first.now second.now (length out.old) at }
-    ensures { WritesBoth 40 out.old at (joined_fields first.now second.now) result out.new }
+// The first's records of one kind, then the second's, moved behind them.
+fn join_records<R: Record>(out: &mut [u8], at: usize, first: &[u8], second: &[u8]) -> usize
+    requires { CanJoinPart (length out.old) at (R.SIZE * R.many first.now + R.SIZE * R.many second.now) first.now second.now }
+    ensures { WritesPart out.old at (joined_up (R.moved nowhere first.now ++ R.moved (moves_behind (read_form first.now)) second.now)) result out.new }
 {
-    let middle = write_fields(out, at, first, stay());
-    write_fields(out, middle, second, behind(first))
+    let middle = write_records::<R>(out, at, first, Moves::none());
+    write_records::<R>(out, middle, second, Moves::past(first))
 }
 
-fn join_nodes(out: &mut [u8], at: usize, first: &[u8], second: &[u8]) -> usize
-    requires { CanJoinAt 40 first.now second.now (length out.old) at }
-    ensures { WritesBoth 1064 out.old at (joined_nodes first.now second.now) result out.new }
-{
-    let middle = write_nodes(out, at, first, stay());
-    write_nodes(out, middle, second, behind(first))
-}
-
-fn join_names(out: &mut [u8], at: usize, first: &[u8], second: &[u8]) -> usize
-    requires { CanJoinAt 1064 first.now second.now (length out.old) at }
-    ensures { WritesBoth 1832 out.old at (joined_names first.now second.now) result out.new }
-{
-    let middle = write_names(out, at, first, stay());
-    write_names(out, middle, second, behind(first))
-}
-
+// Not a kind of record: an area has no numbers that move, and is copied whole.
 fn join_areas(out: &mut [u8], at: usize, first: &[u8], second: &[u8]) -> usize
     requires { CanJoinAt 1832 first.now second.now (length out.old) at }
     ensures { WritesBoth 5928 out.old at (joined_area first.now second.now) result out.new }
@@ -342,7 +369,7 @@ fn write_head(out: &mut [u8], first: &[u8], second: &[u8]) -> usize
 {
     let c = counts_both(first, second);
     write_counts(out, c);
-    join_fields(out, 8, first, second)
+    join_records::<Fields>(out, 8, first, second)
 }
 
 // The names and the area.
@@ -350,7 +377,7 @@ fn write_tail(out: &mut [u8], at: usize, first: &[u8], second: &[u8]) -> usize
     requires { CanJoinAt 1064 first.now second.now (length out.old) at }
     ensures { WritesBoth 5928 out.old at (joined_tail first.now second.now) result out.new }
 {
-    let area = join_names(out, at, first, second);
+    let area = join_records::<Names>(out, at, first, second);
     join_areas(out, area, first, second)
 }
 
@@ -360,21 +387,23 @@ fn write_form(out: &mut [u8], first: &[u8], second: &[u8]) -> usize
     ensures { WritesBoth 5928 out.old 0 (joined_bytes first.now second.now) result out.new }
 {
     let nodes = write_head(out, first, second);
-    let names = join_nodes(out, nodes, first, second);
+    let names = join_records::<Nodes>(out, nodes, first, second);
     write_tail(out, names, first, second)
 }
 
 // ---- what is answered
 
-fn refuse(out: &mut [u8], number: u32, place: u32, form: u32) -> Joined
-    ensures { Refuses number place form (length out.old) result out.new }
+fn refuse(out: &mut [u8], e: RefusedAt, form: u32) -> Joined
+    requires { place_told e.place < 2 ^ 32 }
+    ensures { Refuses (number_of e.refusal) (place_told e.place) form (length out.old) result out.new }
 {
     wire_write::clear_from(out, 0);
+    let Refused { number, place } = e.told();
     Joined {
-        number: number,
-        place: place,
+        number,
+        place,
         length: 0,
-        form: form,
+        form,
     }
 }
 
@@ -393,7 +422,7 @@ fn write_joined(out: &mut [u8], first: &[u8], second: &[u8]) -> Joined
     }
 }
 
-// The join of two accepted forms.
+// The join of two accepted forms. Too large is past a limit, or longer than the output.
 fn join_accepted(first: &[u8], second: &[u8], out: &mut [u8]) -> Joined
     requires { BothPass first.now second.now }
     ensures { ReportsJoin (join first.now second.now (length out.old)) result out.new }
@@ -402,20 +431,18 @@ fn join_accepted(first: &[u8], second: &[u8], out: &mut [u8]) -> Joined
     if fits(c, out.len()) {
         return write_joined(out, first, second);
     }
-    refuse(out, TOO_LARGE, 0, 0)
+    refuse(out, RefusedAt::from(Refusal::TooLarge), 0)
 }
 
 // The joined form, and zeros to the output's end. Refused, the whole output is 0.
 pub fn join(first: &[u8], second: &[u8], out: &mut [u8]) -> Joined
     ensures { ReportsJoin (join first.now second.now (length out.old)) result out.new }
 {
-    let x = form_check::check(first);
-    if x.number != 0 {
-        return refuse(out, x.number, x.place, 1);
+    if let Err(e) = form_check::check(first) {
+        return refuse(out, e, 1);
     }
-    let y = form_check::check(second);
-    if y.number != 0 {
-        return refuse(out, y.number, y.place, 2);
+    if let Err(e) = form_check::check(second) {
+        return refuse(out, e, 2);
     }
     join_accepted(first, second, out)
 }

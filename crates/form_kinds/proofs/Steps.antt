@@ -12,58 +12,19 @@ use borrow.Author.Tests.{eq-eqb, ne_eqb, le-leb, lt-leb, eqb-true, eqb-false}
 use Rattle.std.specs.Prelude.{if◌then◌else◌}
 use Rattle.rules.specs.Base.{all, null, is_some, ◌>>?◌, slice}
 use Rattle.rules.specs.Form.{Node, Name, name_count, read_form}
-use Rattle.rules.specs.Tree.{zeros, names_of}
+use Rattle.rules.specs.Tree.{names_of}
 use Rattle.form_names.specs.declared.Name as names
 use Rattle.form_names.specs.Names.{name_of}
 use Rattle.form_layout.proofs.Sizes.{names_length}
 use Rattle.form_kinds.specs.Kinds.{text_name}
 
--- ---- numbers that are not used
+-- ---- a number that is not used
 pub eqb_flip : (n : ℕ) → eqb n 0 ≡ (eqb 0 n && true)
 eqb_flip n = go (eqb n 0) refl
   where
     go : (t : Bool) → eqb n 0 ≡ t → t ≡ (eqb 0 n && true)
     go true e = rw (eq-eqb 0 n (sym (eqb-true n 0 e)))
     go false e = rw (ne_eqb 0 n (λ z. eqb-false n 0 e (sym z)))
-
-module _ (q r lo hi : ℕ) where
-  pub unused_q : (q ≡ 0 → ⊥) → false ≡ zeros (q ∷ r ∷ lo ∷ hi ∷ [])
-  unfolding zeros all
-  unused_q e = rw (ne_eqb 0 q (λ z. e (sym z)))
-
-  pub unused_r : q ≡ 0 → (r ≡ 0 → ⊥) → false ≡ zeros (q ∷ r ∷ lo ∷ hi ∷ [])
-  unfolding zeros all
-  unused_r a e = rw (a, ne_eqb 0 r (λ z. e (sym z)))
-
-  pub unused_lo : q ≡ 0 → r ≡ 0 → (lo ≡ 0 → ⊥) → false ≡ zeros (q ∷ r ∷ lo ∷ hi ∷ [])
-  unfolding zeros all
-  unused_lo a b e = rw (a, b, ne_eqb 0 lo (λ z. e (sym z)))
-
-  pub unused_hi : q ≡ 0 → r ≡ 0 → lo ≡ 0 → eqb hi 0 ≡ zeros (q ∷ r ∷ lo ∷ hi ∷ [])
-  unfolding zeros all
-  unused_hi a b c = rw (a, b, c) (eqb_flip hi)
-
--- a number that is used is left out
-module _ (z : Bool) (q r lo hi : ℕ) where
-  pub of_lo_hi : z ≡ zeros (0 ∷ 0 ∷ lo ∷ hi ∷ []) → z ≡ zeros (lo ∷ hi ∷ [])
-  unfolding zeros all
-  of_lo_hi e = e
-
-  pub of_q_lo_hi : z ≡ zeros (q ∷ 0 ∷ lo ∷ hi ∷ []) → z ≡ zeros (q ∷ lo ∷ hi ∷ [])
-  unfolding zeros all
-  of_q_lo_hi e = e
-
-  pub of_r_lo_hi : z ≡ zeros (0 ∷ r ∷ lo ∷ hi ∷ []) → z ≡ zeros (r ∷ lo ∷ hi ∷ [])
-  unfolding zeros all
-  of_r_lo_hi e = e
-
-  pub of_r_hi : z ≡ zeros (0 ∷ r ∷ 0 ∷ hi ∷ []) → z ≡ zeros (r ∷ hi ∷ [])
-  unfolding zeros all
-  of_r_hi e = e
-
-  pub of_q_r : z ≡ zeros (q ∷ r ∷ 0 ∷ 0 ∷ []) → z ≡ zeros (q ∷ r ∷ [])
-  unfolding zeros all
-  of_q_r e = e
 
 -- ---- lookups
 pub lookup_none : {A : Type 0} (l : List A) (k : ℕ) → length l ≤ k → get_elem? l k ≡ none

@@ -13,7 +13,7 @@ use lib.Seq.{get_or_at, get_or-set_same, get_or-set_other}
 use borrow.Author.Tests.{eq-eqb, ne_eqb, eqb-true, eqb-false, le-leb, lt-leb}
 use Rattle.rules.specs.Form.{Node, Form}
 use Rattle.form_kinds.specs.Kinds.{leaf_code, inner_code, child_q}
-use Rattle.form_kinds.specs.Known.{ruled, code_by, codes, code_at, SoundCodes, CodesKept, Done}
+use Rattle.form_kinds.specs.Known.{ruled, code_by, codes, code_at, SoundCodes, CodesKept, Done, ChildKnown}
 
 pub codes_length : (f : Form) (n : ℕ) → length (codes f n) ≡ n
 unfolding codes
@@ -42,12 +42,6 @@ worked f p m₀ m m' e d = rw e d
 
 pub found : (f : Form) (p : ℕ) (m m' : List ℕ) → m ≡ m' → SoundCodes f m' → (get_or m' p 0 ≡ 0 → ⊥) → Done f p m' m
 found f p m m' e s n = rw e (record { here = s.right p n; sound = s; kept = kept_same m' })
-
--- what is known of the table and of a child's code k, which is 0 where there is no child
-pub record ChildKnown (f : Form) (i p : ℕ) (m₀ m : List ℕ) (k : ℕ) : Type 0 where
-  pub sound : SoundCodes f m
-  pub kept : CodesKept m₀ m
-  pub code : k ≡ get_or (codes f i) p 0
 
 pub child : (f : Form) (i p : ℕ) (m₀ m m' : List ℕ) (k : ℕ) → m ≡ m' → p < i → Done f p m₀ m' → k ≡ get_or m' p 0 → ChildKnown f i p m₀ m k
 child f i p m₀ m m' k em h d e = rw em (record { sound = d.sound; kept = d.kept; code = e ∙ d.here ∙ sym (codes_at f i p h) })

@@ -41,3 +41,9 @@ pub record Filling (b : List ℕ) (k : ℕ) (m : List ℕ) : Type 0 where
   pub good : length_good b ≡ true
   pub below : k < node_count b
   pub sound : SoundCodes (read_form b) m
+
+-- what is known of the table and of a child's code k, which is 0 where there is no child
+pub record ChildKnown (f : Form) (i p : ℕ) (m₀ m : List ℕ) (k : ℕ) : Type 0 where
+  pub sound : SoundCodes f m
+  pub kept : CodesKept m₀ m
+  pub code : k ≡ get_or (codes f i) p 0

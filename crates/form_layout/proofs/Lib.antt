@@ -1,2 +1,3 @@
 -- What the proofs of this and of other crates use.
+pub mod KindNumbers
 pub mod Sizes

@@ -1,5 +1,5 @@
 -- What the length and the counts of a form say, and what stands at a number.
-use mathlib.Core.Bool.{Bool, true, false, not, ◌&&◌}
+use mathlib.Core.Bool.{true, false, ◌&&◌}
 use mathlib.Core.List.{List}
 use mathlib.Core.Option.{some}
 use mathlib.Core.Path.{◌≡◌, refl, sym, ◌∙◌, ap}
@@ -9,7 +9,7 @@ use native.Mathlib.Omega.{arith}
 use lib.Dec.{leb, eqb}
 use lib.ListN.{length, take, drop, get_elem?, length-map, length-drop}
 use lib.Seq.{drop-drop, take_all}
-use borrow.Author.Tests.{le-leb, lt-leb, leb-true, eqb-true, not-true, not-false}
+use borrow.Author.Tests.{lt-leb, leb-true, eqb-true}
 use Rattle.wire.specs.Wire.{number_at}
 use Rattle.rules.specs.Base.{numbers}
 use Rattle.rules.specs.Form.{Name, node_count, field_count, name_count, area_length, counts_good, nodes_at, names_at, area_at, form_length, read_node, read_name, read_form, name_bytes}
@@ -21,8 +21,9 @@ use Rattle.rules.proofs.Acceptance.{and-true, numbers_length, mapped_at, no_faul
 use Rattle.rules.proofs.GivenLaws.{check_accepted}
 use Rattle.form_names.specs.Names.{name_of}
 use Rattle.form_names.specs.declared.Name as names
-use Rattle.form_layout.specs.declared.Node as declared
-use Rattle.form_layout.specs.Layout.{node_of, within, GoodNames, HasName, name_bytes_at}
+use Rattle.form_layout.specs.declared.Kind.{Kind}
+use Rattle.form_layout.specs.Kinds.{kind_number}
+use Rattle.form_layout.specs.Layout.{node_of, GoodNames, HasName, name_bytes_at}
 
 pub record CountBounds (b : List ℕ) : Type 0 where
   pub long : 8 ≤ length b
@@ -74,58 +75,10 @@ sized b e = record {
   whole = eqb-true (area_at b + area_length b) (length b) (and-true (counts_good b) (eqb (form_length b) (length b)) e).1;
 }
 
--- ---- the tests
-module _ (b : List ℕ) where
-  module _ (h : 8 ≤ length b) where
-    module _ (n : ℕ) (x : Bool) (en : n ≡ node_count b) (ex : x ≡ within 1 n 64) where
-      pub nodes_bad : not x ≡ true → false ≡ counts_good b
-      unfolding counts_good within
-      nodes_bad t =
-          let z = not-true x t in
-          let w : (leb 1 (node_count b) && leb (node_count b) 64) ≡ false = rw en at (sym ex ∙ z) in
-          rw (le-leb 8 (length b) h, w)
-
-      module _ (t : not x ≡ false) (f : ℕ) (y : Bool) (ef : f ≡ field_count b) (ey : y ≡ within 1 f 16) where
-        first_good : (leb 8 (length b) && (leb 1 (node_count b) && leb (node_count b) 64)) ≡ true
-        unfolding within
-        first_good =
-            let z = not-false x t in
-            let w : (leb 1 (node_count b) && leb (node_count b) 64) ≡ true = rw en at (sym ex ∙ z) in
-            rw (le-leb 8 (length b) h) w
-
-        pub fields_bad : not y ≡ true → false ≡ counts_good b
-        unfolding counts_good within
-        fields_bad w =
-            let v = not-true y w in
-            let u : (leb 1 (field_count b) && leb (field_count b) 16) ≡ false = rw ef at (sym ey ∙ v) in
-            rw (first_good, u)
-
-        module _ (w : not y ≡ false) (m : ℕ) (em : m ≡ name_count b) where
-          pub names_bad : 128 < m → false ≡ counts_good b
-          unfolding counts_good within
-          names_bad l =
-              let v = not-false y w in
-              let u : (leb 1 (field_count b) && leb (field_count b) 16) ≡ true = rw ef at (sym ey ∙ v) in
-              rw (first_good, u, lt-leb (name_count b) 128 (omega arith))
-
-          pub area_test : m ≤ 128 → (a : ℕ) → a ≡ area_length b → leb a 4096 ≡ counts_good b
-          unfolding counts_good within
-          area_test l a ea =
-              let v = not-false y w in
-              let u : (leb 1 (field_count b) && leb (field_count b) 16) ≡ true = rw ef at (sym ey ∙ v) in
-              rw (first_good, u, le-leb (name_count b) 128 (omega arith), ea)
-
-  pub too_short : length b < 8 → false ≡ counts_good b
-  unfolding counts_good
-  too_short h = rw (lt-leb 8 (length b) h)
-
-  pub counts_bad : (x : Bool) → x ≡ counts_good b → not x ≡ true → false ≡ length_good b
-  unfolding length_good
-  counts_bad x e z = rw (← e, not-true x z)
-
-  pub length_test : (x : Bool) → x ≡ counts_good b → not x ≡ false → (s t : ℕ) → s ≡ area_at b → t ≡ area_length b → eqb (s + t) (length b) ≡ length_good b
-  unfolding length_good form_length
-  length_test x e z s t p q = rw (← e, not-false x z, p, q)
+-- ---- a form that is too short
+pub too_short : (b : List ℕ) → length b < 8 → false ≡ counts_good b
+unfolding counts_good
+too_short b h = rw (lt-leb 8 (length b) h)
 
 -- ---- what stands at a number
 -- the slice from a place on
@@ -153,10 +106,11 @@ module _ (b : List ℕ) (k : ℕ) where
   field_there x h e = mapped_at (λ k. number_at 2 b (8 + 2 * k)) (field_count b) k h ∙ ap some (sym e)
 
   pub node_there :
-      (at kind p q r lo hi : ℕ)
+      (at word p q r lo hi : ℕ) (kind : Kind)
       → k < node_count b
       → at ≡ nodes_at b
-      → kind ≡ number_at 2 b (at + 16 * k)
+      → word ≡ number_at 2 b (at + 16 * k)
+      → kind_number kind ≡ word
       → p ≡ number_at 2 b (at + 16 * k + 2)
       → q ≡ number_at 2 b (at + 16 * k + 4)
       → r ≡ number_at 2 b (at + 16 * k + 6)
@@ -164,8 +118,8 @@ module _ (b : List ℕ) (k : ℕ) where
       → hi ≡ number_at 4 b (at + 16 * k + 12)
       → get_elem? (read_form b).nodes k ≡ some (node_of (record { kind = kind; p = p; q = q; r = r; lo = lo; hi = hi }))
   unfolding read_form read_node
-  node_there at kind p q r lo hi h e ek ep eq er el eh =
-      mapped_at (λ k. read_node b (nodes_at b + 16 * k)) (node_count b) k h ∙ rw (ek, ep, eq, er, el, eh, e)
+  node_there at word p q r lo hi kind h e ew ek ep eq er el eh =
+      mapped_at (λ k. read_node b (nodes_at b + 16 * k)) (node_count b) k h ∙ rw (ek, ew, ep, eq, er, el, eh, e)
 
   pub name_there :
       (at : ℕ) (x : names.Name)

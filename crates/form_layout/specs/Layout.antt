@@ -1,18 +1,16 @@
 -- A node as it is read, and the bytes of a name.
-use Rattle.std.specs.Prelude.{Bool, true, ◌&&◌, List, ◌≡◌, ℕ, ◌<◌, leb}
+use Rattle.std.specs.Prelude.{true, List, ◌≡◌, ℕ, ◌<◌}
 use Rattle.std.proofs.Math.Option.{Option, some, none}
 use Rattle.std.proofs.Math.ListN.{get_elem?}
 use Rattle.rules.specs.Base.{first_fault}
 use Rattle.rules.specs.Form.{Node, Form, name_count, read_form, name_bytes, name_good}
 use Rattle.rules.specs.Accept.{length_good}
 use Rattle.form_layout.specs.declared.Node as declared
+use Rattle.form_layout.specs.Kinds.{kind_number}
 
 -- the struct as the rules' record
 abbrev pub node_of : declared.Node → Node
-node_of x = record { kind = x.kind; p = x.p; q = x.q; r = x.r; lo = x.lo; hi = x.hi }
-
-unfoldable pub within : ℕ → ℕ → ℕ → Bool
-within lo n hi = leb lo n && leb n hi
+node_of x = record { kind = kind_number x.kind; p = x.p; q = x.q; r = x.r; lo = x.lo; hi = x.hi }
 
 -- the bytes of name record k, if there is one
 unfoldable pub name_bytes_at : Form → ℕ → Option (List ℕ)

@@ -16,6 +16,7 @@ use borrow.Author.Tests.{ne_eqb, leb-true, leb-false, ltb-true, ltb-false}
 use Rattle.rules.specs.Form.{Node, node_count, name_count, read_form}
 use Rattle.rules.specs.Accept.{length_good}
 use Rattle.form_layout.specs.declared.Node as layout
+use Rattle.form_layout.specs.Kinds.{kind_number}
 use Rattle.form_layout.specs.Layout.{node_of}
 use Rattle.form_layout.proofs.Sizes.{nodes_length, sized}
 use Rattle.form_letters.specs.Classes.{names_record, bits, class_of, Classed, MarkedBits}
@@ -116,33 +117,21 @@ module _ (xs : List Node) (x : Node) (k : ℕ) where
   class_inside (inl e) f g = class_more ∙ rw (e, f, g) (flag_bit (names_record xs 1 k) (names_record xs 2 k))
   class_inside (inr e) f g = class_more ∙ rw (e, f, g) (argument_bit (names_record xs 1 k) (names_record xs 2 k))
 
-flag_or_argument : (kind : ℕ) → (kind ≡ 0 → ⊥) → kind ≤ 2 → (kind ≡ 1) ⊎ (kind ≡ 2)
-flag_or_argument kind f h = ⊎_elim (λ e. inr e) (λ l. inl (omega arith)) (eq-or-lt_of_le h)
-
 module _ (x : layout.Node) (count : ℕ) (t : List ℕ) where
   abbrev Noted : List ℕ → Type 0
   Noted t' = (xs : List Node) → Classed xs count t → Classed (xs ++ (node_of x ∷ [])) count t'
 
-  unnoted : (x.kind ≡ 1 → ⊥) → (x.kind ≡ 2 → ⊥) → Noted t
+  pub unnoted : (kind_number x.kind ≡ 1 → ⊥) → (kind_number x.kind ≡ 2 → ⊥) → Noted t
   unnoted f g xs z = record {
     few = z.few;
     long = z.long;
     at = λ k h. z.at k h ∙ sym (class_other xs (node_of x) k f g);
   }
 
-  pub no_kind : x.kind ≡ 0 → Noted t
-  no_kind e = unnoted (λ f. omega arith) (λ f. omega arith)
-
-  pub no_names_lem : 2 < x.kind → Noted t
-  no_names_lem e = unnoted (λ f. omega arith) (λ f. omega arith)
-
-  pub noted : (x.kind ≡ 0 → ⊥) → x.kind ≤ 2 → (end : ℕ) → end ≡ min (x.p + x.q) count → (t' : List ℕ)
-      → MarkedBits x.kind x.p end t t' → Noted t'
-  noted f g end e t' m xs z = record { few = z.few; long = m.long ∙ z.long; at = at }
+  pub noted : (kind_number x.kind ≡ 1) ⊎ (kind_number x.kind ≡ 2) → (end : ℕ) → end ≡ min (x.p + x.q) count → (t' : List ℕ)
+      → MarkedBits (kind_number x.kind) x.p end t t' → Noted t'
+  noted kind end e t' m xs z = record { few = z.few; long = m.long ∙ z.long; at = at }
     where
-      kind : (x.kind ≡ 1) ⊎ (x.kind ≡ 2)
-      kind = flag_or_argument x.kind f g
-
       out : (k : ℕ) → k < count → (leb x.p k && ltb k (x.p + x.q)) ≡ false → (x.p ≤ k → k < end → ⊥)
           → get_or t' k 0 ≡ class_of (xs ++ (node_of x ∷ [])) k
       out k h b n = m.outside k n ∙ z.at k h ∙ sym (class_outside xs (node_of x) k b)
@@ -152,7 +141,7 @@ module _ (x : layout.Node) (count : ℕ) (t : List ℕ) where
       go k h true true ea eb =
           let l = leb-true x.p k ea in
           let r = ltb-true k (x.p + x.q) eb in
-          m.inside k l (omega arith) ∙ ap (λ (c : ℕ). bit_or c x.kind) (z.at k h) ∙ sym (class_inside xs (node_of x) k kind ea eb)
+          m.inside k l (omega arith) ∙ ap (λ (c : ℕ). bit_or c (kind_number x.kind)) (z.at k h) ∙ sym (class_inside xs (node_of x) k kind ea eb)
       go k h true false ea eb =
           let r = ltb-false k (x.p + x.q) eb in
           out k h (rw (ea, eb)) (λ u v. omega arith)

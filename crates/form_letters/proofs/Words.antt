@@ -11,7 +11,6 @@ use lib.Bits.{bit_and}
 use lib.Dec.{eqb}
 use lib.ListN.{length, get_or, take, drop, set, replicate, length-append, length-replicate, drop_of_length-le}
 use lib.Seq.{sets, sets-eq, length-sets}
-use borrow.Author.Tests.{not-true, not-false}
 use Rattle.std.specs.Prelude.{if◌then◌else◌}
 use Rattle.rules.specs.Codes.{place_code}
 use Rattle.rules.specs.Form.{Node, Name, name_count, read_form, name_bytes, one_character}
@@ -28,19 +27,19 @@ use Rattle.form_letters.specs.Classes.{names_record, bits, class_of, Classed}
 -- ---- one letter
 
 module _ (o : List ℕ) (n : ℕ) (wanted : Bool) (code : ℕ) where
-  pub unwanted : not wanted ≡ true → Appended o n (letter_if wanted code) o n
+  pub unwanted : wanted ≡ false → Appended o n (letter_if wanted code) o n
   unfolding letter_if
-  unwanted e = rw (not-true wanted e) (record { words = refl; count = omega arith })
+  unwanted e = rw e (record { words = refl; count = omega arith })
 
-  pub letterless : not wanted ≡ false → code ≡ 0 → Appended o n (letter_if wanted code) o n
+  pub letterless : wanted ≡ true → code ≡ 0 → Appended o n (letter_if wanted code) o n
   unfolding letter_if letter_list
-  letterless e z = rw (not-false wanted e, z) (record { words = refl; count = omega arith })
+  letterless e z = rw (e, z) (record { words = refl; count = omega arith })
 
-  pub one_letter : not wanted ≡ false → (code ≡ 0 → ⊥) → Appended o n (letter_if wanted code) (set o n (code - 1)) (n + 1)
+  pub one_letter : wanted ≡ true → (code ≡ 0 → ⊥) → Appended o n (letter_if wanted code) (set o n (code - 1)) (n + 1)
   unfolding letter_if letter_list
   one_letter e z =
       let s : code ≡ suc (code - 1) = omega arith in
-      let w : letter_if wanted code ≡ (code - 1) ∷ [] = rw (not-false wanted e) (ap letter_list s) in
+      let w : letter_if wanted code ≡ (code - 1) ∷ [] = rw e (ap letter_list s) in
       rw w (record { words = refl; count = omega arith })
 
 letter_few : (wanted : Bool) (code : ℕ) → length (letter_if wanted code) ≤ 1
@@ -65,14 +64,14 @@ argument_known true false = refl
 argument_known false true = refl
 argument_known false false = refl
 
-module _ (xs : List Node) (count : ℕ) (t : List ℕ) (z : Classed xs count t) (k : ℕ) (h : k < count) (class : ℕ) (e : class ≡ get_or t k 0) (r : Bool) where
-  pub flag_wanted : r ≡ not (eqb (bit_and class 1) 0) → r ≡ names_record xs 1 k
+module _ (xs : List Node) (count : ℕ) (t : List ℕ) (z : Classed xs count t) (k : ℕ) (h : k < count) (class : ℕ) (e : class ≡ get_or t k 0) where
+  pub flag_wanted : not (eqb (bit_and class 1) 0) ≡ names_record xs 1 k
   unfolding class_of
-  flag_wanted s = s ∙ rw (e, z.at k h) (flag_known (names_record xs 1 k) (names_record xs 2 k))
+  flag_wanted = rw (e, z.at k h) (flag_known (names_record xs 1 k) (names_record xs 2 k))
 
-  pub argument_wanted : r ≡ not (eqb (bit_and class 2) 0) → r ≡ names_record xs 2 k
+  pub argument_wanted : not (eqb (bit_and class 2) 0) ≡ names_record xs 2 k
   unfolding class_of
-  argument_wanted s = s ∙ rw (e, z.at k h) (argument_known (names_record xs 1 k) (names_record xs 2 k))
+  argument_wanted = rw (e, z.at k h) (argument_known (names_record xs 1 k) (names_record xs 2 k))
 
 -- ---- a record's code
 

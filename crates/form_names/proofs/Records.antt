@@ -11,8 +11,8 @@ use borrow.Author.Tests.{eq-eqb, ne_eqb, le-leb, lt-leb, not-true, not-false}
 use borrow.Author.Count.{below_more}
 use Rattle.utf8.specs.Utf8.{decode_at, well_formed}
 use Rattle.utf8.specs.Laws.{decode_ascii}
-use Rattle.utf8.specs.declared.Decoded.{Decoded}
-use Rattle.utf8.specs.declared.Decoded.TheVariants.{Char, Bad}
+use Rattle.std.specs.Prelude.{Option as CodeOption, Some, None}
+use Rattle.utf8.specs.declared.Char.{Char}
 use Rattle.wire.specs.Wire.{number_at}
 use Rattle.rules.specs.Base.{first_fault, numbers, is_some}
 use Rattle.rules.specs.Codes.{place_code}
@@ -34,19 +34,19 @@ pub bytes_part : (area : List ℕ) (x : declared.Name) → take (x.offset + x.si
 unfolding name_bytes
 bytes_part area x = let e : x.offset + x.size - x.offset ≡ x.size = omega arith in rw e
 
-module _ (s : List ℕ) (d : Decoded) (v n : ℕ) (e : d ≡ decode_at s 0) (k : d ≡ Char v n) where
-  pub character_one : n ≡ length s → v + 1 ≡ place_code (one_character s)
+module _ (s : List ℕ) (d : CodeOption Char) (c : Char) (e : d ≡ decode_at s 0) (k : d ≡ Some c) where
+  pub character_one : c.size ≡ length s → c.value + 1 ≡ place_code (one_character s)
   unfolding one_character decode_at
-  character_one h = rw (← e, k, one_character, eq-eqb n (length s) h) (omega arith)
+  character_one h = rw (← e, k, one_character, eq-eqb c.size (length s) h) (omega arith)
 
-  pub character_more : (n ≡ length s → ⊥) → 0 ≡ place_code (one_character s)
+  pub character_more : (c.size ≡ length s → ⊥) → 0 ≡ place_code (one_character s)
   unfolding one_character decode_at
-  character_more h = rw (← e, k, one_character, ne_eqb n (length s) h)
+  character_more h = rw (← e, k, one_character, ne_eqb c.size (length s) h)
 
 pub character_ascii : (s : List ℕ) → length s ≡ 1 → get_or s 0 0 < 0x80 → get_or s 0 0 + 1 ≡ place_code (one_character s)
-character_ascii s l h = character_one s _ (get_or s 0 0) 1 (decode_ascii s 0 (get_or s 0 0) (omega arith) refl h) refl (sym l)
+character_ascii s l h = character_one s _ (record { value = get_or s 0 0; size = 1 }) (decode_ascii s 0 (get_or s 0 0) (omega arith) refl h) refl (sym l)
 
-pub character_bad : (s : List ℕ) (d : Decoded) → d ≡ decode_at s 0 → d ≡ Bad → 0 ≡ place_code (one_character s)
+pub character_bad : (s : List ℕ) (d : CodeOption Char) → d ≡ decode_at s 0 → d ≡ None → 0 ≡ place_code (one_character s)
 unfolding one_character decode_at
 character_bad s d e k = rw (← e, k, one_character)
 

@@ -42,42 +42,30 @@ pub fn bytes(area: &[u8], x: Name) -> &[u8]
 pub fn character(s: &[u8]) -> u32
     ensures { result ≡ place_code (one_character s.now) }
 {
-    if s.len() == 1 {
-        let b = s[0];
-        if b < 0x80 {
-            return b as u32 + 1;
-        }
+    if s.len() == 1 && s[0] < 0x80 {
+        return u32::from(s[0]) + 1;
     }
-    let d = utf8::decode_at(s, 0);
-    let utf8::Decoded::Char(value, size) = d else {
-        return 0;
-    };
-    if size == s.len() {
-        return value + 1;
+    match utf8::decode_at(s, 0) {
+        Some(c) if c.size == s.len() => c.value + 1,
+        _ => 0,
     }
-    0
 }
 
 fn type_good(kind: u32, s: &[u8]) -> bool
     ensures { result ≡ type_good kind s.now }
 {
-    if kind == 0 {
-        return character(s) != 0;
+    match kind {
+        0 => character(s) != 0,
+        1 => utf8::valid(s),
+        _ => kind == 2,
     }
-    if kind == 1 {
-        return utf8::valid(s);
-    }
-    kind == 2
 }
 
 // Whether the name lies in the area and is what its type says.
 pub fn name_good(area: &[u8], x: Name) -> bool
     ensures { result ≡ name_good area.now (name_of x) }
 {
-    if area.len() < x.size {
-        return false;
-    }
-    if area.len() - x.size < x.offset {
+    if area.len() < x.size || area.len() - x.size < x.offset {
         return false;
     }
     type_good(x.kind, bytes(area, x))
@@ -88,34 +76,27 @@ pub fn names_fault(records: &[u8], area: &[u8], count: usize) -> usize
     requires { 6 * count ≤ length records.now }
     ensures { result ≡ fault_or count (first_fault (name_good area.now) 0 (names_in records.now count)) }
 {
-    let mut k = 0;
-    while k < count {
+    for k in 0..count {
         let x = record_at(records, k);
         if !name_good(area, x) {
             return k;
         }
-        k += 1;
     }
     count
 }
 
-// Whether a character is one of 0..9, A..Z, a..z, and not W, which is reserved for vendor options.
+// Whether a character is one of 0..9, A..Z, a..z, and not W, which is reserved for vendor options. An arm for each: two must-fail edits
+// change one of them.
 fn portable_character(c: u32) -> bool
     ensures { result ≡ portable_character c }
 {
-    if c == 87 {
-        return false;
+    match c {
+        87 => false,
+        48..=57 => true,
+        65..=90 => true,
+        97..=122 => true,
+        _ => false,
     }
-    if c <= 57 {
-        return 48 <= c;
-    }
-    if c <= 90 {
-        return 65 <= c;
-    }
-    if c < 97 {
-        return false;
-    }
-    c <= 122
 }
 
 // Whether a name of type 0 is such a character; names of other types always pass.
@@ -127,8 +108,5 @@ pub fn portable_name(area: &[u8], x: Name) -> bool
         return true;
     }
     let c = character(bytes(area, x));
-    if c == 0 {
-        return false;
-    }
-    portable_character(c - 1)
+    c != 0 && portable_character(c - 1)
 }

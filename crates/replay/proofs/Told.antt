@@ -8,7 +8,8 @@ use native.Mathlib.Omega.{arith}
 use borrow.Author.Count.{below_more}
 use Rattle.wire.specs.Wire.{HasEntry}
 use Rattle.utf8.specs.Utf8.{decode_at, well_formed}
-use Rattle.utf8.specs.declared.Decoded.{Decoded}
+use Rattle.std.specs.Prelude.{Option as CodeOption}
+use Rattle.utf8.specs.declared.Char.{Char}
 use Rattle.rules.specs.Outcome.{ok}
 use Rattle.rules.specs.Sheet.{sheet_fault}
 use Rattle.rules.specs.Accept.{check_form}
@@ -32,9 +33,9 @@ pub utf8_told :
     → w ≡ well_formed s
     → (valid : ℕ)
     → valid ≡ cond w 1 0
-    → (d : Decoded)
+    → (d : CodeOption Char)
     → d ≡ decode_at s 0
-    → (e : Decoded)
+    → (e : CodeOption Char)
     → d ≡ e
     → Stands b 0 (character_words valid e)
     → Stands b 0 (utf8_words s)

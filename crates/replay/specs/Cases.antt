@@ -1,8 +1,7 @@
 -- What the rules say of a case is what the case says.
-use Rattle.std.specs.Prelude.{◌≡◌, cond, List, [], ◌∷◌, ℕ}
+use Rattle.std.specs.Prelude.{◌≡◌, cond, Option, Some, None, List, [], ◌∷◌, ℕ}
 use Rattle.utf8.specs.Utf8.{decode_at, well_formed}
-use Rattle.utf8.specs.declared.Decoded.{Decoded}
-use Rattle.utf8.specs.declared.Decoded.TheVariants.{Char, Bad}
+use Rattle.utf8.specs.declared.Char.{Char}
 use Rattle.rules.specs.Outcome.{ok}
 use Rattle.rules.specs.Sheet.{sheet_fault}
 use Rattle.rules.specs.Accept.{check_form}
@@ -20,9 +19,9 @@ use Rattle.replay.specs.Calls.{CallTold, TextTold}
 use Rattle.replay.specs.declared.words.Head.{Head}
 
 -- whether the bytes are well-formed; whether there is a first character, its value and its size
-abbrev pub character_words : ℕ → Decoded → List ℕ
-character_words valid (Char value size) = valid ∷ 1 ∷ value ∷ size ∷ []
-character_words valid Bad = valid ∷ 0 ∷ 0 ∷ 0 ∷ []
+abbrev pub character_words : ℕ → Option Char → List ℕ
+character_words valid (Some c) = valid ∷ 1 ∷ c.value ∷ c.size ∷ []
+character_words valid None = valid ∷ 0 ∷ 0 ∷ 0 ∷ []
 
 unfoldable pub utf8_words : List ℕ → List ℕ
 utf8_words s = character_words (cond (well_formed s) 1 0) (decode_at s 0)

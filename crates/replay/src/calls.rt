@@ -32,10 +32,7 @@ fn get(sheet: &[u8], items: &[u32], s: State, place: usize, numbers: &[u8], word
 {
     let got = call_item::get(sheet, items, s, place);
     let told = [got.number, got.place, 0, 0, 0, 0, 0];
-    if !words::answer_same(numbers, told, s) {
-        return false;
-    }
-    words::words_same(words, 0, &got.item)
+    words::answer_same(numbers, told, s) && words::words_same(words, 0, &got.item)
 }
 
 fn eval(
@@ -54,10 +51,7 @@ fn eval(
     let ran = call_node::eval(form, sheet, items, &mut answers, &mut list, s, node);
     let left = ran.state;
     let told = [ran.number, ran.place, ran.tries, ran.words, 0, 0, 0];
-    if !words::answer_same(numbers, told, left) {
-        return false;
-    }
-    words::words_same(words, 0, &answers)
+    words::answer_same(numbers, told, left) && words::words_same(words, 0, &answers)
 }
 
 pub fn text<'a>(
@@ -74,10 +68,7 @@ pub fn text<'a>(
     let mut place = 0;
     let part = call_text::text(form, sheet, items, word, &mut number, &mut place);
     let told = [number, place];
-    if !words::words_same(numbers, 0, &told) {
-        return false;
-    }
-    check::same(bytes, part)
+    words::words_same(numbers, 0, &told) && check::same(bytes, part)
 }
 
 // The other calls, on a state or two, by number. A number of no call is of no case.

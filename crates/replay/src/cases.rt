@@ -8,7 +8,6 @@ use crate::{calls, words};
 use eval_missing::MISSING_WORDS;
 use run_fields::ANSWER_WORDS;
 use split_arg::ITEM_WORDS;
-use utf8::Decoded;
 
 // The slices that are lent to the calls. They are not 0, so that a word that is not written is seen.
 fn item_slice() -> [u32; ITEM_WORDS]
@@ -42,11 +41,11 @@ fn utf8(bytes: &[u8], numbers: &[u8]) -> bool
     let valid = flag(utf8::valid(bytes));
     let first = utf8::decode_at(bytes, 0);
     match first {
-        Decoded::Char(value, size) => {
-            let told = [valid, 1, value, size as u32];
+        Some(c) => {
+            let told = [valid, 1, c.value, c.size as u32];
             words::words_same(numbers, 0, &told)
         }
-        Decoded::Bad => {
+        None => {
             let told = [valid, 0, 0, 0];
             words::words_same(numbers, 0, &told)
         }
@@ -71,10 +70,7 @@ fn split(form: &[u8], sheet: &[u8], numbers: &[u8], words: &[u8]) -> bool
     let split = call_check::split(form, sheet, &mut items);
     let s = split.state;
     let told = [split.number, split.place, 0, 0, 0, 0, 0];
-    if !words::answer_same(numbers, told, s) {
-        return false;
-    }
-    words::words_same(words, 0, &items)
+    words::answer_same(numbers, told, s) && words::words_same(words, 0, &items)
 }
 
 // The answer, and the answer slice.
@@ -87,10 +83,7 @@ fn run(form: &[u8], sheet: &[u8], numbers: &[u8], words: &[u8]) -> bool
     let ran = run::run(form, sheet, &mut items, &mut answers, &mut list);
     let s = ran.state;
     let told = [ran.number, ran.place, ran.tries, ran.words, 0, 0, 0];
-    if !words::answer_same(numbers, told, s) {
-        return false;
-    }
-    words::words_same(words, 0, &answers)
+    words::answer_same(numbers, told, s) && words::words_same(words, 0, &answers)
 }
 
 // A call on the states that are given.

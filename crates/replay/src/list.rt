@@ -49,19 +49,19 @@ pub fn replay(list: &[u8]) -> Tally
     if list.len() < 2 {
         return no_cases();
     }
-    let count = words::size(wire::u16_at(list, 0));
+    let count = wire::u16_at(list, 0) as usize;
     if !wire::table_good(list, 2, count) {
         return no_cases();
     }
-    let mut cases = 0;
+    let cases = count.saturating_sub(1) / 7;
     let mut differ = 0;
-    let mut at = 1;
-    while at + 7 <= count {
-        if !case_same(list, count, at) {
+    for k in 0..cases {
+        if !case_same(list, count, 7 * k + 1) {
             differ += 1;
         }
-        cases += 1;
-        at += 7;
     }
-    Tally { cases, differ }
+    Tally {
+        cases: cases as u64,
+        differ,
+    }
 }

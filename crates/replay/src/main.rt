@@ -14,7 +14,8 @@ mod cases;
 mod list;
 mod words;
 
-// Reads to the start of `buffer` until it is full or the input ends, and answers how many bytes were read.
+// Reads to the start of `buffer` until it is full or the input ends, and answers how many bytes were read. As in `bench`: the programs
+// share no crate, and the library has no such method that tells of an error.
 fn read_full(input: &mut impl Read, buffer: &mut [u8]) -> Result<usize>
     ensures { ReadsAtMost result buffer.new }
 {

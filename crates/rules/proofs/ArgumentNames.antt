@@ -12,7 +12,8 @@ use lib.Seq.{drop-drop}
 use borrow.Author.Tests.{eqb-true, eqb-false, eq-eqb, ne_eqb, not-true}
 use Rattle.utf8.specs.Utf8.{decode, decode_at, well_formed, well_formed_after}
 use Rattle.utf8.specs.Laws.{character}
-use Rattle.utf8.specs.declared.Decoded.TheVariants.{Char}
+use Rattle.std.specs.Prelude.{Some}
+use Rattle.utf8.specs.declared.Char.{Char}
 use Rattle.rules.specs.Base.{null, is_some}
 use Rattle.rules.specs.Outcome.{Outcome, ok, ◌>>=◌}
 use Rattle.rules.specs.Split.{dash, ArgType, short, long, Parts, before_equals, behind_equals, parts, split_long, split_short}
@@ -25,13 +26,12 @@ use Rattle.rules.proofs.SplitLaws.{letter_ok, cluster_step, cluster_ok, some≢n
 -- ---- the letters of a name
 -- the first one, and those behind it
 record FirstLetter (k b : ℕ) (s : List ℕ) (ls : List Letter) : Type 0 where
-  character : ℕ
-  size : ℕ
+  character : Char
   later : List Letter
-  decoded : decode (b ∷ s) ≡ Char character size
-  good : well_formed_after (size - 1) s ≡ true
-  further : cluster_from (size - 1) (suc k) s ≡ ok later
-  these : ls ≡ record { character = character; place = k; rest = drop size (b ∷ s) } ∷ later
+  decoded : decode (b ∷ s) ≡ Some character
+  good : well_formed_after (character.size - 1) s ≡ true
+  further : cluster_from (character.size - 1) (suc k) s ≡ ok later
+  these : ls ≡ record { character = character.value; place = k; rest = drop character.size (b ∷ s) } ∷ later
 
 first_letter :
     (k b : ℕ) (s : List ℕ) (ls : List Letter)
@@ -40,21 +40,20 @@ first_letter :
     → FirstLetter k b s ls
 first_letter k b s ls w e =
     let x = letter_ok b s w in
-    let more = cluster_ok (x.1 - 1) (suc k) s x.4 in
+    let more = cluster_ok (x.0.size - 1) (suc k) s x.3 in
     record {
       character = x.0;
-      size = x.1;
       later = more.0;
-      decoded = x.2;
-      good = x.4;
+      decoded = x.1;
+      good = x.3;
       further = more.1;
-      these = ok_injective (sym e ∙ cluster_step k b x.0 x.1 s more.0 x.2 x.3 more.1);
+      these = ok_injective (sym e ∙ cluster_step k b x.0 s more.0 x.1 x.2 more.1);
     }
 
 -- a letter's character stands at its place, and its rest is a part of the name
 pub record LetterOf (name : List ℕ) (x : Letter) : Type 0 where
   pub size : ℕ
-  pub decoded : decode_at name x.place ≡ Char x.character size
+  pub decoded : decode_at name x.place ≡ Some (record { value = x.character; size = size })
   pub fewer : length x.rest ≤ length name
 
 module _ (name : List ℕ) where
@@ -72,7 +71,7 @@ module _ (name : List ℕ) where
   letters_from_lem (suc skip) k (b ∷ s) ls d w e = letters_from_lem skip (suc k) s ls (next k b s d) w e
   letters_from_lem zero k (b ∷ s) ls d w e =
       let x = first_letter k b s ls w e in
-      let n = x.size in
+      let n = x.character.size in
       let few : length (drop n (b ∷ s)) ≤ length name = omega (arith, length-drop n (b ∷ s), ap length d, length-drop k name) in
       rw x.these (
         record { size = n; decoded = rw d x.decoded; fewer = few },
@@ -95,12 +94,12 @@ pub alone : (b : ℕ) (s : List ℕ) (x : Letter) → well_formed (b ∷ s) ≡ 
 unfolding well_formed null decode_at
 alone b s x w e =
     let f = first_letter 0 b s (x ∷ []) w e in
-    let n = f.size in
+    let n = f.character.size in
     let ended : f.later ≡ [] = cc f.these in
     let over = none_left (n - 1) 1 s f.good (rw ended at f.further) in
-    let some = (character (b ∷ s) 0 f.character n f.decoded).some in
+    let some = (character (b ∷ s) 0 f.character f.decoded).some in
     let past : length (b ∷ s) ≤ n = omega arith in
-    let same : x ≡ record { character = f.character; place = 0; rest = drop n (b ∷ s) } = cc f.these in
+    let same : x ≡ record { character = f.character.value; place = 0; rest = drop n (b ∷ s) } = cc f.these in
     rw (same, drop_of_length-le (b ∷ s) past)
 
 -- ---- the name of an argument

@@ -10,8 +10,8 @@ use lib.Dec.{leb}
 use lib.ListN.{length, length-append, length-drop, drop, replicate}
 use borrow.Author.Tests.{eq-eqb, ne_eqb, le-leb, le-ltb, leb-true, leb-false}
 use Rattle.utf8.specs.Utf8.{table, holds, fits, lead_bits, continued, scalar, decode_by, decode, well_formed}
-use Rattle.utf8.specs.declared.Decoded.{Decoded}
-use Rattle.utf8.specs.declared.Decoded.TheVariants.{Char, Bad}
+use Rattle.std.specs.Prelude.{Option as CodeOption, Some, None}
+use Rattle.utf8.specs.declared.Char.{Char}
 use Rattle.rules.specs.Base.{null, same, slice_from}
 use Rattle.rules.specs.Outcome.{Outcome, ok, refused, fault, at, ◌>>=◌, disambiguate_short207}
 use Rattle.rules.specs.Sheet.{arguments}
@@ -108,9 +108,9 @@ module _ (b k : ℕ) (s : List ℕ) (x y : Letter) (ys : List Letter) where
   unfolding cluster_from slice_from
   first_rest e = go (decode (b ∷ s)) refl
     where
-      go : (d : Decoded) → decode (b ∷ s) ≡ d → null x.rest ≡ false
-      go Bad g = absurd (let bad = rw (g, cluster_from) at e in let z : ◌≡◌ {A = ℕ} 0 1 = cc in omega arith)
-      go (Char c n) g = character_rest c n (leb n (length (b ∷ s))) refl (cluster_from (n - 1) (suc k) s) refl (rw (g, cluster_from) at e)
+      go : (d : CodeOption Char) → decode (b ∷ s) ≡ d → null x.rest ≡ false
+      go None g = absurd (let bad = rw (g, cluster_from) at e in let z : ◌≡◌ {A = ℕ} 0 1 = cc in omega arith)
+      go (Some c) g = character_rest c.value c.size (leb c.size (length (b ∷ s))) refl (cluster_from (c.size - 1) (suc k) s) refl (rw (g, cluster_from) at e)
 
 pub known_passed :
     (l : Letters) (before : List ℕ) (known : List Letter) (u : Letter) (rest : List Letter)
@@ -224,7 +224,7 @@ last_place_lem f s before os x args e m a few h =
     }
 
 -- ---- n times the same letter
-ascii : (b : ℕ) (s : List ℕ) → b < 128 → decode (b ∷ s) ≡ Char b 1
+ascii : (b : ℕ) (s : List ℕ) → b < 128 → decode (b ∷ s) ≡ Some (record { value = b; size = 1 })
 unfolding decode decode_by table fits holds scalar continued lead_bits
 ascii b s h = rw (le-leb 0 b (omega arith), le-leb b 127 (omega arith), let small : b % 128 ≡ b = omega (arith, mod_fact b 128) in small)
 
@@ -243,9 +243,9 @@ module _ (v x : ℕ) where
   these_letters : v < 128 → x < 128 → (n k : ℕ) → cluster_from 0 k (name_of n) ≡ ok (letters_v n k ++ (letter_x (k + n) ∷ []))
   unfolding letters_v cluster_from
   these_letters a b zero k =
-      cluster_step k x x 1 [] [] (ascii x [] b) (omega arith) refl ∙ ap (λ (i : ℕ). ok (letter_x i ∷ [])) (omega arith)
+      cluster_step k x (record { value = x; size = 1 }) [] [] (ascii x [] b) (omega arith) refl ∙ ap (λ (i : ℕ). ok (letter_x i ∷ [])) (omega arith)
   these_letters a b (suc n) k =
-      cluster_step k v v 1 (name_of n) _ (ascii v (name_of n) a) (omega arith) (these_letters a b n (suc k))
+      cluster_step k v (record { value = v; size = 1 }) (name_of n) _ (ascii v (name_of n) a) (omega arith) (these_letters a b n (suc k))
       ∙ ap (λ (i : ℕ). ok (letters_v (suc n) k ++ (letter_x i ∷ []))) (omega arith)
 
   letters_long : (n k : ℕ) → length (letters_v n k) ≡ n

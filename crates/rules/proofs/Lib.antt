@@ -73,3 +73,4 @@ pub mod WithdrawLaws
 pub mod Withdraws
 pub mod WhyLaws
 pub mod WhyHolds
+pub mod ReportedLaws

@@ -13,8 +13,8 @@ use lib.ListN.{length, drop, length-append}
 use borrow.Author.Tests.{eq-eqb, eqb-true, le-leb, lt-ltb, ltb-false}
 use Rattle.utf8.specs.Utf8.{decode, decode_at, well_formed, well_formed_after}
 use Rattle.utf8.specs.Laws.{character}
-use Rattle.utf8.specs.declared.Decoded.{Decoded}
-use Rattle.utf8.specs.declared.Decoded.TheVariants.{Char, Bad}
+use Rattle.std.specs.Prelude.{Option as CodeOption, Some, None}
+use Rattle.utf8.specs.declared.Char.{Char}
 use Rattle.rules.specs.Base.{null, same, slice_from, concat_map}
 use Rattle.rules.specs.Outcome.{Outcome, ok, refused, fault, ◌>>=◌, at, Refusal, refuse}
 use Rattle.rules.specs.Sheet.{arguments}
@@ -39,25 +39,25 @@ use Rattle.rules.proofs.StepLaws.{Within, Remains, construct_good}
 pub letter_ok :
     (b : ℕ) (s : List ℕ)
     → well_formed_after 0 (b ∷ s) ≡ true
-    → (c : ℕ) × (n : ℕ) × (decode (b ∷ s) ≡ Char c n) × (n ≤ length (b ∷ s)) × (well_formed_after (n - 1) s ≡ true)
+    → (c : Char) × (decode (b ∷ s) ≡ Some c) × (c.size ≤ length (b ∷ s)) × (well_formed_after (c.size - 1) s ≡ true)
 unfolding well_formed_after decode_at
 letter_ok b s w = go (decode (b ∷ s)) refl
   where
     go :
-        (d : Decoded)
+        (d : CodeOption Char)
         → decode (b ∷ s) ≡ d
-        → (c : ℕ) × (n : ℕ) × (decode (b ∷ s) ≡ Char c n) × (n ≤ length (b ∷ s)) × (well_formed_after (n - 1) s ≡ true)
-    go Bad e = absurd (false≢true (rw e at w))
-    go (Char c n) e = (c, n, e, rw zero-add at (character (b ∷ s) 0 c n e).within, rw e at w)
+        → (c : Char) × (decode (b ∷ s) ≡ Some c) × (c.size ≤ length (b ∷ s)) × (well_formed_after (c.size - 1) s ≡ true)
+    go None e = absurd (false≢true (rw e at w))
+    go (Some c) e = (c, e, rw zero-add at (character (b ∷ s) 0 c e).within, rw e at w)
 
 pub cluster_step :
-    (k b c n : ℕ) (s : List ℕ) (ls : List Letter)
-    → decode (b ∷ s) ≡ Char c n
-    → n ≤ length (b ∷ s)
-    → cluster_from (n - 1) (suc k) s ≡ ok ls
-    → cluster_from 0 k (b ∷ s) ≡ ok (record { character = c; place = k; rest = drop n (b ∷ s) } ∷ ls)
+    (k b : ℕ) (c : Char) (s : List ℕ) (ls : List Letter)
+    → decode (b ∷ s) ≡ Some c
+    → c.size ≤ length (b ∷ s)
+    → cluster_from (c.size - 1) (suc k) s ≡ ok ls
+    → cluster_from 0 k (b ∷ s) ≡ ok (record { character = c.value; place = k; rest = drop c.size (b ∷ s) } ∷ ls)
 unfolding cluster_from slice_from at ◌>>=◌
-cluster_step k b c n s ls e h r = rw (e, cluster_from, le-leb n (length (b ∷ s)) h, r)
+cluster_step k b c s ls e h r = rw (e, cluster_from, le-leb c.size (length (b ∷ s)) h, r)
 
 pub cluster_ok : (skip k : ℕ) (s : List ℕ) → well_formed_after skip s ≡ true → (ls : List Letter) × (cluster_from skip k s ≡ ok ls)
 unfolding well_formed_after cluster_from
@@ -65,8 +65,8 @@ cluster_ok skip k [] w = ([], refl)
 cluster_ok (suc skip) k (b ∷ s) w = cluster_ok skip (suc k) s w
 cluster_ok zero k (b ∷ s) w =
     let x = letter_ok b s w in
-    let ls = cluster_ok (x.1 - 1) (suc k) s x.4 in
-    (_, cluster_step k b x.0 x.1 s ls.0 x.2 x.3 ls.1)
+    let ls = cluster_ok (x.0.size - 1) (suc k) s x.3 in
+    (_, cluster_step k b x.0 s ls.0 x.1 x.2 ls.1)
 
 -- ---- one argument
 
@@ -214,7 +214,7 @@ short_grouped l os b s none w =
     }
 short_grouped l os b s (some v) w =
     let x = letter_ok b s w in
-    rw (x.2, short_group) (plain_grouped os (Short x.0 true os ∷ ArgWord v ∷ []))
+    rw (x.1, short_group) (plain_grouped os (Short x.0.value true os ∷ ArgWord v ∷ []))
 
 long_grouped : (os n : List ℕ) (body : Option (List ℕ)) → Grouped os false (ok (long_group os n body))
 unfolding long_group

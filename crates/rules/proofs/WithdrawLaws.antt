@@ -11,8 +11,8 @@ use lib.Dec.{leb}
 use lib.ListN.{length}
 use borrow.Author.Tests.{le-leb}
 use Rattle.utf8.specs.Utf8.{decode, decode_at, well_formed}
-use Rattle.utf8.specs.declared.Decoded.{Decoded}
-use Rattle.utf8.specs.declared.Decoded.TheVariants.{Char, Bad}
+use Rattle.std.specs.Prelude.{Option as CodeOption, Some, None}
+use Rattle.utf8.specs.declared.Char.{Char}
 use Rattle.rules.specs.Base.{null, contains, ◌>>?◌}
 use Rattle.rules.specs.Outcome.{Outcome, ok, refused, fault, ◌>>=◌}
 use Rattle.rules.specs.Accept.{Letters}
@@ -183,7 +183,7 @@ has_unknown l os h =
 pub record Stopped (l : Letters) (os : List ℕ) (w : Withdrawn l os) : Type 0 where
   pub flags : FlagsThenUnknown l os
   pub size : ℕ
-  pub decoded : decode_at w.name w.place ≡ Char flags.character size
+  pub decoded : decode_at w.name w.place ≡ Some (record { value = flags.character; size = size })
 
 pub stopped : (l : Letters) (os : List ℕ) (w : Withdrawn l os) → Stopped l os w
 unfolding outcome_of well_formed ◌>>=◌
@@ -217,12 +217,12 @@ stopped l os w =
         unknown = b;
       };
       size = letter.size;
-      decoded = ap (decode_at name) (sym u.here) ∙ letter.decoded ∙ ap (λ (c : ℕ). Char c letter.size) b.letter;
+      decoded = ap (decode_at name) (sym u.here) ∙ letter.decoded ∙ ap (λ (c : ℕ). let d : Char = record { value = c; size = letter.size } in Some d) b.letter;
     }
 
 pub withdrawn_letter :
     (l : Letters) (os : List ℕ) (w : Withdrawn l os)
-    → (c n : ℕ) × (decode_at w.name w.place ≡ Char c n) × ((cluster_letters os >>? first_unknown l) ≡ some c)
+    → (c n : ℕ) × (decode_at w.name w.place ≡ Some (record { value = c; size = n })) × ((cluster_letters os >>? first_unknown l) ≡ some c)
 withdrawn_letter l os w =
     let s = stopped l os w in
     let c = s.flags.character in
@@ -290,9 +290,9 @@ module _ (l : Letters) (os t : List ℕ) where
   unfolding short_group plain
   value_no_word name v e = go (decode name) refl
     where
-      go : (d : Decoded) → decode name ≡ d → ⊥
-      go Bad h = let bad = rw (h, short_group) at e in let z : ◌≡◌ {A = ℕ} 0 1 = cc in omega arith
-      go (Char c n) h = let items = plain_items (plain _) (Word t ∷ []) (rw (h, short_group) at e) in let z : ◌≡◌ {A = ℕ} 0 1 = cc in omega arith
+      go : (d : CodeOption Char) → decode name ≡ d → ⊥
+      go None h = let bad = rw (h, short_group) at e in let z : ◌≡◌ {A = ℕ} 0 1 = cc in omega arith
+      go (Some c) h = let items = plain_items (plain _) (Word t ∷ []) (rw (h, short_group) at e) in let z : ◌≡◌ {A = ℕ} 0 1 = cc in omega arith
 
   parts_word :
       (y : ArgType) (n : List ℕ) (b : Option (List ℕ))

@@ -132,7 +132,7 @@ module _ (l : Letters) (os : List ℕ) where
       let x = cluster_ok 0 0 (b ∷ s) w in
       let below = letters_below (b ∷ s) (h refl) x.0 (letters_of_lem (b ∷ s) x.0 w x.1) in
       rw x.1 (cluster_are (disambiguate_short l x.0) (cluster_below x.0 below))
-  short_are b s (some v) w h = let x = letter_ok b s w in rw (x.2, short_group) (λ e a. (tt, (tt, refl)))
+  short_are b s (some v) w h = let x = letter_ok b s w in rw (x.1, short_group) (λ e a. (tt, (tt, refl)))
 
   name_below : (name : List ℕ) → NameShape os name → length name < length os
   name_below name h = let n = ap length h.all in let m = ap length h.bytes in omega arith

@@ -1,8 +1,7 @@
 -- The form: header of counts, field numbers, nodes of 16 bytes, names of 6 bytes, the area.
-use Rattle.std.specs.Prelude.{Bool, true, false, not, ◌&&◌, ◌||◌, List, map, ℕ, ◌+◌, ◌*◌, leb, eqb, length, take, drop, if◌then◌else◌}
+use Rattle.std.specs.Prelude.{Bool, true, false, not, ◌&&◌, ◌||◌, List, map, ℕ, ◌+◌, ◌*◌, leb, eqb, length, take, drop, if◌then◌else◌, Some, None}
 use Rattle.std.proofs.Math.Option.{Option, some, none}
 use Rattle.utf8.specs.Utf8.{decode, well_formed}
-use Rattle.utf8.specs.declared.Decoded.TheVariants.{Char, Bad}
 use Rattle.wire.specs.Wire.{number_at}
 use Rattle.rules.specs.Base.{all, is_some, numbers}
 
@@ -90,7 +89,7 @@ name_bytes a x = take x.size (drop x.offset a)
 
 -- the one character that the bytes are
 unfoldable pub one_character : List ℕ → Option ℕ
-one_character s = elim (decode s) [ Bad ↦ none | Char c n ↦ if eqb n (length s) then some c else none ]
+one_character s = elim (decode s) [ None ↦ none | Some c ↦ if eqb c.size (length s) then some c.value else none ]
 
 -- types: 0 short (exactly one UTF-8 character), 1 long (UTF-8, may be empty), 2 text (arbitrary bytes)
 unfoldable pub type_good : ℕ → List ℕ → Bool

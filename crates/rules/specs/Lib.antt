@@ -34,3 +34,4 @@ pub mod Portable
 pub mod Clusters
 pub mod Missing
 pub mod Marks
+pub mod Reported

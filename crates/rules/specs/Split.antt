@@ -1,9 +1,8 @@
 -- Splitting: from arguments to items.
-use Rattle.std.specs.Prelude.{Bool, true, false, ℕ, zero, suc, ◌+◌, ◌-◌, eqb, ltb, length, if◌then◌else◌}
+use Rattle.std.specs.Prelude.{Bool, true, false, ℕ, zero, suc, ◌+◌, ◌-◌, eqb, ltb, length, if◌then◌else◌, Some, None}
 use mathlib.Core.List.{List, [], ◌∷◌, ◌++◌, flatten}
 use Rattle.std.proofs.Math.Option.{Option, some, none}
 use Rattle.utf8.specs.Utf8.{decode, well_formed}
-use Rattle.utf8.specs.declared.Decoded.TheVariants.{Char, Bad}
 use Rattle.rules.specs.Base.{null, contains, same, slice_from, concat_map}
 use Rattle.rules.specs.Outcome.{Outcome, ok, fault, panic, ◌>>=◌, at, split_os_argument185, disambiguate_short207, construct361}
 use Rattle.rules.specs.Accept.{Letters}
@@ -85,10 +84,10 @@ cluster_from skip k [] = ok []
 cluster_from (suc skip) k (b ∷ s) = cluster_from skip (suc k) s
 cluster_from zero k (b ∷ s) =
     elim (decode (b ∷ s)) [
-      | Bad ↦ fault (panic disambiguate_short207)
-      | Char c n ↦ at disambiguate_short207 (slice_from n (b ∷ s)) >>= λ rest.
-          cluster_from (n - 1) (suc k) s >>= λ ls.
-          ok (record { character = c; place = k; rest = rest } ∷ ls)
+      | None ↦ fault (panic disambiguate_short207)
+      | Some c ↦ at disambiguate_short207 (slice_from c.size (b ∷ s)) >>= λ rest.
+          cluster_from (c.size - 1) (suc k) s >>= λ ls.
+          ok (record { character = c.value; place = k; rest = rest } ∷ ls)
     ]
 
 -- The outcome of a cluster, known before anything is written. Each holds the flags' letters before it.
@@ -161,7 +160,7 @@ cluster_group os c = record { items = cluster_items os c; ambiguous = ambiguous_
 unfoldable pub short_group : Letters → List ℕ → List ℕ → Option (List ℕ) → Outcome Group
 short_group l os n none = cluster_from 0 0 n >>= λ ls. ok (cluster_group os (disambiguate_short l ls))
 short_group l os n (some v) =
-    elim (decode n) [ Bad ↦ fault (panic construct361) | Char c k ↦ ok (plain (Short c true os ∷ ArgWord v ∷ [])) ]
+    elim (decode n) [ None ↦ fault (panic construct361) | Some c ↦ ok (plain (Short c.value true os ∷ ArgWord v ∷ [])) ]
 
 unfoldable pub long_group : List ℕ → List ℕ → Option (List ℕ) → Group
 long_group os n none = plain (Long n false os ∷ [])

@@ -95,9 +95,9 @@ module _ (l : Letters) (os : List ℕ) where
   unfolding short_group cluster_group well_formed plain is_name ◌>>=◌
   short_begins b s none w =
       let x = letter_ok b s w in
-      let more = cluster_ok (x.1 - 1) 1 s x.4 in
-      rw (cluster_step 0 b x.0 x.1 s more.0 x.2 x.3 more.1) (cluster_begins _ more.0)
-  short_begins b s (some v) w = let x = letter_ok b s w in rw (x.2, short_group) (λ _. option (Short x.0 true os) _ refl)
+      let more = cluster_ok (x.0.size - 1) 1 s x.3 in
+      rw (cluster_step 0 b x.0 s more.0 x.1 x.2 more.1) (cluster_begins _ more.0)
+  short_begins b s (some v) w = let x = letter_ok b s w in rw (x.1, short_group) (λ _. option (Short x.0.value true os) _ refl)
 
   group_begins : same os dashes ≡ false → GroupBegins (split_argument l os)
   unfolding split_argument parts_group word_group plain ◌>>=◌

@@ -115,8 +115,8 @@ module _ (s : List ℕ) (ni na nl : ℕ) (f : ℕ) (t : f ≡ sheet_fault s) whe
 -- ---- and of the form
 module _ (b s : List ℕ) (ni na nl : ℕ) (r : Refused) (e : r ≡ check_code (check_form b)) where
   -- 1 to 4
-  pub form_refused : (r.number ≡ 0 → ⊥) → InputTested b s ni na nl r
-  form_refused z = go (check_form b) refl
+  pub form_refused : (r.number ≡ 0 → ⊥) → r.place < 4294967296 → InputTested b s ni na nl r
+  form_refused z small = go (check_form b) refl
     where
       go : (c : Tested Accepted) → check_form b ≡ c → InputTested b s ni na nl r
       go (accepted a) g = absurd (z (ap (λ (y : Refused). y.number) (e ∙ ap check_code g)))
@@ -124,6 +124,7 @@ module _ (b s : List ℕ) (ni na nl : ℕ) (r : Refused) (e : r ≡ check_code (
           rw (e ∙ ap check_code g) (record {
             good = λ y. absurd (z (ap (λ (y : Refused). y.number) (e ∙ ap check_code g) ∙ y));
             bad = λ _. run_form b s ni m k g na nl ∙ ap (λ (j : Option ℕ). ok (refused_input ni na nl m j)) (sym (place_code_lem k));
+            small = omega (arith, small, ap (λ (y : Refused). y.place) (e ∙ ap check_code g));
           })
 
   module _ (z : r.number ≡ 0) where
@@ -147,6 +148,7 @@ module _ (b s : List ℕ) (ni na nl : ℕ) (r : Refused) (e : r ≡ check_code (
                 entries = omega (arith, f.list, k);
               };
           bad = λ y. line_bad n (t.bad y);
+          small = omega arith;
         })
 
 -- refused, with what the slices then hold

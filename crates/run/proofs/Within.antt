@@ -11,8 +11,8 @@ use borrow.Author.Tests.{leb-true}
 use lib.ListN.{length, take, drop, length-drop}
 use lib.Seq.{drop-drop, drop-length, take-length}
 use Rattle.utf8.specs.Utf8.{decode, well_formed}
-use Rattle.utf8.specs.declared.Decoded.{Decoded}
-use Rattle.utf8.specs.declared.Decoded.TheVariants.{Char, Bad}
+use Rattle.std.specs.Prelude.{Option as CodeOption, Some, None}
+use Rattle.utf8.specs.declared.Char.{Char}
 use Rattle.rules.specs.Base.{null, same, contains, slice_from}
 use Rattle.rules.specs.Outcome.{Outcome, ok, refused, fault, ◌>>=◌, at, Spot}
 use Rattle.rules.specs.Accept.{Letters}
@@ -157,16 +157,16 @@ rests_in (suc skip) k (b ∷ s) ls e =
 rests_in zero k (b ∷ s) ls e = go (decode (b ∷ s)) refl (λ n ks. rests_in (n - 1) (suc k) s ks)
   where
     go :
-        (d : Decoded)
+        (d : CodeOption Char)
         → decode (b ∷ s) ≡ d
         → ((n : ℕ) (ks : List Letter) → cluster_from (n - 1) (suc k) s ≡ ok ks → All (RestIn s) ks)
         → All (RestIn (b ∷ s)) ls
-    go Bad h later = absurd (let z : fault _ ≡ ok ls = rw (h, cluster_from) at e in let y : ◌≡◌ {A = ℕ} 0 1 = cc in omega arith)
-    go (Char c n) h later =
+    go None h later = absurd (let z : fault _ ≡ ok ls = rw (h, cluster_from) at e in let y : ◌≡◌ {A = ℕ} 0 1 = cc in omega arith)
+    go (Some c) h later =
         let (t, p, q) = bind_ok _ _ (rw (h, cluster_from) at e) in
         let (ks, u, v) = bind_ok _ _ q in
         subst (All (RestIn (b ∷ s))) (ok_injective v)
-        (slice_suffix n (b ∷ s) _ t p, All-map (RestIn s) (RestIn (b ∷ s)) (λ x. later_suffix b x.rest s) ks (later n ks u))
+        (slice_suffix c.size (b ∷ s) _ t p, All-map (RestIn s) (RestIn (b ∷ s)) (λ x. later_suffix b x.rest s) ks (later c.size ks u))
 
 -- the rest behind an argument's letter lies in the name
 abbrev ClusterIn : List ℕ → Cluster → Type 0
@@ -229,9 +229,9 @@ short_group_in l os n none g h e =
     (cluster_in os n (disambiguate_short l ls) h (short_cluster_in n l ls (rests_in 0 0 n ls p)))
 short_group_in l os n (some v) g h e = go (decode n) refl
   where
-    go : (d : Decoded) → decode n ≡ d → Holds os g
-    go Bad k = absurd (let z : fault _ ≡ ok g = rw (k, short_group) at e in let y : ◌≡◌ {A = ℕ} 0 1 = cc in omega arith)
-    go (Char c i) k = subst (Holds os) (ok_injective (rw (k, short_group) at e)) (all_suffix os, (h, tt))
+    go : (d : CodeOption Char) → decode n ≡ d → Holds os g
+    go None k = absurd (let z : fault _ ≡ ok g = rw (k, short_group) at e in let y : ◌≡◌ {A = ℕ} 0 1 = cc in omega arith)
+    go (Some c) k = subst (Holds os) (ok_injective (rw (k, short_group) at e)) (all_suffix os, (h, tt))
 
 long_group_in : (os n : List ℕ) (b : Option (List ℕ)) → NameIn os long b n → Holds os (long_group os n b)
 unfolding long_group plain

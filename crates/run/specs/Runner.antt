@@ -99,6 +99,7 @@ pub record InputTested (form sheet : List ℕ) (ni na nl : ℕ) (r : Refused) : 
   pub good : r.number ≡ 0 → (items answers list : List ℕ) → length items ≡ ni → length answers ≡ na → length list ≡ nl
       → CheckedInput form sheet items answers list
   pub bad : (r.number ≡ 0 → ⊥) → run form sheet ni na nl ≡ ok (refused_input ni na nl r.number (place_of r.place))
+  pub small : r.place < 4294967296
 
 -- the items of an accepted form's line, the codes of its names, a state over the items, the number of the first field, an answer
 -- slice of zeros and a list with room

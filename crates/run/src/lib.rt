@@ -1,7 +1,7 @@
 // The run: from a form and a sheet to values or a refusal. It asks nothing of its input.
 #![tactic(auto)]
 
-ghost use Rattle.std.specs.Prelude.{◌≡◌, ◌≤◌, length, replicate};
+ghost use Rattle.std.specs.Prelude.{◌≡◌, ◌≤◌, ◌<◌, ◌^◌, length, replicate};
 ghost use Rattle.std.proofs.Math.Option.{some};
 ghost use Rattle.rules.specs.Outcome.{ok};
 ghost use Rattle.rules.specs.Sheet.{sheet_area};
@@ -9,42 +9,31 @@ ghost use Rattle.rules.specs.Accept.{Accepted, accepted, check_form};
 ghost use Rattle.rules.specs.Run.{refused_input};
 ghost use Rattle.rules.specs.Run as Run;
 ghost use Rattle.rules.specs.Codes.{place_of};
+ghost use Rattle.rules.specs.Reported.{place_told, told, tested, reported};
 ghost use Rattle.split_args.specs.Construct.{Unmarked};
 ghost use Rattle.run_fields.specs.Line.{Starts};
 ghost use Rattle.run.specs.Runner.{run_answer, ended, answer_of, CheckedInput, AfterSplit, InputTested, LineTested, ItemsBegin, RunsListed};
 
 use eval_missing::{MISSING, MISSING_WORDS};
-use rules::Refused;
+use eval_told::Line;
+use rules::{Refusal, RefusedAt};
 use run_fields::{ANSWER_WORDS, Reached, RunAnswer};
 use split_arg::ITEM_WORDS;
 use split_args::Ended;
 use state_marks::Numbers;
-use wire::wide;
-
-// The refusals of an item or answer slice that is too short, and of such a list.
-const SHORT_SLICE: u32 = 7;
-
-const SHORT_LIST: u32 = 14;
 
 // The words of a table for a line with fewer items than this.
 const FEW_WORDS: usize = 32;
 
-// A refusal at no place.
-fn refusal(number: u32) -> Refused
-    ensures { result ≡ record { number = number; place = 0 } }
-{
-    Refused { number, place: 0 }
-}
-
 // Refused because of the input: all three slices all 0, an empty state.
 pub fn refused_input(
-    number: u32,
-    place: u32,
+    fault: RefusedAt,
     items: &mut [u32],
     answers: &mut [u32],
     list: &mut [u32],
 ) -> Reached
-    ensures { run_answer (ok (refused_input (length items.old) (length answers.old) (length list.old) number (place_of place))) ≡ ended (answer_of result (replicate 256 0)) items.new answers.new list.new }
+    requires { place_told fault.place < 2 ^ 32 }
+    ensures { run_answer (ok (refused_input (length items.old) (length answers.old) (length list.old) (told fault).number (place_of (told fault).place))) ≡ ended (answer_of result (replicate 256 0)) items.new answers.new list.new }
 {
     wire::fill(items, 0, items.len(), 0);
     wire::fill(answers, 0, answers.len(), 0);
@@ -56,37 +45,27 @@ pub fn refused_input(
         start: 0,
         end: 0,
     };
-    run_fields::refused(number, place, 0, 0, none)
-}
-
-// A table of which nodes each item matches, as yet empty, for a line of at most 31 items: 256 bytes to clear, not 2,056.
-fn little_known() -> [u64; FEW_WORDS]
-    ensures { result ≡ replicate 32 0 }
-{
-    [0u64; FEW_WORDS]
+    let answer = fault.told();
+    run_fields::refused(answer.number, answer.place, 0, 0, none)
 }
 
 // The fields over the table of which nodes each item matches. Refused with 20, the list tells what the refused field lacks.
 fn run_known(
-    form: &[u8],
-    known: &[u64],
-    sheet: &[u8],
-    items: &[u32],
+    line: &Line,
     marks: &mut [u16; 256],
     p: Numbers,
     first: usize,
     answers: &mut [u32],
     list: &mut [u32],
 ) -> Reached
-    requires { Starts form.now known.now sheet.now items.now marks.old p first answers.old × (192 ≤ length list.old) }
-    ensures { (a : Accepted) → check_form form.now ≡ accepted a → RunsListed (sheet_area sheet.now) items.now first a.fields marks.old p marks.new answers.old answers.new list.old list.new result }
+    requires { Starts line.now.form.now line.now.known.now line.now.sheet.now line.now.items.now marks.old p first answers.old × (192 ≤ length list.old) }
+    ensures { (a : Accepted) → check_form line.now.form.now ≡ accepted a → RunsListed (sheet_area line.now.sheet.now) line.now.items.now first a.fields marks.old p marks.new answers.old answers.new list.old list.new result }
 {
-    let all = run_fields::run_fields(form, known, sheet, items, marks, p, first, answers);
+    let all = run_fields::run_fields(line, marks, p, first, answers);
     if all.number == MISSING {
-        let node = form_layout::field_at(form, all.field);
+        let node = form_layout::field_at(line.form, all.field);
         let mark = state_marks::field_mark(first + all.field);
-        let left = all.numbers;
-        eval_missing::list_missing(form, known, sheet, items, marks, left, node, list, mark);
+        eval_missing::list_missing(line, marks, all.numbers, node, list, mark);
     }
     all
 }
@@ -107,15 +86,27 @@ pub fn run_items(
     requires { ItemsBegin form.now codes.now sheet.now items.now marks.old p first answers.old list.old }
     ensures { (a : Accepted) → check_form form.now ≡ accepted a → RunsListed (sheet_area sheet.now) items.now first a.fields marks.old p marks.new answers.old answers.new list.old list.new result }
 {
-    let count = wide(p.count);
+    let count = p.count as usize;
     if count < FEW_WORDS {
-        let mut few = little_known();
+        let mut few = [0u64; FEW_WORDS]; // 256 bytes to clear, not 2,056
         take_table::known(form, codes, sheet, items, count, &mut few);
-        return run_known(form, &few, sheet, items, marks, p, first, answers, list);
+        let line = Line {
+            form,
+            known: &few,
+            sheet,
+            items,
+        };
+        return run_known(&line, marks, p, first, answers, list);
     }
     let mut known = run_fields::nothing_known();
     take_table::known(form, codes, sheet, items, count, &mut known);
-    run_known(form, &known, sheet, items, marks, p, first, answers, list)
+    let line = Line {
+        form,
+        known: &known,
+        sheet,
+        items,
+    };
+    run_known(&line, marks, p, first, answers, list)
 }
 
 // A line that was split, over marks, an answer slice and a list that are 0: splitting's refusal, or the fields on the state that the
@@ -160,35 +151,33 @@ fn run_checked(
     run_split(form, &codes, sheet, items, answers, list, marks, split)
 }
 
-// Refusals 6, 5, 7, then 14, in this order, of a sheet and the lengths of the slices; 0 if there is none.
-pub fn line_fault(sheet: &[u8], items: usize, answers: usize, list: usize) -> u32
-    ensures { LineTested sheet.now items answers list result }
+// The refusals of a sheet, then of slices of these lengths, and then of such a list.
+pub fn line_fault(sheet: &[u8], items: usize, answers: usize, list: usize) -> Result<(), Refusal>
+    ensures { LineTested sheet.now items answers list (tested result) }
 {
-    let fault = split_sheet::check(sheet);
-    if fault != 0 {
-        return fault;
-    }
-    if items < ITEM_WORDS {
-        return SHORT_SLICE;
-    }
-    if answers < ANSWER_WORDS {
-        return SHORT_SLICE;
+    split_sheet::check(sheet)?;
+    if items < ITEM_WORDS || answers < ANSWER_WORDS {
+        return Err(Refusal::ShortSlice);
     }
     if list < MISSING_WORDS {
-        return SHORT_LIST;
+        return Err(Refusal::ShortList);
     }
-    0
+    Ok(())
 }
 
-// The form's refusals, 1 to 4, before those of the line; number 0 if there is none.
-fn input_fault(form: &[u8], sheet: &[u8], items: usize, answers: usize, list: usize) -> Refused
-    ensures { InputTested form.now sheet.now items answers list result }
+// The form's refusals before those of the line.
+fn input_fault(
+    form: &[u8],
+    sheet: &[u8],
+    items: usize,
+    answers: usize,
+    list: usize,
+) -> Result<(), RefusedAt>
+    ensures { InputTested form.now sheet.now items answers list (reported result) }
 {
-    let checked = form_check::check(form);
-    if checked.number != 0 {
-        return checked;
-    }
-    refusal(line_fault(sheet, items, answers, list))
+    form_check::check(form)?;
+    line_fault(sheet, items, answers, list)?;
+    Ok(())
 }
 
 // The run over marks that are 0.
@@ -203,11 +192,10 @@ pub fn run_input(
     requires { Unmarked marks.old }
     ensures { run_answer (Run.run form.now sheet.now (length items.old) (length answers.old) (length list.old)) ≡ ended (answer_of result marks.new) items.new answers.new list.new }
 {
-    let tested = input_fault(form, sheet, items.len(), answers.len(), list.len());
-    if tested.number != 0 {
-        return refused_input(tested.number, tested.place, items, answers, list);
+    match input_fault(form, sheet, items.len(), answers.len(), list.len()) {
+        Ok(()) => run_checked(form, sheet, items, answers, list, marks),
+        Err(fault) => refused_input(fault, items, answers, list),
     }
-    run_checked(form, sheet, items, answers, list, marks)
 }
 
 // A form and a sheet, to items, answer words, a list of what is missing, and a state. The state is put together once, here.
@@ -222,12 +210,11 @@ pub fn run(
 {
     let mut marks = split_args::unmarked();
     let all = run_input(form, sheet, items, answers, list, &mut marks);
-    let left = all.numbers;
     RunAnswer {
         number: all.number,
         place: all.place,
         tries: all.tries,
         words: all.words,
-        state: state_marks::joined(marks, left),
+        state: state_marks::joined(marks, all.numbers),
     }
 }

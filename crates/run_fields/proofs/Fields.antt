@@ -2,12 +2,12 @@
 use mathlib.Core.Bool.{Bool, true, false, not}
 use mathlib.Core.List.{List, [], ◌∷◌}
 use mathlib.Core.Option.{some, some-injective, none-ne-some}
-use mathlib.Core.Logic.{◌⊎◌, inl, ⊎_elim}
+use mathlib.Core.Logic.{◌⊎◌, ⊎_elim}
 use mathlib.Core.Path.{◌≡◌, refl, sym, ap, ◌∙◌}
 use Prim.Native.Nat.{ℕ, zero, suc, ◌+◌, ◌≤◌, ◌<◌}
 use native.Mathlib.Omega.{arith}
 use lib.ListN.{length, get_elem?, replicate, length-replicate}
-use Rattle.rules.specs.Form.{Node, Form, node_count, field_count, read_form}
+use Rattle.rules.specs.Form.{Form, node_count, field_count, read_form}
 use Rattle.rules.specs.Tree.{Tree, kind_of}
 use Rattle.rules.specs.Accept.{Accepted, accepted, check_form, length_good, trees_at}
 use Rattle.rules.specs.Split.{Item}
@@ -85,14 +85,13 @@ module _
     pub field_leaf :
         (x : declared.Node)
         → get_elem? (read_form b).nodes n ≡ some (node_of x)
-        → (x.kind ≡ 1) ⊎ (x.kind ≡ 3)
+        → ((node_of x).kind ≡ 1) ⊎ ((node_of x).kind ≡ 3)
         → Scalar b known s words m p field.mark field.node
     field_leaf x h k =
-        let low : x.kind < 4 = ⊎_elim (λ (e : x.kind ≡ 1). omega arith) (λ (e : x.kind ≡ 3). omega arith) k in
-        let other : (x.kind ≡ 4) ⊎ (x.kind ≡ 9) → ⊥ = ⊎_elim (λ e. omega arith) (λ e. omega arith) in
+        let low : (node_of x).kind < 4 = ⊎_elim (λ e. omega arith) (λ e. omega arith) k in
         record {
           stands = f.stands;
-          scalar = sym (single_here b n f.stands.tree f.stands.node x h x.kind refl (inl low) other);
+          scalar = sym (single_here b n f.stands.tree f.stands.node x h (λ e. omega arith) (λ e. omega arith) (λ e. omega arith) (λ e. omega arith));
         }
 
 -- a value that is no list, written

@@ -3,7 +3,7 @@ use mathlib.Core.Bool.{Bool, true, false}
 use mathlib.Core.List.{List, [], ◌∷◌, ◌++◌, append-nil}
 use mathlib.Core.Option.{Option, some, none, some-injective}
 use mathlib.Core.Path.{◌≡◌, refl, sym, ap, ◌∙◌, subst}
-use Prim.Native.Nat.{ℕ, suc, ◌+◌, ◌-◌, ◌*◌, ◌≤◌, ◌<◌}
+use Prim.Native.Nat.{ℕ, suc, ◌+◌, ◌*◌, ◌≤◌, ◌<◌}
 use native.Mathlib.Nat.{zero-add, mul-le-mul}
 use native.Mathlib.Numerals.{add-one}
 use native.Mathlib.Omega.{arith}
@@ -30,7 +30,7 @@ use Rattle.rules.proofs.StepLaws.{remaining_within}
 use Rattle.rules.proofs.Fields.{most_leaves, field_parsed}
 use Rattle.rules.proofs.Places.{drop_below}
 use Rattle.rules.proofs.MissingLaws.{missing_told}
-use Rattle.rules.proofs.Steps.{Runs, most}
+use Rattle.rules.proofs.Steps.{Runs}
 use Rattle.state_marks.specs.declared.Numbers.{Numbers}
 use Rattle.state_marks.specs.Lent.{state_of}
 use Rattle.take_search.specs.States.{LeftState, Items}
@@ -214,9 +214,6 @@ module _ (b known s words m₀ : List ℕ) (p₀ : Numbers) (first : ℕ) (o₀ 
 
     pub field_inside : k < n → k < field_count b
     field_inside l = omega (arith, g.count)
-
-    pub going_step : k < n → k + 1 < 18446744073709551616
-    going_step l = omega (arith, few_fields b a e)
 
     -- the number of field k
     -- the mark of a field fits in 16 bits

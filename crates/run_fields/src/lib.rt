@@ -8,11 +8,11 @@ ghost use Rattle.run_fields.specs.Line.{Starts, FieldReady, PutValue, RunsFields
 ghost use Rattle.eval_list.specs.Lists.{WritesField, with_mark};
 
 use eval_list::Field;
-use eval_told::Ran;
+use eval_told::{Line, Ran};
+use form_layout::Kind;
 use rules::State;
 use state_marks::Numbers;
 use take_table::TABLE_WORDS;
-use wire::wide;
 
 // The most answer words that a run writes.
 pub const ANSWER_WORDS: usize = 8240;
@@ -51,51 +51,55 @@ fn put_value(out: &mut [u32], at: usize, ran: Ran) -> Ran
 
 // A node, whatever it is: the words of its value go to `out`, where all is 0.
 pub fn run_value(
-    form: &[u8],
-    known: &[u64],
-    sheet: &[u8],
-    items: &[u32],
+    line: &Line,
     marks: &mut [u16; 256],
     p: Numbers,
     field: Field,
     out: &mut [u32],
     mark: u16,
 ) -> Ran
-    requires { FieldReady form.now known.now sheet.now items.now marks.old p (with_mark field mark) out.old }
-    ensures { WritesField form.now sheet.now items.now (with_mark field mark) marks.old p marks.new out.old out.new result }
+    requires { FieldReady line.now.form.now line.now.known.now line.now.sheet.now line.now.items.now marks.old p (with_mark field mark) out.old }
+    ensures { WritesField line.now.form.now line.now.sheet.now line.now.items.now (with_mark field mark) marks.old p marks.new out.old out.new result }
 {
-    if eval_shortcut::is_list(form, field.node) {
-        return eval_list::run_list(form, known, sheet, items, marks, p, field, out, mark);
+    if eval_shortcut::is_list(line.form, field.node) {
+        return eval_list::run_list(line, marks, p, field, out, mark);
     }
-    let ran = eval_node::run_node(form, known, sheet, items, marks, p, field.node, mark);
+    let ran = eval_node::run_node(line, marks, p, field.node, mark);
     put_value(out, field.at, ran)
 }
 
 // One field. A flag or a positional is evaluated in place, which is quicker than the general run.
 fn run_field(
-    form: &[u8],
-    known: &[u64],
-    sheet: &[u8],
-    items: &[u32],
+    line: &Line,
     marks: &mut [u16; 256],
     p: Numbers,
     field: Field,
     out: &mut [u32],
     mark: u16,
 ) -> Ran
-    requires { FieldReady form.now known.now sheet.now items.now marks.old p (with_mark field mark) out.old }
-    ensures { WritesField form.now sheet.now items.now (with_mark field mark) marks.old p marks.new out.old out.new result }
+    requires { FieldReady line.now.form.now line.now.known.now line.now.sheet.now line.now.items.now marks.old p (with_mark field mark) out.old }
+    ensures { WritesField line.now.form.now line.now.sheet.now line.now.items.now (with_mark field mark) marks.old p marks.new out.old out.new result }
 {
-    let x = form_layout::node_at(form, field.node);
-    if x.kind == 1 {
-        let flag = eval_params::eval_flag(known, marks, p, field.node, x.r == 1, mark);
-        return put_value(out, field.at, flag);
+    let x = form_layout::node_at(line.form, field.node);
+    match x.kind {
+        Kind::Flag => {
+            let flag = eval_params::eval_flag(line.known, marks, p, field.node, x.r == 1, mark);
+            put_value(out, field.at, flag)
+        }
+        Kind::Positional => {
+            let operand = eval_params::eval_positional(
+                line.sheet,
+                line.items,
+                marks,
+                p,
+                x.p,
+                x.r == 2,
+                mark,
+            );
+            put_value(out, field.at, operand)
+        }
+        _ => run_value(line, marks, p, field, out, mark),
     }
-    if x.kind == 3 {
-        let operand = eval_params::eval_positional(sheet, items, marks, p, x.p, x.r == 2, mark);
-        return put_value(out, field.at, operand);
-    }
-    run_value(form, known, sheet, items, marks, p, field, out, mark)
 }
 
 pub fn refused(number: u32, place: u32, tries: u32, field: usize, numbers: Numbers) -> Reached
@@ -125,7 +129,7 @@ fn answered(tries: u32, words: usize, numbers: Numbers) -> Reached
     }
 }
 
-// A table of which nodes each item matches, as yet empty.
+// A table of which nodes each item matches, as yet empty. A literal with a contract, for `run` and `call_node`.
 pub fn nothing_known() -> [u64; TABLE_WORDS]
     ensures { result ≡ replicate 257 0 }
 {
@@ -134,37 +138,31 @@ pub fn nothing_known() -> [u64; TABLE_WORDS]
 
 // The fields in order, up to the first that is refused. Each is run on the state that the last one left.
 fn each_field(
-    form: &[u8],
-    known: &[u64],
-    sheet: &[u8],
-    items: &[u32],
+    line: &Line,
     marks: &mut [u16; 256],
     p: Numbers,
     first: usize,
     out: &mut [u32],
 ) -> Reached
-    requires { Starts form.now known.now sheet.now items.now marks.old p first out.old }
-    ensures { (a : Accepted) → check_form form.now ≡ accepted a → RunsFields (sheet_area sheet.now) items.now first a.fields marks.old p marks.new out.old out.new result }
+    requires { Starts line.now.form.now line.now.known.now line.now.sheet.now line.now.items.now marks.old p first out.old }
+    ensures { (a : Accepted) → check_form line.now.form.now ≡ accepted a → RunsFields (sheet_area line.now.sheet.now) line.now.items.now first a.fields marks.old p marks.new out.old out.new result }
 {
-    let n = form_layout::field_count(form);
+    let n = form_layout::field_count(line.form);
     let mut s = p;
-    let mut tries: u32 = 0;
+    let mut tries = 0;
     let mut at = 0;
-    let mut k = 0;
-    while k < n {
-        let node = form_layout::field_at(form, k);
+    for k in 0..n {
+        let node = form_layout::field_at(line.form, k);
         let mark = state_marks::field_mark(first + k);
         let field = Field { node, at };
-        let ran = run_field(form, known, sheet, items, marks, s, field, out, mark);
-        let left = ran.numbers;
-        tries = tries + ran.tries;
+        let ran = run_field(line, marks, s, field, out, mark);
+        tries += ran.tries;
         if ran.number != 0 {
             wire::fill(out, 0, at, 0);
-            return refused(ran.number, ran.place, tries, k, left);
+            return refused(ran.number, ran.place, tries, k, ran.numbers);
         }
-        s = left;
-        at = at + wide(ran.len);
-        k += 1;
+        s = ran.numbers;
+        at += ran.len as usize;
     }
     answered(tries, at, s)
 }
@@ -172,28 +170,25 @@ fn each_field(
 // These items in this state, whose numbers tell the scope, and these fields, of which the first has number `first`: then 27 at
 // the first present place that is left in scope. Refused, `out` is all 0 again.
 pub fn run_fields(
-    form: &[u8],
-    known: &[u64],
-    sheet: &[u8],
-    items: &[u32],
+    line: &Line,
     marks: &mut [u16; 256],
     p: Numbers,
     first: usize,
     out: &mut [u32],
 ) -> Reached
-    requires { Starts form.now known.now sheet.now items.now marks.old p first out.old }
-    ensures { (a : Accepted) → check_form form.now ≡ accepted a → RunsAll (sheet_area sheet.now) items.now first a.fields marks.old p marks.new out.old out.new result }
+    requires { Starts line.now.form.now line.now.known.now line.now.sheet.now line.now.items.now marks.old p first out.old }
+    ensures { (a : Accepted) → check_form line.now.form.now ≡ accepted a → RunsAll (sheet_area line.now.sheet.now) line.now.items.now first a.fields marks.old p marks.new out.old out.new result }
 {
-    let all = each_field(form, known, sheet, items, marks, p, first, out);
+    let all = each_field(line, marks, p, first, out);
     if all.number != 0 {
         return all;
     }
     let s = all.numbers;
-    let end = wide(s.end);
-    let place = state_marks::first_present(marks, wide(s.start), end);
+    let end = s.end as usize;
+    let place = state_marks::first_present(marks, s.start as usize, end);
     if end <= place {
         return all;
     }
-    wire::fill(out, 0, wide(all.words), 0);
+    wire::fill(out, 0, all.words as usize, 0);
     refused(27, place as u32 + 1, all.tries, 0, s)
 }

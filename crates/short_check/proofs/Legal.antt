@@ -1,38 +1,43 @@
 -- The tests of alphabet and sheet, as loops over what is left.
-use mathlib.Core.Path.{◌≡◌, refl, sym, ◌∙◌}
-use mathlib.Core.Bool.{Bool, true, false, not}
+use mathlib.Core.Path.{◌≡◌, sym, ◌∙◌}
+use mathlib.Core.Bool.{Bool, true, false, not, false≢true}
 use mathlib.Core.List.{List, ◌∷◌, map}
 use Prim.Native.Nat.{ℕ, suc, ◌+◌, ◌-◌, ◌≤◌, ◌<◌}
 use native.Mathlib.Numerals.{add-one}
 use native.Mathlib.Omega.{arith}
+use lib.Dec.{leb, eqb}
 use lib.ListN.{length, get_or, take, drop, length-drop, drop_of_length-le}
 use lib.Seq.{drop-cons, take_all}
 use borrow.Author.Tests.{le-leb, lt-leb, eq-eqb, ne_eqb, lt-ltb, le-ltb}
 use Rattle.wire.specs.Wire.{entry_of}
 use Rattle.rules.specs.Base.{all, contains, numbers}
-use Rattle.rules.specs.Accept.{index_of}
 use Rattle.rules.specs.Sheet.{argument_count, sheet_fault, arguments}
 use Rattle.rules.proofs.Formats.{counted}
 use Rattle.rules_short.specs.Short.{distinct, alphabet_good, argument_legal, arguments_legal, sheet_legal}
 use Rattle.split_sheet.specs.Checked.{HasArgument}
-use Rattle.short_check.proofs.Letters.{place_there, no_place}
+use Rattle.rules.specs.Reported.{tested}
+use Rattle.rules.specs.declared.Refusal.{Refusal}
+use Rattle.rules.proofs.ReportedLaws.{numbered}
+use Rattle.std.specs.Prelude.{Result, Ok, Err}
+use Rattle.std.specs.Result.{is_err}
+use Rattle.std.specs.List.{list_any, list_all}
+use Rattle.short_check.proofs.Letters.{any_is, all_there}
 use Rattle.short_check.specs.Tests.{input_fault}
 
 -- ---- the alphabet
 
-module _ (al : List ℕ) (i : ℕ) (same : distinct al ≡ distinct (drop i al)) (h : i < length al) (rest : List ℕ) (part : rest ≡ drop (i + 1) al) (p : ℕ)
-    (seek : p ≡ index_of (get_or al i 0) rest) where
-  pub byte_twice : p < length rest → false ≡ distinct al
-  unfolding distinct
-  byte_twice l =
-      let there : contains (drop (suc i) al) (get_or al i 0) ≡ true = rw (part, add-one i) at (place_there rest (get_or al i 0) (omega arith)) in
-      sym (same ∙ rw (drop-cons al i 0 h, there))
+module _ (al : List ℕ) (i : ℕ) (same : distinct al ≡ distinct (drop i al)) (h : i < length al) (rest : List ℕ) (part : rest ≡ drop (i + 1) al)
+    (t : Bool) (test : t ≡ list_any (λ y. eqb y (get_or al i 0)) rest) where
+  twice : t ≡ contains (drop (suc i) al) (get_or al i 0)
+  twice = test ∙ rw (part, add-one i) (any_is (get_or al i 0) (drop (suc i) al))
 
-  pub byte_once : length rest ≤ p → distinct al ≡ distinct (drop (i + 1) al)
+  pub byte_twice : t ≡ true → false ≡ distinct al
   unfolding distinct
-  byte_once l =
-      let none : contains (drop (suc i) al) (get_or al i 0) ≡ false = rw (part, add-one i) at (no_place rest (get_or al i 0) (omega arith)) in
-      same ∙ rw (drop-cons al i 0 h, none, add-one i)
+  byte_twice e = sym (same ∙ rw (drop-cons al i 0 h, ← twice, e))
+
+  pub byte_once : t ≡ false → distinct al ≡ distinct (drop (i + 1) al)
+  unfolding distinct
+  byte_once e = same ∙ rw (drop-cons al i 0 h, ← twice, e, add-one i)
 
 pub rest_is : (al : List ℕ) (i : ℕ) → take (length al - i) (drop i al) ≡ drop i al
 rest_is al i = take_all (length al - i) (drop i al) (omega (arith, length-drop i al))
@@ -41,49 +46,29 @@ pub all_once : (al : List ℕ) (i : ℕ) → distinct al ≡ distinct (drop i al
 unfolding distinct
 all_once al i same h = sym (same ∙ rw (drop_of_length-le al {i = i} h))
 
-module _ (al : List ℕ) where
-  pub no_letter : length al < 1 → false ≡ alphabet_good al
+module _ (al : List ℕ) (t : Bool) where
+  pub no_letter : length al < 1 → t ≡ leb 1 (length al) → t ≡ alphabet_good al
   unfolding alphabet_good
-  no_letter h = rw (lt-leb 1 (length al) h)
+  no_letter h e = e ∙ rw (lt-leb 1 (length al) h)
 
-  pub many_letters : 1 ≤ length al → 8 < length al → false ≡ alphabet_good al
+  pub many_letters : 1 ≤ length al → 8 < length al → t ≡ leb (length al) 8 → t ≡ alphabet_good al
   unfolding alphabet_good
-  many_letters h l = rw (le-leb 1 (length al) h, lt-leb (length al) 8 l)
+  many_letters h l e = e ∙ rw (le-leb 1 (length al) h, lt-leb (length al) 8 l)
 
-  pub letters_good : (t : Bool) → 1 ≤ length al → length al ≤ 8 → t ≡ distinct al → t ≡ alphabet_good al
+  pub letters_good : 1 ≤ length al → length al ≤ 8 → t ≡ distinct al → t ≡ alphabet_good al
   unfolding alphabet_good
-  letters_good t h l e = rw (le-leb 1 (length al) h, le-leb (length al) 8 l) e
+  letters_good h l e = rw (le-leb 1 (length al) h, le-leb (length al) 8 l) e
 
 -- ---- an argument
 
--- bytes from i on are left
-pub record BytesLeft (al os : List ℕ) (i : ℕ) : Type 0 where
-  pub same : all (contains al) os ≡ all (contains al) (drop i os)
-
-pub bytes_first : (al os : List ℕ) → BytesLeft al os 0
-bytes_first al os = record { same = refl }
-
 module _ (al os : List ℕ) where
-  pub argument_long : 4 < length os → false ≡ argument_legal al os
+  pub argument_long : 4 < length os → leb (length os) 4 ≡ argument_legal al os
   unfolding argument_legal
   argument_long h = rw (lt-leb (length os) 4 h)
 
-  module _ (short : length os ≤ 4) (i : ℕ) (left : BytesLeft al os i) where
-    pub byte_other : (p : ℕ) → p ≡ index_of (get_or os i 0) al → length al ≤ p → i < length os → false ≡ argument_legal al os
-    unfolding argument_legal all
-    byte_other p e l h =
-        let none : contains al (get_or os i 0) ≡ false = no_place al (get_or os i 0) (omega arith) in
-        sym (rw (le-leb (length os) 4 short) (left.same ∙ rw (drop-cons os i 0 h, none)))
-
-    pub bytes_legal : length os ≤ i → true ≡ argument_legal al os
-    unfolding argument_legal all
-    bytes_legal h = sym (rw (le-leb (length os) 4 short) (left.same ∙ rw (drop_of_length-le os {i = i} h)))
-
-  pub byte_legal : (i p : ℕ) → p ≡ index_of (get_or os i 0) al → p < length al → BytesLeft al os i → i < length os → BytesLeft al os (i + 1)
-  unfolding all
-  byte_legal i p e l left h =
-      let there : contains al (get_or os i 0) ≡ true = place_there al (get_or os i 0) (omega arith) in
-      record { same = left.same ∙ rw (drop-cons os i 0 h, there, add-one i) }
+  pub argument_letters : (r : Bool) → length os ≤ 4 → r ≡ list_all (λ x. list_any (λ y. eqb y x) al) os → r ≡ argument_legal al os
+  unfolding argument_legal
+  argument_letters r h e = e ∙ rw (le-leb (length os) 4 h) (all_there al os)
 
 -- ---- the sheet
 
@@ -91,25 +76,24 @@ module _ (al os : List ℕ) where
 pub record ArgumentsLeft (al s : List ℕ) (n k : ℕ) : Type 0 where
   pub same : all (argument_legal al) (arguments s) ≡ all (argument_legal al) (map (entry_of 2 (argument_count s) s) (numbers (n - k) k))
 
-not-true : (t : Bool) → not t ≡ true → t ≡ false
-not-true false e = refl
-not-true true e = sym e
+-- how the check of the sheet ended
+module _ (s : List ℕ) (b : Bool) where
+  pub whole : (r : Result (Unit {0}) Refusal) → tested r ≡ sheet_fault s → b ≡ is_err r → b ≡ false → sheet_fault s ≡ 0
+  whole (Ok u) e i h = sym e
+  whole (Err x) e i h = absurd (false≢true (sym h ∙ i))
 
-not-false : (t : Bool) → not t ≡ false → t ≡ true
-not-false false e = sym e
-not-false true e = refl
+  damaged : (r : Result (Unit {0}) Refusal) → tested r ≡ sheet_fault s → b ≡ is_err r → b ≡ true → sheet_fault s ≡ 0 → ⊥
+  damaged (Ok u) e i h = absurd (false≢true (sym i ∙ h))
+  damaged (Err x) e i h = λ z. numbered x (e ∙ z)
 
-module _ (al s : List ℕ) where
-  pub sheet_damaged : (f : ℕ) → f ≡ sheet_fault s → (f ≡ 0 → ⊥) → false ≡ sheet_legal al s
+module _ (al s : List ℕ) (b : Bool) (r : Result (Unit {0}) Refusal) (e : tested r ≡ sheet_fault s) (i : b ≡ is_err r) where
+  pub sheet_damaged : b ≡ true → false ≡ sheet_legal al s
   unfolding sheet_legal
-  sheet_damaged f e other = rw (ne_eqb (sheet_fault s) 0 (λ z. other (e ∙ z)))
+  sheet_damaged h = rw (ne_eqb (sheet_fault s) 0 (damaged s b r e i h))
 
-  pub whole : (f : ℕ) → f ≡ sheet_fault s → f ≡ 0 → sheet_fault s ≡ 0
-  whole f e made = sym e ∙ made
-
-  module _ (f : ℕ) (e : f ≡ sheet_fault s) (made : f ≡ 0) (n : ℕ) (count : n ≡ argument_count s) where
+  module _ (made : b ≡ false) (n : ℕ) (count : n ≡ argument_count s) where
     good : sheet_fault s ≡ 0
-    good = whole f e made
+    good = whole s b r e i made
 
     pub has_argument : (k : ℕ) → k < n → HasArgument s k
     has_argument k h = record { made = good; below = omega arith }
@@ -140,13 +124,13 @@ module _ (al s : List ℕ) where
             let more : n - k ≡ suc (n - (k + 1)) = omega arith in
             rw (more, part, add-one k)
 
-        pub argument_other : not t ≡ true → false ≡ sheet_legal al s
+        pub argument_other : t ≡ false → false ≡ sheet_legal al s
         unfolding all
-        argument_other e = sym (legal ∙ left.same ∙ rw (next, ← test, not-true t e))
+        argument_other e = sym (legal ∙ left.same ∙ rw (next, ← test, e))
 
-        pub argument_good : not t ≡ false → ArgumentsLeft al s n (k + 1)
+        pub argument_good : t ≡ true → ArgumentsLeft al s n (k + 1)
         unfolding all
-        argument_good e = record { same = left.same ∙ rw (next, ← test, not-false t e) }
+        argument_good e = record { same = left.same ∙ rw (next, ← test, e) }
 
       pub arguments_good : n ≤ k → true ≡ sheet_legal al s
       unfolding all numbers

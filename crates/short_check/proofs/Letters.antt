@@ -1,44 +1,17 @@
--- Places of bytes in an alphabet: a loop that seeks one, and that a byte is there if its place is.
+-- Places of bytes in an alphabet, as the library finds them.
 use mathlib.Core.Path.{◌≡◌, refl, sym, ◌∙◌}
-use mathlib.Core.Bool.{Bool, true, false, ◌||◌}
+use mathlib.Core.Bool.{Bool, true, false, not, cond}
 use mathlib.Core.List.{List, [], ◌∷◌}
-use Prim.Native.Nat.{ℕ, suc, ◌+◌, ◌≤◌, ◌<◌}
-use native.Mathlib.Numerals.{add-one}
+use Prim.Native.Nat.{ℕ, suc, ◌+◌, ◌≤◌}
 use native.Mathlib.Omega.{arith}
-use lib.Dec.{eqb}
-use lib.ListN.{length, get_or, drop, drop_of_length-le}
-use lib.Seq.{drop-cons}
-use borrow.Author.Tests.{eq-eqb, ne_eqb, eqb-true, eqb-false}
-use Rattle.std.specs.Prelude.{if◌then◌else◌}
-use Rattle.rules.specs.Base.{contains}
+use lib.Dec.{eqb, ltb}
+use lib.ListN.{length}
+use borrow.Author.Tests.{eq-eqb, ne_eqb, eqb-true, eqb-false, ltb-false}
+use Rattle.std.specs.Prelude.{if◌then◌else◌, Option, position}
+use Rattle.std.specs.List.{position_or_len, list_any, list_all}
+use Rattle.std.specs.Option.{unwrap_or}
+use Rattle.rules.specs.Base.{contains, all}
 use Rattle.rules.specs.Accept.{index_of}
-
--- the first i bytes are others
-pub record Sought (al : List ℕ) (x i : ℕ) : Type 0 where
-  pub within : i ≤ length al
-  pub same : index_of x al ≡ i + index_of x (drop i al)
-
-pub sought_first : (al : List ℕ) (x : ℕ) → Sought al x 0
-sought_first al x = record { within = omega arith; same = omega arith }
-
-module _ (al : List ℕ) (x i : ℕ) (s : Sought al x i) where
-  pub sought_here : get_or al i 0 ≡ x → i < length al → i ≡ index_of x al
-  unfolding index_of
-  sought_here e h = sym (s.same ∙ rw (drop-cons al i 0 h, e, eq-eqb x x refl) (omega arith))
-
-  pub sought_next : (get_or al i 0 ≡ x → ⊥) → i < length al → Sought al x (i + 1)
-  unfolding index_of
-  sought_next e h =
-      let other : eqb x (get_or al i 0) ≡ false = ne_eqb x (get_or al i 0) (λ p. e (sym p)) in
-      let step : index_of x (drop i al) ≡ suc (index_of x (drop (suc i) al)) = rw (drop-cons al i 0 h, other) in
-      record {
-        within = omega arith;
-        same = rw (add-one i) (s.same ∙ rw step (omega arith));
-      }
-
-  pub sought_end : length al ≤ i → i ≡ index_of x al
-  unfolding index_of
-  sought_end h = sym (s.same ∙ rw (drop_of_length-le al {i = i} h) (omega arith))
 
 eqb_both : (x y : ℕ) → eqb y x ≡ eqb x y
 eqb_both x y = go (eqb x y) refl
@@ -47,31 +20,41 @@ eqb_both x y = go (eqb x y) refl
     go true e = eq-eqb y x (sym (eqb-true x y e))
     go false e = ne_eqb y x (λ p. eqb-false x y e (sym p))
 
--- a byte is there if its place is
-pub place_there : (al : List ℕ) (x : ℕ) → index_of x al < length al → contains al x ≡ true
-unfolding contains index_of
-place_there [] x h = absurd (omega arith)
-place_there (y ∷ al) x h = go (eqb x y) refl h (place_there al x)
+pub place_most : (x : ℕ) (al : List ℕ) → index_of x al ≤ length al
+unfolding index_of
+place_most x [] = omega arith
+place_most x (y ∷ al) = go (eqb x y) (place_most x al)
   where
-    go :
-        (t : Bool)
-        → eqb x y ≡ t
-        → (if t then 0 else suc (index_of x al)) < suc (length al)
-        → (index_of x al < length al → contains al x ≡ true)
-        → (eqb y x || contains al x) ≡ true
-    go true e l later = rw (eqb_both x y, e)
-    go false e l later = rw (eqb_both x y, e) (later (omega arith))
+    go : (t : Bool) → index_of x al ≤ length al → (if t then 0 else suc (index_of x al)) ≤ suc (length al)
+    go true h = omega arith
+    go false h = omega arith
 
-pub no_place : (al : List ℕ) (x : ℕ) → length al ≤ index_of x al → contains al x ≡ false
-unfolding contains index_of
-no_place [] x h = refl
-no_place (y ∷ al) x h = go (eqb x y) refl h (no_place al x)
+place_is : (x : ℕ) (al : List ℕ) → position_or_len (λ y. eqb y x) al ≡ index_of x al
+unfolding index_of
+place_is x [] = refl
+place_is x (y ∷ al) = rw (eqb_both x y) (go (eqb x y) (place_is x al))
+  where
+    go : (t : Bool) → position_or_len (λ y. eqb y x) al ≡ index_of x al → cond (not t) (1 + position_or_len (λ y. eqb y x) al) 0 ≡ (if t then 0 else suc (index_of x al))
+    go true h = refl
+    go false h = omega arith
+
+-- the place that is found, or the length
+pub place_found : (al : List ℕ) (x : ℕ) (r : Option ℕ) (u : ℕ) → r ≡ position (λ y. eqb y x) al → u ≡ unwrap_or r (length al) → u ≡ index_of x al
+place_found al x r u e f = f ∙ rw e (go (ltb (position_or_len (λ y. eqb y x) al) (length al)) refl) ∙ place_is x al
   where
     go :
         (t : Bool)
-        → eqb x y ≡ t
-        → suc (length al) ≤ (if t then 0 else suc (index_of x al))
-        → (length al ≤ index_of x al → contains al x ≡ false)
-        → (eqb y x || contains al x) ≡ false
-    go true e l later = absurd (omega arith)
-    go false e l later = rw (eqb_both x y, e) (later (omega arith))
+        → ltb (position_or_len (λ y. eqb y x) al) (length al) ≡ t
+        → unwrap_or (position (λ y. eqb y x) al) (length al) ≡ position_or_len (λ y. eqb y x) al
+    go true p = rw p
+    go false p = rw p (omega (arith, ltb-false _ _ p, place_is x al, place_most x al))
+
+pub any_is : (x : ℕ) (al : List ℕ) → list_any (λ y. eqb y x) al ≡ contains al x
+unfolding contains
+any_is x [] = refl
+any_is x (y ∷ al) = rw (any_is x al)
+
+pub all_there : (al os : List ℕ) → list_all (λ x. list_any (λ y. eqb y x) al) os ≡ all (contains al) os
+unfolding all
+all_there al [] = refl
+all_there al (x ∷ os) = rw (any_is x al, all_there al os)

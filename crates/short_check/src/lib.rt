@@ -3,15 +3,11 @@
 
 ghost use Rattle.std.specs.Prelude.{◌≡◌};
 ghost use Rattle.rules.specs.Accept.{index_of};
+ghost use Rattle.rules.specs.Reported.{tested};
 ghost use Rattle.rules_short.specs.Short.{distinct as none_twice, alphabet_good, argument_legal, sheet_legal};
 ghost use Rattle.short_check.specs.Tests.{input_fault};
 
-// The refusals: of the alphabet, of the sheet, and of the output.
-const BAD_ALPHABET: u32 = 16;
-
-const NOT_SHORT: u32 = 17;
-
-const SHORT_OUTPUT: u32 = 19;
+use rules::Refusal;
 
 // The most letters of an alphabet, arguments of a sheet, bytes of an argument, and bytes of a sheet: 2 + 2 * (3 + 1) + 3 * 4.
 const LETTERS: usize = 8;
@@ -22,30 +18,23 @@ const ARGUMENT: usize = 4;
 
 const SHEET: usize = 22;
 
-// The place of a byte in the alphabet; its length where it is none of the alphabet.
+// The place of a byte in the alphabet; its length where it is none of the alphabet, as `index_of` of the rules has it.
 pub fn place_of(alphabet: &[u8], x: u8) -> usize
     ensures { result ≡ index_of x alphabet.now }
 {
-    let mut i = 0;
-    while i < alphabet.len() {
-        if alphabet[i] == x {
-            return i;
-        }
-        i += 1;
-    }
-    i
+    alphabet
+        .iter()
+        .position(|y| *y == x)
+        .unwrap_or(alphabet.len())
 }
 
 fn distinct(alphabet: &[u8]) -> bool
     ensures { result ≡ none_twice alphabet.now }
 {
-    let mut i = 0;
-    while i < alphabet.len() {
-        let rest = &alphabet[i + 1..];
-        if place_of(rest, alphabet[i]) < rest.len() {
+    for i in 0..alphabet.len() {
+        if alphabet[i + 1..].contains(&alphabet[i]) {
             return false;
         }
-        i += 1;
     }
     true
 }
@@ -53,63 +42,45 @@ fn distinct(alphabet: &[u8]) -> bool
 fn alphabet_good(alphabet: &[u8]) -> bool
     ensures { result ≡ alphabet_good alphabet.now }
 {
-    if alphabet.len() < 1 {
-        return false;
-    }
-    if alphabet.len() > LETTERS {
-        return false;
-    }
-    distinct(alphabet)
+    1 <= alphabet.len() && alphabet.len() <= LETTERS && distinct(alphabet)
 }
 
 fn argument_legal(alphabet: &[u8], argument: &[u8]) -> bool
     ensures { result ≡ argument_legal alphabet.now argument.now }
 {
-    if argument.len() > ARGUMENT {
-        return false;
-    }
-    let mut i = 0;
-    while i < argument.len() {
-        if place_of(alphabet, argument[i]) >= alphabet.len() {
-            return false;
-        }
-        i += 1;
-    }
-    true
+    argument.len() <= ARGUMENT && argument.iter().all(|x| alphabet.contains(x))
 }
 
 fn sheet_legal(alphabet: &[u8], sheet: &[u8]) -> bool
     ensures { result ≡ sheet_legal alphabet.now sheet.now }
 {
-    if split_sheet::check(sheet) != 0 {
+    if split_sheet::check(sheet).is_err() {
         return false;
     }
     let count = split_sheet::count(sheet);
     if count > ARGUMENTS {
         return false;
     }
-    let mut k = 0;
-    while k < count {
+    for k in 0..count {
         if !argument_legal(alphabet, split_sheet::argument(sheet, k)) {
             return false;
         }
-        k += 1;
     }
     true
 }
 
-// 0 if a step can be made; the alphabet is tested first, and the output last.
-pub fn input_fault(alphabet: &[u8], sheet: &[u8], room: usize) -> u32
-    ensures { result ≡ input_fault alphabet.now sheet.now room }
+// Whether a step can be made; the alphabet is tested first, and the output last.
+pub fn check(alphabet: &[u8], sheet: &[u8], room: usize) -> Result<(), Refusal>
+    ensures { tested result ≡ input_fault alphabet.now sheet.now room }
 {
     if !alphabet_good(alphabet) {
-        return BAD_ALPHABET;
+        return Err(Refusal::BadAlphabet);
     }
     if !sheet_legal(alphabet, sheet) {
-        return NOT_SHORT;
+        return Err(Refusal::NotShort);
     }
     if room < SHEET {
-        return SHORT_OUTPUT;
+        return Err(Refusal::ShortOutput);
     }
-    0
+    Ok(())
 }

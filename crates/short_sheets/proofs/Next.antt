@@ -283,9 +283,9 @@ module _ (al s : List ℕ) (n : ℕ) where
       go true true true f e other = rw e
       go true true false f e other = absurd (other e)
 
-  passed : (f : ℕ) → f ≡ input_fault al s n → f ≡ 0 → CanStep al s n
+  pub can_step : 0 ≡ input_fault al s n → CanStep al s n
   unfolding input_fault
-  passed f e z = go (alphabet_good al) (sheet_legal al s) (ltb n 22) refl refl refl (sym e ∙ z)
+  can_step e = go (alphabet_good al) (sheet_legal al s) (ltb n 22) refl refl refl (sym e)
     where
       go :
           (a t l : Bool)
@@ -312,16 +312,12 @@ refused_reported al s o f e other r o' answer out =
     let as-refused = refusal al s (length o) f e other in
     record { answer = rw as-refused answer; output = rw as-refused (out ∙ cleared o) }
 
-pub can_step : (al s : List ℕ) (n f : ℕ) → f ≡ input_fault al s n → f ≡ 0 → CanStep al s n
-can_step al s n f e z = passed al s n f e z
-
 pub step_reported :
-    (al s : List ℕ) (n f : ℕ) (r : NextSheet) (o : List ℕ)
-    → f ≡ input_fault al s n
-    → f ≡ 0
+    (al s : List ℕ) (n : ℕ) (r : NextSheet) (o : List ℕ)
+    → 0 ≡ input_fault al s n
     → Reports (stepped al s n) r o
     → Reports (next_sheet al s n) r o
 unfolding next_sheet stepped
-step_reported al s n f r o e z reports =
-    let can = passed al s n f e z in
+step_reported al s n r o e reports =
+    let can = can_step al s n e in
     rw (can.given.alphabet, can.given.sheet, le-ltb n 22 can.room) reports

@@ -2,14 +2,11 @@
 use mathlib.Core.Path.{◌≡◌, refl, sym, ◌∙◌, ap}
 use mathlib.Core.List.{List, [], ◌∷◌, map}
 use mathlib.Core.Option.{some, none-ne-some, some-injective}
-use mathlib.Core.Bool.{Bool, true, false}
-use Prim.Native.Nat.{ℕ, zero, suc, ◌+◌, ◌-◌, ◌≤◌, ◌<◌}
+use Prim.Native.Nat.{ℕ, zero, suc, ◌+◌, ◌≤◌, ◌<◌}
 use native.Mathlib.Nat.{zero-add}
 use native.Mathlib.Omega.{arith}
-use lib.Dec.{eqb}
 use lib.ListN.{length, get_or, get_elem?, set, length-map}
 use lib.Seq.{sets}
-use Rattle.std.specs.Prelude.{if◌then◌else◌}
 use Rattle.wire.specs.Wire.{entry_of}
 use Rattle.wire.proofs.Stores.{Stored, stored_next, stored_last}
 use Rattle.rules.specs.Accept.{index_of}
@@ -19,6 +16,7 @@ use Rattle.rules.proofs.Formats.{counted}
 use Rattle.rules_short.specs.Short.{lengths}
 use Rattle.split_sheet.specs.Checked.{HasArgument}
 use Rattle.split_sheet.proofs.Arguments.{argument_at_lem}
+use Rattle.short_check.proofs.Letters.{place_most}
 use Rattle.short_sheets.specs.Steps.{places_in, LettersIn, ShortSheet}
 
 -- one more of the words of a list that has room from the start on
@@ -39,15 +37,6 @@ pub get_d_mapped : (f : ℕ → ℕ) (l : List ℕ) (i : ℕ) → i < length l �
 get_d_mapped f [] i h = absurd (omega arith)
 get_d_mapped f (x ∷ l) zero h = refl
 get_d_mapped f (x ∷ l) (suc i) h = get_d_mapped f l i (omega arith)
-
-place_most : (x : ℕ) (al : List ℕ) → index_of x al ≤ length al
-unfolding index_of
-place_most x [] = omega arith
-place_most x (y ∷ al) = go (eqb x y) (place_most x al)
-  where
-    go : (t : Bool) → index_of x al ≤ length al → (if t then 0 else suc (index_of x al)) ≤ suc (length al)
-    go true h = omega arith
-    go false h = omega arith
 
 pub place_narrow : (al area ds : List ℕ) (x y : ℕ) → LettersIn al area ds → y ≡ index_of x al → y < 256
 place_narrow al area ds x y has e = omega (arith, has.few, place_most x al)

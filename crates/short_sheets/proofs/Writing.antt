@@ -35,12 +35,9 @@ all_get_d P (x ∷ xs) zero h l = h.0
 all_get_d P (x ∷ xs) (suc i) h l = all_get_d P xs i h.1 (omega arith)
 
 module _ (al ds o : List ℕ) (i : ℕ) (z : Lettered al ds o i) where
-  module _ (less : i < length o) where
-    there : i < length ds
-    there = omega (arith, z.long)
-
+  module _ (there : i < length ds) where
     front : length (take i (map (letter_at al) ds)) ≡ i
-    front = length-take-le i (map (letter_at al) ds) (omega (arith, there, length-map ds (letter_at al)))
+    front = length-take-le i (map (letter_at al) ds) (omega (arith, length-map ds (letter_at al)))
 
     opened : o ≡ take i (map (letter_at al) ds) ++ get_or ds i 0 ∷ drop (suc i) ds
     opened = z.same ∙ rw (drop-cons ds i 0 there)
@@ -59,16 +56,16 @@ module _ (al ds o : List ℕ) (i : ℕ) (z : Lettered al ds o i) where
         let rest = drop (suc i) ds in
         let head = take i (map (letter_at al) ds) in
         record {
-          within = omega (arith, there);
+          within = omega arith;
           same =
               ap (λ (l : List ℕ). set l i (get_or al d 0)) opened
               ∙ set_at head (get_or ds i 0) rest (get_or al d 0) i front
-              ∙ rw (add-one i, take-suc (map (letter_at al) ds) i 0 (omega (arith, there, length-map ds (letter_at al))), letter)
+              ∙ rw (add-one i, take-suc (map (letter_at al) ds) i 0 (omega (arith, length-map ds (letter_at al))), letter)
               (sym (append_snoc head (get_or (map (letter_at al) ds) i 0) rest));
           long = length-set o i (get_or al d 0) ∙ z.long;
         }
 
-  pub lettered_last : length o ≤ i → o ≡ map (letter_at al) ds
+  pub lettered_last : length ds ≤ i → o ≡ map (letter_at al) ds
   lettered_last h =
       let all : i ≡ length (map (letter_at al) ds) = omega (arith, z.within, z.long, length-map ds (letter_at al)) in
       z.same

@@ -25,22 +25,13 @@ pub struct NextSheet {
     pub length: u32,
 }
 
-fn narrow(x: usize) -> u8
-    requires { x < 256 }
-    ensures { result ≡ x }
-{
-    x as u8
-}
-
-// Each byte as its place in the alphabet.
+// Each byte as its place in the alphabet. By `enumerate`: behind a zip over `iter_mut` a proof knows nothing of what was written.
 fn read_places(alphabet: &[u8], area: &[u8], places: &mut [u8])
     requires { LettersIn alphabet.now area.now places.old }
     ensures { places.new ≡ sets places.old 0 (places_in alphabet.now area.now) }
 {
-    let mut i = 0;
-    while i < area.len() {
-        places[i] = narrow(short_check::place_of(alphabet, area[i]));
-        i += 1;
+    for (i, letter) in area.iter().enumerate() {
+        places[i] = short_check::place_of(alphabet, *letter) as u8;
     }
 }
 
@@ -48,11 +39,8 @@ fn read_lengths(sheet: &[u8], lengths: &mut [u8])
     requires { ShortSheet sheet.now lengths.old }
     ensures { lengths.new ≡ sets lengths.old 0 (lengths_of (arguments sheet.now)) }
 {
-    let count = split_sheet::count(sheet);
-    let mut k = 0;
-    while k < count {
-        lengths[k] = narrow(split_sheet::argument(sheet, k).len());
-        k += 1;
+    for k in 0..split_sheet::count(sheet) {
+        lengths[k] = split_sheet::argument(sheet, k).len() as u8;
     }
 }
 
@@ -62,12 +50,9 @@ fn count_up(digits: &mut [u8], base: u8) -> bool
     ensures { CountsUp base digits.old result digits.new }
 {
     let top = base - 1;
-    let mut i = digits.len();
-    while i > 0 {
-        i -= 1;
-        let digit = digits[i];
-        if digit < top {
-            digits[i] = digit + 1;
+    for i in (0..digits.len()).rev() {
+        if digits[i] < top {
+            digits[i] += 1;
             return true;
         }
         digits[i] = 0;
@@ -80,10 +65,7 @@ fn count_line(base: u8, count: usize, size: usize, lengths: &mut [u8], places: &
     requires { CanCount base count size lengths.old places.old }
     ensures { Counts base count size lengths.old places.old result lengths.new places.new }
 {
-    if count_up(&mut places[..size], base) {
-        return count;
-    }
-    if count_up(&mut lengths[..count], LENGTHS) {
+    if count_up(&mut places[..size], base) || count_up(&mut lengths[..count], LENGTHS) {
         return count;
     }
     count + 1
@@ -94,18 +76,9 @@ fn put_letters(alphabet: &[u8], places: &mut [u8])
     requires { PlacesIn alphabet.now places.old }
     ensures { places.new ≡ map (letter_at alphabet.now) places.old }
 {
-    let mut i = 0;
-    while i < places.len() {
-        let place = wide(places[i]);
-        places[i] = alphabet[place];
-        i += 1;
+    for place in places.iter_mut() {
+        *place = alphabet[usize::from(*place)];
     }
-}
-
-fn wide(x: u8) -> usize
-    ensures { result ≡ x }
-{
-    x as usize
 }
 
 // The sheet whose arguments have these lengths and are cut from the area, one behind the other; its length.
@@ -116,12 +89,10 @@ fn write_sheet(out: &mut [u8], lengths: &[u8], area: &[u8]) -> usize
     let count = lengths.len();
     wire_write::begin_sheet(out, count);
     let mut at = 0;
-    let mut k = 0;
-    while k < count {
-        let end = at + wide(lengths[k]);
+    for (k, length) in lengths.iter().enumerate() {
+        let end = at + usize::from(*length);
         wire_write::put_argument(out, count, k, at, &area[at..end]);
         at = end;
-        k += 1;
     }
     wire::area_start(2, count) + at
 }
@@ -144,7 +115,7 @@ fn next_line(alphabet: &[u8], sheet: &[u8], lengths: &mut [u8], places: &mut [u8
     read_line(alphabet, sheet, lengths, places);
     let count = split_sheet::count(sheet);
     let size = split_sheet::begin(sheet, count);
-    count_line(narrow(alphabet.len()), count, size, lengths, places)
+    count_line(alphabet.len() as u8, count, size, lengths, places)
 }
 
 fn answer(number: u32, last: u32, length: u32) -> NextSheet
@@ -192,10 +163,9 @@ fn step(alphabet: &[u8], sheet: &[u8], out: &mut [u8]) -> NextSheet
 pub fn next_sheet(alphabet: &[u8], sheet: &[u8], out: &mut [u8]) -> NextSheet
     ensures { Reports (next_sheet alphabet.now sheet.now (length out.old)) result out.new }
 {
-    let fault = short_check::input_fault(alphabet, sheet, out.len());
-    if fault != 0 {
+    if let Err(e) = short_check::check(alphabet, sheet, out.len()) {
         wire_write::clear_from(out, 0);
-        return answer(fault, 0, 0);
+        return answer(e.number(), 0, 0);
     }
     step(alphabet, sheet, out)
 }

@@ -11,10 +11,10 @@ use lib.Dec.{eqb}
 use lib.ListN.{length, get_or, take, drop, drop_of_length-le, length-drop, length-append, length-map}
 use lib.Seq.{drop-cons, drop-drop, take_at}
 use borrow.Author.Tests.{le-leb}
+use Rattle.std.specs.Prelude.{Option, Some, None}
 use Rattle.utf8.specs.Utf8.{decode, decode_at, well_formed}
 use Rattle.utf8.specs.Laws.{character, well_formed_bad, well_formed_char}
-use Rattle.utf8.specs.declared.Decoded.{Decoded}
-use Rattle.utf8.specs.declared.Decoded.TheVariants.{Char, Bad}
+use Rattle.utf8.specs.declared.Char.{Char}
 use Rattle.rules.specs.Base.{contains, slice_from}
 use Rattle.rules.specs.Outcome.{Outcome, ok, ◌>>=◌, at}
 use Rattle.rules.specs.Accept.{Letters}
@@ -46,28 +46,28 @@ abbrev pub letters_from : List ℕ → ℕ → Outcome (List Letter)
 letters_from name k = cluster_from 0 k (drop k name)
 
 letters_step :
-    (name : List ℕ) (k c n : ℕ)
-    → decode_at name k ≡ Char c n
-    → letters_from name k ≡ (letters_from name (k + n) >>= λ ls. ok (record { character = c; place = k; rest = drop (k + n) name } ∷ ls))
+    (name : List ℕ) (k : ℕ) (c : Char)
+    → decode_at name k ≡ Some c
+    → letters_from name k ≡ (letters_from name (k + c.size) >>= λ ls. ok (record { character = c.value; place = k; rest = drop (k + c.size) name } ∷ ls))
 unfolding cluster_from decode_at slice_from at ◌>>=◌
-letters_step name k c n e =
-    let w = character name k c n e in
+letters_step name k c e =
+    let w = character name k c e in
     let some = w.some in
     let within = w.within in
     let here : drop k name ≡ get_or name k 0 ∷ drop (suc k) name = drop-cons name k 0 (omega arith) in
-    let d : decode (get_or name k 0 ∷ drop (suc k) name) ≡ Char c n = rw here at e in
-    let room : n ≤ length (drop k name) = omega (arith, length-drop k name) in
-    let fits : n ≤ length (get_or name k 0 ∷ drop (suc k) name) = rw here at room in
-    let past : suc k + (n - 1) ≡ k + n = omega arith in
+    let d : decode (get_or name k 0 ∷ drop (suc k) name) ≡ Some c = rw here at e in
+    let room : c.size ≤ length (drop k name) = omega (arith, length-drop k name) in
+    let fits : c.size ≤ length (get_or name k 0 ∷ drop (suc k) name) = rw here at room in
+    let past : suc k + (c.size - 1) ≡ k + c.size = omega arith in
     rw (
       here,
       cluster_from,
       d,
-      le-leb n (length (get_or name k 0 ∷ drop (suc k) name)) fits,
+      le-leb c.size (length (get_or name k 0 ∷ drop (suc k) name)) fits,
       ← here,
-      drop-drop n k name,
-      skipped (n - 1) (suc k) (drop (suc k) name),
-      drop-drop (n - 1) (suc k) name,
+      drop-drop c.size k name,
+      skipped (c.size - 1) (suc k) (drop (suc k) name),
+      drop-drop (c.size - 1) (suc k) name,
       past,
     )
 
@@ -108,26 +108,26 @@ pub ok_same : {A : Type 0} {a b : A} → ok a ≡ ok b → a ≡ b
 ok_same e = cc
 
 -- the letter at byte `at` is the first of those left
-pub record Next (name : List ℕ) (left : List Letter) (at c n : ℕ) : Type 0 where
+pub record Next (name : List ℕ) (left : List Letter) (at : ℕ) (c : Char) : Type 0 where
   pub later : List Letter
-  pub first : left ≡ record { character = c; place = at; rest = drop (at + n) name } ∷ later
-  pub further : letters_from name (at + n) ≡ ok later
-  pub good : well_formed (drop (at + n) name) ≡ true
+  pub first : left ≡ record { character = c.value; place = at; rest = drop (at + c.size) name } ∷ later
+  pub further : letters_from name (at + c.size) ≡ ok later
+  pub good : well_formed (drop (at + c.size) name) ≡ true
 
 module _ (name : List ℕ) (left : List Letter) (at : ℕ) (t : letters_from name at ≡ ok left) (w : well_formed (drop at name) ≡ true) where
-  pub next : (c n : ℕ) → decode_at name at ≡ Char c n → Next name left at c n
+  pub next : (c : Char) → decode_at name at ≡ Some c → Next name left at c
   unfolding well_formed ◌>>=◌
-  next c n e =
-      let v : well_formed (drop (at + n) name) ≡ true = sym (well_formed_char name at c n e) ∙ w in
-      let x = cluster_ok 0 (at + n) (drop (at + n) name) v in
+  next c e =
+      let v : well_formed (drop (at + c.size) name) ≡ true = sym (well_formed_char name at c e) ∙ w in
+      let x = cluster_ok 0 (at + c.size) (drop (at + c.size) name) v in
       record {
         later = x.0;
-        first = ok_same (sym t ∙ letters_step name at c n e ∙ rw x.1);
+        first = ok_same (sym t ∙ letters_step name at c e ∙ rw x.1);
         further = x.1;
         good = v;
       }
 
-  pub none_left : at ≤ length name → decode_at name at ≡ Bad → left ≡ []
+  pub none_left : at ≤ length name → decode_at name at ≡ None → left ≡ []
   unfolding cluster_from
   none_left within e =
       ⊎_elim
@@ -147,7 +147,7 @@ module _ (fl ar name : List ℕ) (at before : ℕ) (z : Looked (letters fl ar) n
   taken : take before (characters z.all) ≡ z.passed
   taken = rw z.whole (take_at z.passed (characters z.left) before (sym z.count))
 
-  pub all_flags_lem : decode_at name at ≡ Bad → LooksUp (letters fl ar) name (AllFlags before)
+  pub all_flags_lem : decode_at name at ≡ None → LooksUp (letters fl ar) name (AllFlags before)
   unfolding look_up
   all_flags_lem e =
       let none = none_left name z.left at z.further z.good z.within e in
@@ -158,17 +158,17 @@ module _ (fl ar name : List ℕ) (at before : ℕ) (z : Looked (letters fl ar) n
         counted = omega (arith, counts, ap length none);
       }
 
-  module _ (c n : ℕ) (e : decode_at name at ≡ Char c n) where
-    following : Next name z.left at c n
-    following = next name z.left at z.further z.good c n e
+  module _ (c : Char) (e : decode_at name at ≡ Some c) where
+    following : Next name z.left at c
+    following = next name z.left at z.further z.good c e
 
     more : before < length z.all
     more = omega (arith, counts, ap length following.first)
 
-    module _ (flag argument : Bool) (p : flag ≡ contains fl c) (q : argument ≡ contains ar c) where
+    module _ (flag argument : Bool) (p : flag ≡ contains fl c.value) (q : argument ≡ contains ar c.value) where
       found : look_up (letters fl ar) [] z.all ≡ pick_letter flag argument
-          (look_up (letters fl ar) (z.passed ++ (c ∷ [])) following.later)
-          (argument_letter z.passed c (drop (at + n) name))
+          (look_up (letters fl ar) (z.passed ++ (c.value ∷ [])) following.later)
+          (argument_letter z.passed c.value (drop (at + c.size) name))
           (withdrawn at)
           (ambiguous z.passed)
       unfolding look_up
@@ -178,31 +178,31 @@ module _ (fl ar name : List ℕ) (at before : ℕ) (z : Looked (letters fl ar) n
       unfolding pick_letter
       both f a = record { all = z.all; these = z.these; same = rw taken (sym (found ∙ rw (f, a))); counted = more }
 
-      pub an_argument : flag ≡ false → argument ≡ true → LooksUp (letters fl ar) name (Argument before c (at + n))
+      pub an_argument : flag ≡ false → argument ≡ true → LooksUp (letters fl ar) name (Argument before c.value (at + c.size))
       unfolding pick_letter
       an_argument f a = record {
         all = z.all;
         these = z.these;
         same = rw taken (sym (found ∙ rw (f, a)));
-        counted = (more, (character name at c n e).within);
+        counted = (more, (character name at c e).within);
       }
 
       pub neither : flag ≡ false → argument ≡ false → LooksUp (letters fl ar) name (Withdrawn at)
       unfolding pick_letter
       neither f a =
-          let w = character name at c n e in
+          let w = character name at c e in
           record { all = z.all; these = z.these; same = sym (found ∙ rw (f, a)); counted = omega (arith, w.some, w.within) }
 
-      pub a_flag : flag ≡ true → argument ≡ false → Looked (letters fl ar) name (at + n) (before + 1)
+      pub a_flag : flag ≡ true → argument ≡ false → Looked (letters fl ar) name (at + c.size) (before + 1)
       unfolding pick_letter characters
       a_flag f a =
-          let w = character name at c n e in
+          let w = character name at c e in
           let some = w.some in
           let few = z.few in
           let x = following in
           record {
             all = z.all;
-            passed = z.passed ++ (c ∷ []);
+            passed = z.passed ++ (c.value ∷ []);
             left = x.later;
             these = z.these;
             further = x.further;
@@ -210,8 +210,8 @@ module _ (fl ar name : List ℕ) (at before : ℕ) (z : Looked (letters fl ar) n
             whole =
                 z.whole
                 ∙ ap (λ (ls : List Letter). z.passed ++ characters ls) x.first
-                ∙ sym (append_assoc z.passed (c ∷ []) (characters x.later));
-            count = let n = z.count in omega (arith, length-append z.passed (c ∷ []));
+                ∙ sym (append_assoc z.passed (c.value ∷ []) (characters x.later));
+            count = let n = z.count in omega (arith, length-append z.passed (c.value ∷ []));
             same = found ∙ rw (f, a);
             few = omega arith;
             within = w.within;
@@ -219,43 +219,43 @@ module _ (fl ar name : List ℕ) (at before : ℕ) (z : Looked (letters fl ar) n
 
 -- ---- a letter alone
 module _ (fl ar name : List ℕ) (w : well_formed name ≡ true) where
-  pub alone : (c n : ℕ) → decode_at name 0 ≡ Char c n → n ≡ length name → Disambiguates (letters fl ar) name (Single c)
+  pub alone : (c : Char) → decode_at name 0 ≡ Some c → c.size ≡ length name → Disambiguates (letters fl ar) name (Single c.value)
   unfolding disambiguate_short cluster_from well_formed
-  alone c n e h =
+  alone c e h =
       let ls = cluster_ok 0 0 name w in
-      let x = next name ls.0 0 ls.1 w c n e in
-      let long : length name ≤ 0 + n = omega arith in
-      let end : drop (0 + n) name ≡ [] = drop_of_length-le name long in
+      let x = next name ls.0 0 ls.1 w c e in
+      let long : length name ≤ 0 + c.size = omega arith in
+      let end : drop (0 + c.size) name ≡ [] = drop_of_length-le name long in
       let last : x.later ≡ [] = ok_same (sym x.further ∙ rw end) in
       record {
         all = ls.0;
         these = ls.1;
-        same = sym (ap (disambiguate_short (letters fl ar)) x.first ∙ rw (null_true (drop (0 + n) name) (ap length end)));
+        same = sym (ap (disambiguate_short (letters fl ar)) x.first ∙ rw (null_true (drop (0 + c.size) name) (ap length end)));
         counted = ap length x.first ∙ ap (λ (l : List Letter). suc (length l)) last;
       }
 
   several :
       (ls : List Letter)
       → cluster_from 0 0 name ≡ ok ls
-      → ((c n : ℕ) → decode_at name 0 ≡ Char c n → n ≡ length name → ⊥)
+      → ((c : Char) → decode_at name 0 ≡ Some c → c.size ≡ length name → ⊥)
       → look_up (letters fl ar) [] ls ≡ disambiguate_short (letters fl ar) ls
   unfolding disambiguate_short look_up
   several ls t h = go (decode_at name 0) refl
     where
-      go : (d : Decoded) → decode_at name 0 ≡ d → look_up (letters fl ar) [] ls ≡ disambiguate_short (letters fl ar) ls
-      go Bad e =
+      go : (d : Option Char) → decode_at name 0 ≡ d → look_up (letters fl ar) [] ls ≡ disambiguate_short (letters fl ar) ls
+      go None e =
           let none = none_left name ls 0 t w (omega arith) e in
           ap (look_up (letters fl ar) []) none ∙ sym (ap (disambiguate_short (letters fl ar)) none)
-      go (Char c n) e =
-          let x = next name ls 0 t w c n e in
-          let within = (character name 0 c n e).within in
-          let rest = null_false (drop (0 + n) name) (λ k. h c n e (omega (arith, length-drop (0 + n) name))) in
+      go (Some c) e =
+          let x = next name ls 0 t w c e in
+          let within = (character name 0 c e).within in
+          let rest = null_false (drop (0 + c.size) name) (λ k. h c e (omega (arith, length-drop (0 + c.size) name))) in
           ap (look_up (letters fl ar) []) x.first
           ∙ sym (ap (disambiguate_short (letters fl ar)) x.first ∙ rw rest)
 
   pub looked_up :
       (r : Found)
-      → ((c n : ℕ) → decode_at name 0 ≡ Char c n → n ≡ length name → ⊥)
+      → ((c : Char) → decode_at name 0 ≡ Some c → c.size ≡ length name → ⊥)
       → LooksUp (letters fl ar) name r
       → Disambiguates (letters fl ar) name r
   looked_up r h z = record {
@@ -266,16 +266,16 @@ module _ (fl ar name : List ℕ) (w : well_formed name ≡ true) where
   }
 
   -- an empty name
-  pub no_letter : decode_at name 0 ≡ Bad → Disambiguates (letters fl ar) name (AllFlags 0)
+  pub no_letter : decode_at name 0 ≡ None → Disambiguates (letters fl ar) name (AllFlags 0)
   no_letter e =
       looked_up (AllFlags 0)
-      (λ c n f k. absurd (let z : ◌≡◌ {A = ℕ} 0 1 = cc in omega arith))
+      (λ c f k. absurd (let z : ◌≡◌ {A = ℕ} 0 1 = cc in omega arith))
       (all_flags_lem fl ar name 0 0 (looked_first (letters fl ar) name w) e)
 
   pub no_single :
-      (r : Found) (c n : ℕ)
-      → decode_at name 0 ≡ Char c n
-      → (n ≡ length name → ⊥)
+      (r : Found) (c : Char)
+      → decode_at name 0 ≡ Some c
+      → (c.size ≡ length name → ⊥)
       → LooksUp (letters fl ar) name r
       → Disambiguates (letters fl ar) name r
-  no_single r c n e h z = looked_up r (λ d m f k. h (let same : n ≡ m = cc in same ∙ k)) z
+  no_single r c e h z = looked_up r (λ d f k. h (let same : c ≡ d = cc in ap (λ (x : Char). x.size) same ∙ k)) z

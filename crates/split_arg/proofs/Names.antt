@@ -19,7 +19,8 @@ use Rattle.rules.specs.Split.{dash, parts, before_equals, behind_equals, split_l
 use Rattle.rules.specs.Split.{Parts as Meaning}
 use Rattle.rules.proofs.SplitLaws.{short_body_lem}
 use Rattle.split_arg.specs.declared.Parts.{Parts}
-use Rattle.split_arg.specs.declared.Parts.TheVariants.{None, Short, ShortBody, Long, LongBody}
+use Rattle.std.specs.Prelude.{Option as CodeOption, Some, None}
+use Rattle.split_arg.specs.declared.Parts.TheVariants.{Short, ShortBody, Long, LongBody}
 use Rattle.split_arg.specs.Parts.{equals_from, TellsParts}
 use Rattle.split_arg.proofs.Equals.{before_few, before_part, no_equals_lem, has_equals}
 
@@ -86,7 +87,7 @@ module _ (os : List ℕ) (two : 2 ≤ length os) where
           (λ h. rw (value (λ z. omega arith), split_long, before, w))
           (eq-or-lt_of_le equals_most))
 
-      pub long_whole : e ≡ length os → well_formed (take (e - 2) (drop 2 os)) ≡ true → TellsParts os (Long (e - 2)) (ok (split_long (drop 2 os)))
+      pub long_whole : e ≡ length os → well_formed (take (e - 2) (drop 2 os)) ≡ true → TellsParts os (Some (Long (e - 2))) (ok (split_long (drop 2 os)))
       unfolding split_long parts
       long_whole h w = record {
         same = rw (without h, split_long, named, whole h, rw (whole h) at w);
@@ -97,7 +98,7 @@ module _ (os : List ℕ) (two : 2 ≤ length os) where
       pub long_value :
           (e ≡ length os → ⊥)
           → well_formed (take (e - 2) (drop 2 os)) ≡ true
-          → TellsParts os (LongBody (e - 2) (e + 1)) (ok (split_long (drop 2 os)))
+          → TellsParts os (Some (LongBody (e - 2) (e + 1))) (ok (split_long (drop 2 os)))
       unfolding split_long parts
       long_value h w = record {
         same = rw (value h, split_long, before, w);
@@ -122,7 +123,7 @@ module _ (os : List ℕ) (two : 2 ≤ length os) where
     pub short_whole :
         e ≡ length os
         → well_formed (take (length os - 1) (drop 1 os)) ≡ true
-        → TellsParts os (Short (e - 1)) (split_short (get_or os 1 0) (drop 2 os))
+        → TellsParts os (Some (Short (e - 1))) (split_short (get_or os 1 0) (drop 2 os))
     unfolding split_short parts
     short_whole h w = record {
       same = rw (without h, split_short, h, rest, letter, rw (rest, letter) at w);
@@ -141,7 +142,7 @@ module _ (os : List ℕ) (two : 2 ≤ length os) where
       letter_bad w = told_none os _ (rw (value h, split_short, body, rw letter at w))
 
       module _ (w : well_formed (take 1 (drop 1 os)) ≡ true) where
-        pub short_value_lem : e ≡ 2 → TellsParts os (ShortBody 1 3) (split_short (get_or os 1 0) (drop 2 os))
+        pub short_value_lem : e ≡ 2 → TellsParts os (Some (ShortBody 1 3)) (split_short (get_or os 1 0) (drop 2 os))
         unfolding split_short parts ◌>>=◌
         short_value_lem t =
             let three : e + 1 ≡ 3 = omega arith in
@@ -152,7 +153,7 @@ module _ (os : List ℕ) (two : 2 ≤ length os) where
               good = w;
             }
 
-        pub short_rest : (e ≡ 2 → ⊥) → TellsParts os (ShortBody 1 2) (split_short (get_or os 1 0) (drop 2 os))
+        pub short_rest : (e ≡ 2 → ⊥) → TellsParts os (Some (ShortBody 1 2)) (split_short (get_or os 1 0) (drop 2 os))
         unfolding split_short parts ◌>>=◌
         short_rest t =
             let later = null_false (before_equals (drop 2 os)) (λ z. t (omega (arith, size))) in
@@ -175,7 +176,7 @@ no_dash_lem [] h e = absurd (omega arith)
 no_dash_lem (b ∷ os) h e = told_none (b ∷ os) _ (rw (ne_eqb b 45 e))
 
 pub two_dashes :
-    (os : List ℕ) (r : Parts)
+    (os : List ℕ) (r : CodeOption Parts)
     → 2 ≤ length os
     → get_or os 0 0 ≡ 45
     → get_or os 1 0 ≡ 45
@@ -187,7 +188,7 @@ two_dashes (b ∷ []) r h e f t = absurd (omega arith)
 two_dashes (b ∷ c ∷ os) r h e f t = rw (eq-eqb b 45 e, eq-eqb c 45 f) t
 
 pub one_dash :
-    (os : List ℕ) (r : Parts)
+    (os : List ℕ) (r : CodeOption Parts)
     → 2 ≤ length os
     → get_or os 0 0 ≡ 45
     → (get_or os 1 0 ≡ 45 → ⊥)

@@ -10,6 +10,11 @@ use lib.Dec.{eqb, ltb}
 use lib.ListN.{length, get_or, take, drop, length-take, length-append, length-drop, get_or-append}
 use lib.Seq.{get_or-take, get_or-drop, get_or-append-add}
 use borrow.Author.Tests.{eq-eqb, ne_eqb, eqb-true, eqb-false, ltb-true, ltb-false}
+use Rattle.std.specs.List.{list_any}
+use Rattle.std.specs.Prelude.{Result, Ok, Err, is_ok}
+use Rattle.std.proofs.lemmas.List.Sorted.{searched}
+use Rattle.std.specs.Ordering.{nat_cmp}
+use Rattle.std.specs.List.Sorted.{IsBinarySearchResult}
 use Rattle.rules.specs.Base.{contains}
 use Rattle.split_arg.specs.Order.{Ascending, Searchable, Parted}
 
@@ -30,7 +35,12 @@ part_searchable n s h = few_searchable (take n s) (omega (arith, length-take n s
 pub ordered_searchable : (s : List ℕ) → Ascending s → Searchable s
 ordered_searchable s a = record { order = λ more. a }
 
--- ---- `contains` by places
+-- ---- `contains`, by the library's search and by places
+pub any_contains : (s : List ℕ) (b : ℕ) → list_any (λ y. eqb y b) s ≡ contains s b
+unfolding contains
+any_contains [] b = refl
+any_contains (x ∷ s) b = ap (λ (t : Bool). eqb x b || t) (any_contains s b)
+
 pub contains_at : (s : List ℕ) (b i : ℕ) → i < length s → get_or s i 0 ≡ b → contains s b ≡ true
 unfolding contains
 contains_at [] b i h e = absurd (omega arith)
@@ -46,6 +56,20 @@ unfolding contains
 contains_none [] b h = refl
 contains_none (x ∷ s) b h =
     rw (ne_eqb x b (h zero (omega arith)), contains_none s b (λ i l. h (suc i) (omega arith)))
+
+-- ---- the library's search in a list in rising order
+ascending_up : (s : List ℕ) → Ascending s → (i j : ℕ) → i ≤ j → j < length s → get_or s i 0 ≤ get_or s j 0
+ascending_up s a i j h l = ⊎_elim (λ e. rw e (omega arith)) (λ q. omega (arith, a.rises i j q l)) (eq-or-lt_of_le h)
+
+pub found_or_none :
+    (s : List ℕ) (letter : ℕ) (r : Result ℕ ℕ)
+    → Ascending s
+    → IsBinarySearchResult (λ y. nat_cmp y letter) s r
+    → is_ok r ≡ contains s letter
+found_or_none s letter (Ok i) a z = let f = searched s letter (Ok i) z (ascending_up s a) in sym (contains_at s letter i f.0 f.1)
+found_or_none s letter (Err i) a z =
+    let f = searched s letter (Err i) z (ascending_up s a) in
+    sym (contains_none s letter (λ k l e. ⊎_elim (λ q. omega (arith, f.1 k q)) (λ q. omega (arith, f.2 k q l)) (before_or_not k i)))
 
 -- ---- the halves
 -- what stands before `low` is below the letter, and from `high` on nothing is

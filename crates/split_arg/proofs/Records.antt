@@ -8,6 +8,7 @@ use lib.Dec.{eqb, leb, lit<}
 use lib.ListN.{length, get_or, drop, set, length-set}
 use lib.Seq.{get_or-take, get_or-drop, sets}
 use borrow.Author.Tests.{ne_eqb}
+use Rattle.std.specs.Int.{from_bool}
 use Rattle.rules.specs.Base.{all}
 use Rattle.rules.specs.Split.{bit}
 use Rattle.rules.specs.Tree.{zeros}
@@ -16,6 +17,12 @@ use Rattle.split_arg.specs.declared.Part.{Part}
 use Rattle.split_arg.specs.declared.Item.{Item}
 use Rattle.split_arg.specs.declared.Item.TheVariants.{Short, Long, ArgWord, Word, PosWord}
 use Rattle.split_arg.specs.Items.{record_of, record_at, part_at, item_of, in_area}
+
+-- a test as a number
+pub from_bit : (b : Bool) (n : ℕ) → n ≡ from_bool b → n ≡ bit b
+unfolding bit
+from_bit true n e = e
+from_bit false n e = e
 
 -- the words of a record, in the slice
 pub word_of : (l : List ℕ) (at k w : ℕ) → k < 7 → w ≡ get_or l (7 * at + k) 0 → get_or (record_at l at) k 0 ≡ w

@@ -3,11 +3,16 @@ use Rattle.std.specs.Prelude.{◌≡◌, List, [], map, ℕ, ◌≤◌, ◌<◌,
 use Rattle.rules.specs.Outcome.{ok}
 use Rattle.rules.specs.Accept.{Letters}
 use Rattle.rules.specs.Split.{Letter, cluster_from, Cluster, single, all_flags, argument_letter, withdrawn, ambiguous, look_up, disambiguate_short}
+use Rattle.split_arg.specs.declared.Letters.{Letters as Given}
 use Rattle.split_arg.specs.declared.Outcome.{Outcome}
 use Rattle.split_arg.specs.declared.Outcome.TheVariants.{Single, AllFlags, Argument, Withdrawn, Ambiguous}
 
 abbrev pub letters : List ℕ → List ℕ → Letters
 letters flags arguments = record { flags = flags; arguments = arguments }
+
+-- the letters that the code is given
+abbrev pub meaning : Given → Letters
+meaning g = letters g.flags.now g.arguments.now
 
 unfoldable pub characters : List Letter → List ℕ
 characters ls = map (λ (x : Letter). x.character) ls

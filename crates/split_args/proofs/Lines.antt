@@ -6,16 +6,14 @@ use mathlib.Core.Option.{Option, some, none}
 use Prim.Native.Nat.{ℕ, zero, suc, ◌+◌, ◌-◌, ◌*◌, ◌^◌, ◌≤◌, ◌<◌}
 use native.Mathlib.Numerals.{add-one}
 use native.Mathlib.Omega.{arith}
-use lib.Dec.{leb}
 use lib.ListN.{length, take, drop, length-append, drop_of_length-le}
 use lib.Seq.{sets, length-sets, sets-eq, take_at}
 use borrow.Author.Tests.{lt-ltb, le-ltb}
-use Rattle.std.specs.Prelude.{if◌then◌else◌}
+use Rattle.std.specs.Prelude.{Some, None}
 use Rattle.wire.specs.Wire.{number_at, area_start, offset, entry_of, HasEntry}
 use Rattle.wire.specs.Laws.{good_table}
 use Rattle.rules.specs.Base.{concat_map}
 use Rattle.rules.specs.Outcome.{Outcome, ok, refused, fault, ◌>>=◌}
-use Rattle.rules.specs.Codes.{place_code}
 use Rattle.rules.specs.Sheet.{argument_count, arguments}
 use Rattle.rules.specs.Accept.{Letters}
 use Rattle.rules.specs.Split.{Item, PosWord, Group, plain, split_argument, Split, positionals, joined, split_from, items_of, item_words, records_from}
@@ -24,7 +22,7 @@ use Rattle.rules.specs.Demands.{has_marker}
 use Rattle.rules.proofs.SplitLaws.{split_ok, flatten_append, records_from_length, MarkerAt, marker_law, ambiguous_law}
 use Rattle.split_arg.proofs.LookUp.{ok_same}
 use Rattle.split_group.specs.declared.Group.{Group as Made}
-use Rattle.split_group.specs.Groups.{stored, ArgumentFits, Makes}
+use Rattle.split_group.specs.Groups.{which, ArgumentFits, Makes}
 use Rattle.split_group.proofs.Stores.{sets_append, has_room}
 use Rattle.split_args.specs.Construct.{group_at, marker_after, line_for, refusal_number, refusal_place, SheetAndRoom, SplitWrites}
 use Rattle.split_args.proofs.Sheets.{GoodSheet, good_sheet, arguments_length, has_entry, argument_next, argument_end, argument_fits, offset_there}
@@ -116,13 +114,13 @@ bind_ok (ok a) f b e = (a, refl, e)
 bind_ok (refused x) f b e = absurd (let z : ◌≡◌ {A = ℕ} 0 1 = cc in omega arith)
 bind_ok (fault x) f b e = absurd (let z : ◌≡◌ {A = ℕ} 0 1 = cc in omega arith)
 
-code_none : (a : Option ℕ) → (0 < place_code a → ⊥) → a ≡ none
-code_none none h = refl
-code_none (some i) h = absurd (h (omega arith))
+which_none : (a : Option ℕ) → which a ≡ None → a ≡ none
+which_none none h = refl
+which_none (some i) h = absurd (let z : ◌≡◌ {A = ℕ} 0 1 = cc in omega arith)
 
-code_some : (a : Option ℕ) → 0 < place_code a → (i : ℕ) × (a ≡ some i)
-code_some none h = absurd (omega arith)
-code_some (some i) h = (i, refl)
+which_some : (a : Option ℕ) (i : ℕ) → which a ≡ Some i → a ≡ some i
+which_some none i h = absurd (let z : ◌≡◌ {A = ℕ} 0 1 = cc in omega arith)
+which_some (some k) i h = let e : k ≡ i = cc in ap some e
 
 -- ---- one argument of what is left
 -- what the others are, by the group of the first
@@ -212,14 +210,6 @@ follows l at (suc i) os rest g y e f =
       stops = λ j g. some≢none (sym g);
       goes = λ g. (z, refl, refl, refl, sym (ap (λ (x : Split). x.ambiguous) whole));
     })
-
-stored_long : (o : List ℕ) (at n : ℕ) (w : List ℕ) → length (stored o at n w) ≡ length o
-unfolding stored
-stored_long o at n w = go (leb (at + n) 256)
-  where
-    go : (t : Bool) → length (if t then sets o (7 * at) w else o) ≡ length o
-    go true = length-sets o (7 * at) w
-    go false = refl
 
 -- ---- the line
 too_long : (l : Letters) (s : List ℕ) (x : Split) → split_from l 0 (arguments s) ≡ ok x → 256 < length (items_of x) → line_for l s ≡ ok too_many
@@ -315,9 +305,6 @@ module _ (l : Letters) (s items : List ℕ) (given : SheetAndRoom s items) (o : 
             length-append w.group.items (flatten next.later),
           )
 
-      pub made_long : length p ≡ length items
-      made_long = ap length w.words ∙ stored_long o at (length w.group.items) _ ∙ z.long
-
       pub count_few : r.count ≤ 256 - at → at + r.count ≤ 256
       count_few c = omega (arith, z.few)
 
@@ -352,12 +339,12 @@ module _ (l : Letters) (s items : List ℕ) (given : SheetAndRoom s items) (o : 
           sym (ap length (append-nil recs)) ∙ e ∙ omega (arith, length-append w.group.items [])
 
       -- ---- 8
-      pub too_many_lem : 256 - at < r.count → SplitWrites l s p (record { number = 8; place = 0; count = 0; marker = 0 })
+      pub too_many_lem : 256 - at < r.count → (number : ℕ) → number ≡ 8 → SplitWrites l s p (record { number = number; place = 0; count = 0; marker = 0 })
       unfolding too_many
-      too_many_lem c = record {
+      too_many_lem c number eight = record {
         line = too_many;
         same = too_long l s z.whole z.all (omega (arith, total, count, z.few));
-        number = refl;
+        number = eight;
         place = refl;
         words = refl;
         marked = record { few = omega arith; within = omega arith };
@@ -367,13 +354,13 @@ module _ (l : Letters) (s items : List ℕ) (given : SheetAndRoom s items) (o : 
       -- ---- on with the next
       pub goes_on :
           r.count ≤ 256 - at
-          → r.ambiguous ≤ 0
+          → r.ambiguous ≡ None
           → (m' : ℕ)
           → m' ≡ marker_after m r.marker at
           → SplitSoFar l s items p (k + 1) (at + r.count) m'
       unfolding flatten
       goes_on c a m' e =
-          let none_left = code_none w.group.ambiguous (λ i. omega (arith, ap (λ (x : Made). x.ambiguous) w.told≡)) in
+          let none_left = which_none w.group.ambiguous (sym (ap (λ (x : Made). x.ambiguous) w.told≡) ∙ a) in
           let x = next.goes none_left in
           let marker : m' ≡ marker_after m w.group.marker at = e ∙ ap (λ (b : Bool). marker_after m b at) (ap (λ (x : Made). x.marker) w.told≡) in
           record {
@@ -410,40 +397,39 @@ module _ (l : Letters) (s items : List ℕ) (given : SheetAndRoom s items) (o : 
           }
 
       -- ---- 9
-      module _ (fit : r.count ≤ 256 - at) (a : 0 < r.ambiguous) where
-        place : (i : ℕ) × (w.group.ambiguous ≡ some i)
-        place = code_some w.group.ambiguous (subst (λ (x : ℕ). 0 < x) (ap (λ (x : Made). x.ambiguous) w.told≡) a)
+      module _ (fit : r.count ≤ 256 - at) (i : ℕ) (a : r.ambiguous ≡ Some i) where
+        this : w.group.ambiguous ≡ some i
+        this = which_some w.group.ambiguous i (sym (ap (λ (x : Made). x.ambiguous) w.told≡) ∙ a)
 
-        place_code_lem : r.ambiguous ≡ suc place.0
-        place_code_lem = ap (λ (x : Made). x.ambiguous) w.told≡ ∙ ap place_code place.1
-
-        whole_ambiguous : z.whole.ambiguous ≡ some (at + place.0)
-        whole_ambiguous = ap (λ (x : Split). x.ambiguous) z.joins ∙ (next.stops place.0 place.1).2
+        whole_ambiguous : z.whole.ambiguous ≡ some (at + i)
+        whole_ambiguous = ap (λ (x : Split). x.ambiguous) z.joins ∙ (next.stops i this).2
 
         last_groups : z.whole.groups ≡ z.done ++ (w.group.items ∷ [])
-        last_groups = groups ∙ ap (λ (gs : List (List Item)). z.done ++ (w.group.items ∷ gs)) (next.stops place.0 place.1).0
+        last_groups = groups ∙ ap (λ (gs : List (List Item)). z.done ++ (w.group.items ∷ gs)) (next.stops i this).0
 
         last_total : length (items_of z.whole) ≡ at + r.count
         unfolding flatten
-        last_total = omega (arith, total, count, ap (λ (gs : List (List Item)). length (flatten gs)) (next.stops place.0 place.1).0)
+        last_total = omega (arith, total, count, ap (λ (gs : List (List Item)). length (flatten gs)) (next.stops i this).0)
 
-        pub ambiguous_few : at + r.ambiguous ≤ 256
-        ambiguous_few =
-            omega (arith, last_total, place_code_lem, (ambiguous_law l (arguments s) z.whole (at + place.0) z.all whole_ambiguous).1, z.few)
+        pub ambiguous_few : at + i + 1 ≤ 256
+        ambiguous_few = omega (arith, last_total, (ambiguous_law l (arguments s) z.whole (at + i) z.all whole_ambiguous).1, z.few)
 
-        pub ambiguous_letter_lem : SplitWrites l s p (record { number = 9; place = at + r.ambiguous; count = at + r.count; marker = 0 })
+        pub place_few : at + i ≤ 256
+        place_few = omega (arith, ambiguous_few)
+
+        pub ambiguous_letter_lem : (number : ℕ) → number ≡ 9 → SplitWrites l s p (record { number = number; place = at + i + 1; count = at + r.count; marker = 0 })
         unfolding ambiguity records_from
-        ambiguous_letter_lem =
+        ambiguous_letter_lem number nine =
             let records : records_from 0 (arguments s) z.whole.groups ≡ z.words ++ recs =
             ap (records_from 0 (arguments s)) last_groups ∙ more_records [] ∙ append-nil (z.words ++ recs) in
             ends l s items p z.whole (at + r.count) 0 z.all last_total (omega (arith, z.few)) (omega arith)
-            (ambiguous_law l (arguments s) z.whole (at + place.0) z.all whole_ambiguous).0
+            (ambiguous_law l (arguments s) z.whole (at + i) z.all whole_ambiguous).0
             (written fit ∙ ap (sets items 0) (sym records))
             (omega (arith, ap length records, length-append z.words recs, z.size, recs_size, count))
             given.room
-            9 (at + r.ambiguous)
-            (sym (ap (λ (a : Option ℕ). refusal_number (ambiguity a)) whole_ambiguous))
-            ((let e : at + r.ambiguous ≡ suc (at + place.0) = omega (arith, place_code_lem) in e)
+            number (at + i + 1)
+            (nine ∙ sym (ap (λ (a : Option ℕ). refusal_number (ambiguity a)) whole_ambiguous))
+            ((let e : at + i + 1 ≡ suc (at + i) = omega arith in e)
             ∙ sym (ap (λ (a : Option ℕ). refusal_place (ambiguity a)) whole_ambiguous))
 
 -- ---- the last argument is done

@@ -10,8 +10,8 @@ use lib.Dec.{eqb}
 use lib.ListN.{length, get_or, drop, drop_of_length-le}
 use borrow.Author.Tests.{eq-eqb, ne_eqb, not-true, not-false}
 use Rattle.utf8.specs.Utf8.{decode, decode_at, well_formed}
-use Rattle.utf8.specs.declared.Decoded.{Decoded}
-use Rattle.utf8.specs.declared.Decoded.TheVariants.{Char, Bad}
+use Rattle.std.specs.Prelude.{Option as CodeOption, Some, None}
+use Rattle.utf8.specs.declared.Char.{Char}
 use Rattle.utf8.specs.Laws.{character}
 use Rattle.wire.specs.Wire.{entry_of, HasEntry}
 use Rattle.rules.specs.Base.{all, null, slice_from}
@@ -63,11 +63,11 @@ module _ (l m : Letters) where
   unfolding short_group cluster_from decode_at slice_from disambiguate_short null at ◌>>=◌
   letter_same os b = go (decode (b ∷ [])) refl
     where
-      go : (d : Decoded) → decode (b ∷ []) ≡ d → short_group l os (b ∷ []) none ≡ short_group m os (b ∷ []) none
-      go Bad e = rw (e, cluster_from) refl
-      go (Char c n) e =
-          let k = character (b ∷ []) 0 c n e in
-          let one : n ≡ 1 = omega (arith, k.some, k.within) in
+      go : (d : CodeOption Char) → decode (b ∷ []) ≡ d → short_group l os (b ∷ []) none ≡ short_group m os (b ∷ []) none
+      go None e = rw (e, cluster_from) refl
+      go (Some c) e =
+          let k = character (b ∷ []) 0 c e in
+          let one : c.size ≡ 1 = omega (arith, k.some, k.within) in
           rw (e, one, cluster_from) refl
 
   one_byte : (os : List ℕ) (b : ℕ) → grouped l os (split_short b []) ≡ grouped m os (split_short b [])

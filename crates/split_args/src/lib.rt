@@ -4,26 +4,20 @@
 ghost use Rattle.std.specs.Prelude.{◌≡◌, ◌≤◌, length};
 ghost use Rattle.rules.specs.Base.{all};
 ghost use Rattle.rules.specs.Sheet.{sheet_fault, arguments};
-ghost use Rattle.split_arg.specs.Clusters.{letters};
+ghost use Rattle.split_arg.specs.Clusters.{meaning};
 ghost use Rattle.split_arg.specs.Order.{CanLookUp};
 ghost use Rattle.split_group.specs.Groups.{ArgumentFits, Makes};
 ghost use Rattle.state_marks.specs.Lent.{raw_of};
-ghost use Rattle.split_args.specs.Construct.{group_at, marker_after, plain_argument, starting_state};
+ghost use Rattle.split_args.specs.Construct.{group_at, plain_argument, starting_state};
 ghost use Rattle.split_args.specs.Construct.{MarkerWithin, Unmarked, SheetAndRoom, SplitWrites, SplitEnds};
 
-use rules::State;
-use split_arg::ITEMS;
+use rules::{Refusal, State};
+use split_arg::{ITEMS, Letters};
 use split_group::Group;
 use state_marks::{MARKER, Numbers};
-use wire::wide;
-
-// The refusals of splitting: more items than have room, and a letter that is a flag's and an argument's.
-const TOO_MANY: u32 = 8;
-
-const AMBIGUOUS: u32 = 9;
 
 // How splitting ended: 0, 8 or 9; the place of 9 plus 1; how many items there are; the place of the first `--` plus 1. A place
-// is 0 for none.
+// is 0 for none. Numbers, and no Option of a refusal: what runs and calls answer with has the same two, and takes them as they are.
 #[derive(Clone, Copy)]
 pub struct Ended {
     pub number: u32,
@@ -37,61 +31,52 @@ fn next_group(
     os: &[u8],
     begin: usize,
     marker: usize,
-    flags: &[u32],
-    arguments: &[u32],
+    letters: &Letters,
     items: &mut [u32],
     at: usize,
 ) -> Group
-    requires { ArgumentFits os.now begin at × CanLookUp flags.now arguments.now }
-    ensures { Makes os.now begin at items.old items.new result (group_at (letters flags.now arguments.now) marker os.now) }
+    requires { ArgumentFits os.now begin at × CanLookUp letters.now.flags.now letters.now.arguments.now }
+    ensures { Makes os.now begin at items.old items.new result (group_at (meaning letters.now) marker os.now) }
 {
     if marker == 0 {
-        return split_group::split_argument(os, begin, flags, arguments, items, at);
+        return split_group::split_argument(os, begin, letters, items, at);
     }
     split_group::split_positional(os, begin, items, at)
 }
 
-fn marker_after(marker: usize, first: bool, at: usize) -> usize
-    requires { at ≤ 256 }
-    ensures { result ≡ marker_after marker first at }
-{
-    if first { at + 1 } else { marker }
-}
-
 // The loop over the arguments. `at` is the place of the next item. What stands behind the records of the items is of no use.
-fn split_arguments(sheet: &[u8], flags: &[u32], arguments: &[u32], items: &mut [u32]) -> Ended
-    requires { SheetAndRoom sheet.now items.old × CanLookUp flags.now arguments.now }
-    ensures { SplitWrites (letters flags.now arguments.now) sheet.now items.new result }
+fn split_arguments(sheet: &[u8], letters: &Letters, items: &mut [u32]) -> Ended
+    requires { SheetAndRoom sheet.now items.old × CanLookUp letters.now.flags.now letters.now.arguments.now }
+    ensures { SplitWrites (meaning letters.now) sheet.now items.new result }
 {
     let n = wire::u16_at(sheet, 0) as usize;
-    let mut k = 0;
     let mut at = 0;
     let mut marker = 0;
-    while k < n {
+    for k in 0..n {
         let begin = wire::offset_at(sheet, 2, k);
         let os = wire::entry(sheet, 2, n, k);
-        let group = next_group(os, begin, marker, flags, arguments, items, at);
+        let group = next_group(os, begin, marker, letters, items, at);
         let count = group.count;
         if ITEMS - at < count {
             return Ended {
-                number: TOO_MANY,
+                number: Refusal::TooManyItems.number(),
                 place: 0,
                 count: 0,
                 marker: 0,
             };
         }
-        let ambiguous = group.ambiguous;
-        if 0 < ambiguous {
+        if let Some(i) = group.ambiguous {
             return Ended {
-                number: AMBIGUOUS,
-                place: (at + ambiguous) as u32,
+                number: Refusal::Ambiguous.number(),
+                place: (at + i + 1) as u32,
                 count: (at + count) as u32,
                 marker: 0,
             };
         }
-        marker = marker_after(marker, group.marker, at);
+        if group.marker {
+            marker = at + 1;
+        }
         at += count;
-        k += 1;
     }
     Ended {
         number: 0,
@@ -103,12 +88,12 @@ fn split_arguments(sheet: &[u8], flags: &[u32], arguments: &[u32], items: &mut [
 
 // The items of a sheet, and zeros behind them: no word is cleared that a record is written to. What the state starts as is told by
 // their count and by the place of the first `--`.
-pub fn construct(sheet: &[u8], flags: &[u32], arguments: &[u32], items: &mut [u32]) -> Ended
-    requires { SheetAndRoom sheet.now items.old × CanLookUp flags.now arguments.now }
-    ensures { SplitEnds (letters flags.now arguments.now) sheet.now (length items.old) items.new result }
+pub fn construct(sheet: &[u8], letters: &Letters, items: &mut [u32]) -> Ended
+    requires { SheetAndRoom sheet.now items.old × CanLookUp letters.now.flags.now letters.now.arguments.now }
+    ensures { SplitEnds (meaning letters.now) sheet.now (length items.old) items.new result }
 {
-    let split = split_arguments(sheet, flags, arguments, items);
-    let end = 7 * wide(split.count);
+    let split = split_arguments(sheet, letters, items);
+    let end = 7 * split.count as usize;
     wire::fill(items, end, items.len() - end, 0);
     split
 }
@@ -117,13 +102,10 @@ pub fn construct(sheet: &[u8], flags: &[u32], arguments: &[u32], items: &mut [u3
 fn is_plain(os: &[u8]) -> bool
     ensures { result ≡ plain_argument os.now }
 {
-    if os.len() < 3 {
-        return true;
+    match os {
+        [b'-', second, _, ..] => *second == b'-',
+        _ => true,
     }
-    if os[0] != b'-' {
-        return true;
-    }
-    os[1] == b'-'
 }
 
 // Whether splitting looks no letter up, so that it comes to the same under any letters.
@@ -132,13 +114,10 @@ pub fn all_plain(sheet: &[u8]) -> bool
     ensures { result ≡ all plain_argument (arguments sheet.now) }
 {
     let n = wire::u16_at(sheet, 0) as usize;
-    let mut k = 0;
-    while k < n {
-        let os = wire::entry(sheet, 2, n, k);
-        if !is_plain(os) {
+    for k in 0..n {
+        if !is_plain(wire::entry(sheet, 2, n, k)) {
             return false;
         }
-        k += 1;
     }
     true
 }
@@ -148,19 +127,14 @@ pub fn begin(count: u32, marker: u32, marks: &mut [u16; 256]) -> Numbers
     requires { MarkerWithin count marker × Unmarked marks.old }
     ensures { raw_of marks.new result ≡ starting_state count marker }
 {
-    if marker == 0 {
-        return Numbers {
-            count,
-            remaining: count,
-            current: 0,
-            start: 0,
-            end: count,
-        };
+    let mut remaining = count;
+    if marker != 0 {
+        marks[(marker - 1) as usize] = MARKER;
+        remaining -= 1;
     }
-    marks[(marker - 1) as usize] = MARKER;
     Numbers {
         count,
-        remaining: count - 1,
+        remaining,
         current: 0,
         start: 0,
         end: count,

@@ -2,14 +2,15 @@
 use mathlib.Core.Path.{◌≡◌, refl, sym, ◌∙◌, ap}
 use mathlib.Core.Bool.{true, false}
 use mathlib.Core.List.{List, [], ◌++◌, append_assoc, append-nil}
-use Prim.Native.Nat.{ℕ, suc, ◌+◌, ◌-◌, ◌*◌, ◌≤◌, ◌<◌}
+use Prim.Native.Nat.{ℕ, suc, ◌+◌, ◌*◌, ◌≤◌, ◌<◌}
 use native.Mathlib.Nat.{zero-add}
 use native.Mathlib.Omega.{arith}
 use lib.ListN.{length, take, drop, length-append}
 use lib.Seq.{sets, length-sets}
 use Rattle.utf8.specs.Utf8.{decode_at, well_formed}
 use Rattle.utf8.specs.Laws.{character}
-use Rattle.utf8.specs.declared.Decoded.TheVariants.{Char, Bad}
+use Rattle.std.specs.Prelude.{Some, None}
+use Rattle.utf8.specs.declared.Char.{Char}
 use Rattle.rules.specs.Outcome.{ok}
 use Rattle.rules.specs.Split.{Letter, cluster_from}
 use Rattle.rules.proofs.SplitLaws.{cluster_ok}
@@ -61,15 +62,15 @@ wrote_none name count whole o at f =
 module _ (name : List ℕ) (count : ℕ) (whole : Part) (o₀ : List ℕ) (at : ℕ) (o : List ℕ) (text : Part) (place k : ℕ)
     (z : WroteFlags name count whole o₀ at o text place k) where
   pub wrote_more :
-      (c n : ℕ) (p : List ℕ)
-      → decode_at name place ≡ Char c n
+      (c : Char) (p : List ℕ)
+      → decode_at name place ≡ Some c
       → k < count
-      → p ≡ sets o (7 * (at + k)) (record_of (Short c false text))
-      → WroteFlags name count whole o₀ at p nothing (place + n) (k + 1)
+      → p ≡ sets o (7 * (at + k)) (record_of (Short c.value false text))
+      → WroteFlags name count whole o₀ at p nothing (place + c.size) (k + 1)
   unfolding flag_words characters
-  wrote_more c n p e h q =
-      let x = next name z.left place z.further z.good c n e in
-      let w = record_of (Short c false text) in
+  wrote_more c p e h q =
+      let x = next name z.left place z.further z.good c e in
+      let w = record_of (Short c.value false text) in
       let size = z.size in
       let put = sets_behind o₀ o p z.words w at k z.put size q in
       record {
@@ -77,7 +78,7 @@ module _ (name : List ℕ) (count : ℕ) (whole : Part) (o₀ : List ℕ) (at : 
         left = x.later;
         further = x.further;
         good = x.good;
-        within = (character name place c n e).within;
+        within = (character name place c e).within;
         put = put;
         size = omega (arith, length-append z.words w);
         same = λ m.
@@ -100,6 +101,6 @@ module _ (name : List ℕ) (count : ℕ) (whole : Part) (o₀ : List ℕ) (at : 
       z.put ∙ rw (j, all)
 
   -- a letter is there as long as there is one to write
-  pub letter_there : {A : Type 0} → count ≤ length (letters_in name) → k < count → decode_at name place ≡ Bad → A
+  pub letter_there : {A : Type 0} → count ≤ length (letters_in name) → k < count → decode_at name place ≡ None → A
   letter_there f h e =
       absurd (omega (arith, z.letters, ap length (none_left name z.left place z.further z.good z.within e)))

@@ -6,13 +6,13 @@ use mathlib.Core.Option.{some, none}
 use Prim.Native.Nat.{ℕ, zero, suc, ◌+◌, ◌-◌, ◌^◌, ◌≤◌, ◌<◌, zero-le}
 use native.Mathlib.Omega.{arith}
 use lib.Dec.{eqb}
-use lib.ListN.{length, get_or, take, drop, length-drop, length-append, length-map}
+use lib.Pointwise.{pointwise}
+use lib.ListN.{length, take, drop, length-drop, length-append, length-map}
 use lib.Seq.{length-take-le, take_all, drop-drop}
-use borrow.Author.Tests.{eq-eqb, ne_eqb}
 use Rattle.utf8.specs.Utf8.{decode, decode_at, well_formed}
 use Rattle.utf8.specs.Laws.{well_formed_bad}
-use Rattle.utf8.specs.declared.Decoded.{Decoded}
-use Rattle.utf8.specs.declared.Decoded.TheVariants.{Char, Bad}
+use Rattle.std.specs.Prelude.{Option as CodeOption, Some, None}
+use Rattle.utf8.specs.declared.Char.{Char}
 use Rattle.rules.specs.Base.{same, concat_map}
 use Rattle.rules.specs.Outcome.{Outcome, ok, refused, fault, ◌>>=◌, at}
 use Rattle.rules.specs.Accept.{Letters}
@@ -41,7 +41,7 @@ use Rattle.split_group.proofs.Records.{flags_count}
 
 -- ---- a group whose items are known
 pub makes :
-    (os : List ℕ) (begin at : ℕ) (o p : List ℕ) (r : Group) (n a : ℕ) (w : List ℕ) (x : Outcome Meaning) (g : Meaning)
+    (os : List ℕ) (begin at : ℕ) (o p : List ℕ) (r : Group) (n : ℕ) (a : CodeOption ℕ) (w : List ℕ) (x : Outcome Meaning) (g : Meaning)
     → Puts o at p r n a w
     → x ≡ ok g
     → record { count = n; ambiguous = a; marker = false } ≡ told g
@@ -64,61 +64,36 @@ makes_same os begin at o p r x y z e = record { group = z.group; same = e ∙ z.
 module _ (os : List ℕ) (begin at : ℕ) (o p : List ℕ) (r : Group) (x : Outcome Meaning) where
   pub makes_one :
       (i : rules.Item) (j : Item)
-      → Puts o at p r 1 0 (record_of j)
+      → Puts o at p r 1 None (record_of j)
       → x ≡ ok (plain (i ∷ []))
       → item_words begin (begin + length os) i ≡ record_of j
       → Makes os begin at o p r x
   unfolding plain concat_map
-  makes_one i j z e q = makes os begin at o p r 1 0 (record_of j) x (plain (i ∷ [])) z e refl (sym (append-nil _ ∙ q))
+  makes_one i j z e q = makes os begin at o p r 1 None (record_of j) x (plain (i ∷ [])) z e refl (sym (append-nil _ ∙ q))
 
   pub makes_two :
       (i k : rules.Item) (j l : Item)
-      → Puts o at p r 2 0 (record_of j ++ record_of l)
+      → Puts o at p r 2 None (record_of j ++ record_of l)
       → x ≡ ok (plain (i ∷ k ∷ []))
       → item_words begin (begin + length os) i ≡ record_of j
       → item_words begin (begin + length os) k ≡ record_of l
       → Makes os begin at o p r x
   unfolding plain concat_map
   makes_two i k j l z e q s =
-      makes os begin at o p r 2 0 (record_of j ++ record_of l) x (plain (i ∷ k ∷ [])) z e refl
+      makes os begin at o p r 2 None (record_of j ++ record_of l) x (plain (i ∷ k ∷ [])) z e refl
       (sym (ap₂ (λ (v w : List ℕ). v ++ w) q (append-nil _ ∙ s)))
 
 -- ---- `--`
-pub not_two : (os : List ℕ) → (length os ≡ 2 → ⊥) → false ≡ same os (dash ∷ dash ∷ [])
-unfolding same dash
-not_two [] h = refl
-not_two (a ∷ []) h = go (eqb a 45)
-  where
-    go : (t : Bool) → false ≡ (t && false)
-    go true = refl
-    go false = refl
-not_two (a ∷ b ∷ []) h = absurd (h refl)
-not_two (a ∷ b ∷ c ∷ os) h = go (eqb a 45) (eqb b 45)
-  where
-    go : (t u : Bool) → false ≡ (t && (u && false))
-    go true true = refl
-    go true false = refl
-    go false u = refl
-
-pub not_dash : (os : List ℕ) → length os ≡ 2 → (get_or os 0 0 ≡ 45 → ⊥) → false ≡ same os (dash ∷ dash ∷ [])
-unfolding same dash
-not_dash [] h e = absurd (omega arith)
-not_dash (a ∷ os) h e = rw (ne_eqb a 45 e)
-
-pub second_dash : (os : List ℕ) → length os ≡ 2 → get_or os 0 0 ≡ 45 → eqb (get_or os 1 0) 45 ≡ same os (dash ∷ dash ∷ [])
-unfolding same dash
-second_dash [] h e = absurd (omega arith)
-second_dash (a ∷ []) h e = absurd (omega arith)
-second_dash (a ∷ b ∷ []) h e = rw (eq-eqb a 45 e) (go (eqb b 45))
-  where
-    go : (t : Bool) → t ≡ (t && true)
-    go true = refl
-    go false = refl
-second_dash (a ∷ b ∷ c ∷ os) h e = absurd (omega arith)
+pub pointwise_same : (xs ys : List ℕ) → pointwise eqb xs ys ≡ same xs ys
+unfolding same
+pointwise_same [] [] = refl
+pointwise_same [] (y ∷ ys) = refl
+pointwise_same (x ∷ xs) [] = refl
+pointwise_same (x ∷ xs) (y ∷ ys) = ap (λ (t : Bool). eqb x y && t) (pointwise_same xs ys)
 
 -- what the code found is what splitting gives
-found : (os : List ℕ) (q : Parts) → TellsParts os q (split_os_argument os) → (u : Parts) → q ≡ u → split_os_argument os ≡ ok (parts_of os u)
-found os q t u f = sym t.same ∙ ap (λ (v : Parts). ok (parts_of os v)) f
+found : (os : List ℕ) (q : CodeOption Parts) → TellsParts os q (split_os_argument os) → (u : CodeOption Parts) → q ≡ u → split_os_argument os ≡ ok (parts_of os u)
+found os q t u f = sym t.same ∙ ap (λ (v : CodeOption Parts). ok (parts_of os v)) f
 
 module _ (os : List ℕ) (begin at : ℕ) (o p : List ℕ) (g : Group) (whole : Part) (e : whole ≡ part_of (begin + 0) (length os - 0)) where
   text : TextIs (begin + length os) os whole
@@ -126,122 +101,122 @@ module _ (os : List ℕ) (begin at : ℕ) (o p : List ℕ) (g : Group) (whole : 
 
   pub a_marker :
       same os (dash ∷ dash ∷ []) ≡ true
-      → Puts o at p g 1 0 (record_of (PosWord whole))
-      → Makes os begin at o p (record { count = g.count; ambiguous = 0; marker = true }) (ok (word_group os))
+      → Puts o at p g 1 None (record_of (PosWord whole))
+      → Makes os begin at o p (record { count = g.count; ambiguous = g.ambiguous; marker = true }) (ok (word_group os))
   unfolding word_group concat_map
   a_marker s z =
       rw (s, word_group)
       (record {
         group = record { items = rules.PosWord os ∷ []; ambiguous = none; marker = true };
         same = refl;
-        told≡ = ap (λ (n : ℕ). record { count = n; ambiguous = 0; marker = true }) (ap (λ (y : Group). y.count) z.group);
+        told≡ = ap (λ (y : Group). record { count = y.count; ambiguous = y.ambiguous; marker = true }) z.group;
         words = z.words≡ ∙ ap (λ (w : List ℕ). stored o at 1 w) (sym (append-nil _ ∙ pos_word_record begin (begin + length os) os whole text));
       })
 
-  pub a_word : same os (dash ∷ dash ∷ []) ≡ false → Puts o at p g 1 0 (record_of (Word whole)) → Makes os begin at o p g (ok (word_group os))
+  pub a_word : same os (dash ∷ dash ∷ []) ≡ false → Puts o at p g 1 None (record_of (Word whole)) → Makes os begin at o p g (ok (word_group os))
   unfolding word_group
   a_word s z =
       makes_one os begin at o p g (ok (word_group os)) (rules.Word os) (Word whole) z (rw (s, word_group))
       (word_record begin (begin + length os) os whole text)
 
-  pub a_positional : Puts o at p g 1 0 (record_of (PosWord whole)) → Makes os begin at o p g (ok (plain (rules.PosWord os ∷ [])))
+  pub a_positional : Puts o at p g 1 None (record_of (PosWord whole)) → Makes os begin at o p g (ok (plain (rules.PosWord os ∷ [])))
   a_positional z =
       makes_one os begin at o p g (ok (plain (rules.PosWord os ∷ []))) (rules.PosWord os) (PosWord whole) z refl
       (pos_word_record begin (begin + length os) os whole text)
 
   -- ---- a letter with a value
   pub a_value :
-      (body : ℕ) (value : Part) (c k : ℕ)
+      (body : ℕ) (value : Part) (c : Char)
       → value ≡ part_of (begin + body) (length os - body)
       → body ≤ length os
-      → decode_at (take 1 (drop 1 os)) 0 ≡ Char c k
-      → Puts o at p g 2 0 (record_of (Short c true whole) ++ record_of (ArgWord value))
+      → decode_at (take 1 (drop 1 os)) 0 ≡ Some c
+      → Puts o at p g 2 None (record_of (Short c.value true whole) ++ record_of (ArgWord value))
       → (l : Letters)
       → Makes os begin at o p g (short_group l os (take 1 (drop 1 os)) (some (drop body os)))
   unfolding short_group decode_at
-  a_value body value c k f h d z l =
-      makes_two os begin at o p g _ (rules.Short c true os) (rules.ArgWord (drop body os)) (Short c true whole) (ArgWord value) z
+  a_value body value c f h d z l =
+      makes_two os begin at o p g _ (rules.Short c.value true os) (rules.ArgWord (drop body os)) (Short c.value true whole) (ArgWord value) z
       (rw (d, short_group))
-      (short_record begin (begin + length os) os whole text c true)
+      (short_record begin (begin + length os) os whole text c.value true)
       (arg_word_record begin (begin + length os) (drop body os) value (text_from os begin body value h f))
 
   -- ---- a long name
-  module _ (l : Letters) (q : Parts) (t : TellsParts os q (split_os_argument os)) where
+  module _ (l : Letters) (q : CodeOption Parts) (t : TellsParts os q (split_os_argument os)) where
     pub a_long :
         (n : ℕ) (name : Part)
-        → q ≡ P.Long n
+        → q ≡ Some (P.Long n)
         → name ≡ part_of (begin + 2) (n + 2 - 2)
-        → Puts o at p g 1 0 (record_of (Long name false whole))
+        → Puts o at p g 1 None (record_of (Long name false whole))
         → Makes os begin at o p g (split_argument l os)
     unfolding split_argument parts_group long_group ◌>>=◌
     a_long n name f m z =
-        let s : Sized os (P.Long n) = subst (Sized os) f t.sized in
+        let s : Sized os (Some (P.Long n)) = subst (Sized os) f t.sized in
         makes_one os begin at o p g (split_argument l os) (rules.Long (take n (drop 2 os)) false os) (Long name false whole) z
-        (rw (found os q t (P.Long n) f, split_argument))
+        (rw (found os q t (Some (P.Long n)) f, split_argument))
         (long_record begin (begin + length os) os whole text (take n (drop 2 os)) name false (name_from os begin n name (omega (arith, s.1)) m))
 
     pub a_long_value :
         (n body : ℕ) (name value : Part)
-        → q ≡ P.LongBody n body
+        → q ≡ Some (P.LongBody n body)
         → name ≡ part_of (begin + 2) (n + 2 - 2)
         → value ≡ part_of (begin + body) (length os - body)
-        → Puts o at p g 2 0 (record_of (Long name true whole) ++ record_of (ArgWord value))
+        → Puts o at p g 2 None (record_of (Long name true whole) ++ record_of (ArgWord value))
         → Makes os begin at o p g (split_argument l os)
     unfolding split_argument parts_group long_group ◌>>=◌
     a_long_value n body name value f m v z =
-        let s : Sized os (P.LongBody n body) = subst (Sized os) f t.sized in
+        let s : Sized os (Some (P.LongBody n body)) = subst (Sized os) f t.sized in
         makes_two os begin at o p g (split_argument l os)
         (rules.Long (take n (drop 2 os)) true os) (rules.ArgWord (drop body os)) (Long name true whole) (ArgWord value) z
-        (rw (found os q t (P.LongBody n body) f, split_argument))
+        (rw (found os q t (Some (P.LongBody n body)) f, split_argument))
         (long_record begin (begin + length os) os whole text (take n (drop 2 os)) name true (name_from os begin n name (omega (arith, s.0, s.1)) m))
         (arg_word_record begin (begin + length os) (drop body os) value (text_from os begin body value s.1 v))
 
 -- ---- the other kinds of argument, from the functions that split them
-module _ (os : List ℕ) (begin at : ℕ) (o p : List ℕ) (g : Group) (l : Letters) (q : Parts) (t : TellsParts os q (split_os_argument os)) where
-  pub no_name : q ≡ P.None → Makes os begin at o p g (ok (word_group os)) → Makes os begin at o p g (split_argument l os)
+module _ (os : List ℕ) (begin at : ℕ) (o p : List ℕ) (g : Group) (l : Letters) (q : CodeOption Parts) (t : TellsParts os q (split_os_argument os)) where
+  pub no_name : q ≡ None → Makes os begin at o p g (ok (word_group os)) → Makes os begin at o p g (split_argument l os)
   unfolding split_argument ◌>>=◌
-  no_name f z = makes_same os begin at o p g _ _ z (rw (found os q t P.None f, split_argument))
+  no_name f z = makes_same os begin at o p g _ _ z (rw (found os q t None f, split_argument))
 
   pub short_name_lem :
       (n : ℕ)
-      → q ≡ P.Short n
+      → q ≡ Some (P.Short n)
       → Makes os begin at o p g (short_group l os (drop 1 os) none)
       → Makes os begin at o p g (split_argument l os)
   unfolding split_argument parts_group ◌>>=◌
   short_name_lem n f z =
-      let s : Sized os (P.Short n) = subst (Sized os) f t.sized in
+      let s : Sized os (Some (P.Short n)) = subst (Sized os) f t.sized in
       let all : take n (drop 1 os) ≡ drop 1 os = take_all n (drop 1 os) (omega (arith, s.1, length-drop 1 os)) in
-      makes_same os begin at o p g _ _ z (rw (found os q t (P.Short n) f, split_argument, all))
+      makes_same os begin at o p g _ _ z (rw (found os q t (Some (P.Short n)) f, split_argument, all))
 
   pub short_value_name :
       (n body : ℕ)
-      → q ≡ P.ShortBody n body
+      → q ≡ Some (P.ShortBody n body)
       → ((l : Letters) → Makes os begin at o p g (short_group l os (take 1 (drop 1 os)) (some (drop body os))))
       → Makes os begin at o p g (split_argument l os)
   unfolding split_argument parts_group ◌>>=◌
   short_value_name n body f z =
-      let s : Sized os (P.ShortBody n body) = subst (Sized os) f t.sized in
-      makes_same os begin at o p g _ _ (z l) (rw (found os q t (P.ShortBody n body) f, split_argument, s.0))
+      let s : Sized os (Some (P.ShortBody n body)) = subst (Sized os) f t.sized in
+      makes_same os begin at o p g _ _ (z l) (rw (found os q t (Some (P.ShortBody n body)) f, split_argument, s.0))
 
-module _ (os : List ℕ) (begin at : ℕ) (q : Parts) (t : TellsParts os q (split_os_argument os)) (h : ArgumentFits os begin at) where
-  pub cluster_in : (n : ℕ) → q ≡ P.Short n → ClusterIn os begin at
+module _ (os : List ℕ) (begin at : ℕ) (q : CodeOption Parts) (t : TellsParts os q (split_os_argument os)) (h : ArgumentFits os begin at) where
+  pub cluster_in : (n : ℕ) → q ≡ Some (P.Short n) → ClusterIn os begin at
   cluster_in n f =
-      let s : Sized os (P.Short n) = subst (Sized os) f t.sized in
+      let s : Sized os (Some (P.Short n)) = subst (Sized os) f t.sized in
       let all : take n (drop 1 os) ≡ drop 1 os = take_all n (drop 1 os) (omega (arith, s.1, length-drop 1 os)) in
-      let good : well_formed (take n (drop 1 os)) ≡ true = subst (λ (u : Parts). well_formed (name_of os u) ≡ true) f t.good in
+      let good : well_formed (take n (drop 1 os)) ≡ true = subst (λ (u : CodeOption Parts). well_formed (name_of os u) ≡ true) f t.good in
       record { fits = h; some = omega (arith, s.1); good = rw all at good }
 
-  pub value_in : (n body : ℕ) → q ≡ P.ShortBody n body → ValueIn os begin body at
+  pub value_in : (n body : ℕ) → q ≡ Some (P.ShortBody n body) → ValueIn os begin body at
   value_in n body f =
-      let s : Sized os (P.ShortBody n body) = subst (Sized os) f t.sized in
-      let good : well_formed (take n (drop 1 os)) ≡ true = subst (λ (u : Parts). well_formed (name_of os u) ≡ true) f t.good in
+      let s : Sized os (Some (P.ShortBody n body)) = subst (Sized os) f t.sized in
+      let good : well_formed (take n (drop 1 os)) ≡ true = subst (λ (u : CodeOption Parts). well_formed (name_of os u) ≡ true) f t.good in
       record { fits = h; two = omega (arith, s.1, s.2); within = s.2; good = rw s.0 at good }
 
   -- where a long name ends, and where its value begins
   module _ (n : ℕ) where
-    module _ (f : q ≡ P.Long n) where
+    module _ (f : q ≡ Some (P.Long n)) where
       long_end : n + 2 ≤ length os
-      long_end = let s : Sized os (P.Long n) = subst (Sized os) f t.sized in omega (arith, s.1)
+      long_end = let s : Sized os (Some (P.Long n)) = subst (Sized os) f t.sized in omega (arith, s.1)
 
       pub long_fits : n + 2 < 2 ^ 64
       long_fits = omega (arith, long_end, h.small)
@@ -249,9 +224,9 @@ module _ (os : List ℕ) (begin at : ℕ) (q : Parts) (t : TellsParts os q (spli
       pub long_inside : begin + (n + 2) < 2 ^ 32
       long_inside = omega (arith, long_end, h.small)
 
-    module _ (body : ℕ) (f : q ≡ P.LongBody n body) where
+    module _ (body : ℕ) (f : q ≡ Some (P.LongBody n body)) where
       ends : (n + 2 ≤ length os) × (body ≤ length os)
-      ends = let s : Sized os (P.LongBody n body) = subst (Sized os) f t.sized in (omega (arith, s.0, s.1), s.1)
+      ends = let s : Sized os (Some (P.LongBody n body)) = subst (Sized os) f t.sized in (omega (arith, s.0, s.1), s.1)
 
       pub named_fits : n + 2 < 2 ^ 64
       named_fits = omega (arith, ends.0, h.small)
@@ -264,7 +239,7 @@ module _ (os : List ℕ) (begin at : ℕ) (q : Parts) (t : TellsParts os q (spli
 
 -- a letter that is UTF-8 is there
 pub letter_known :
-    {A : Type 0} (os : List ℕ) (begin body at : ℕ) → ValueIn os begin body at → decode_at (take 1 (drop 1 os)) 0 ≡ Bad → A
+    {A : Type 0} (os : List ℕ) (begin body at : ℕ) → ValueIn os begin body at → decode_at (take 1 (drop 1 os)) 0 ≡ None → A
 letter_known os begin body at v e =
     let two = v.two in
     let l : length (take 1 (drop 1 os)) ≡ 1 = length-take-le 1 (drop 1 os) (omega (arith, length-drop 1 os)) in
@@ -291,16 +266,16 @@ letters_few (suc skip) k (b ∷ s) ls e = omega (arith, letters_few skip (suc k)
 letters_few zero k (b ∷ s) ls e = go (decode (b ∷ s)) refl (λ m xs. letters_few m (suc k) s xs)
   where
     go :
-        (d : Decoded)
+        (d : CodeOption Char)
         → decode (b ∷ s) ≡ d
         → ((m : ℕ) (xs : List Letter) → cluster_from m (suc k) s ≡ ok xs → length xs ≤ length s)
         → length ls ≤ suc (length s)
-    go Bad f r = absurd (let z = rw (f, cluster_from) at e in let y : ◌≡◌ {A = ℕ} 0 1 = cc in omega arith)
-    go (Char c n) f r =
+    go None f r = absurd (let z = rw (f, cluster_from) at e in let y : ◌≡◌ {A = ℕ} 0 1 = cc in omega arith)
+    go (Some c) f r =
         let x = bind_ok _ _ ls (rw (f, cluster_from) at e) in
         let y = bind_ok _ _ ls x.2 in
         let more = ap length (ok_same y.2) in
-        omega (arith, r (n - 1) y.0 y.1)
+        omega (arith, r (c.size - 1) y.0 y.1)
 
 module _
     (fl ar os : List ℕ)
@@ -350,9 +325,6 @@ module _
     pub rest_fits : (n c k : ℕ) → r ≡ Argument n c k → k + 1 < 2 ^ 64
     rest_fits n c k e = omega (arith, rest_within n c k e, h.fits.small)
 
-    pub count_fits : (n : ℕ) → r ≡ Ambiguous n → n + 1 < 2 ^ 64
-    count_fits n e = omega (arith, (flags_ambiguous n e).short, bytes, h.fits.small)
-
     first_count : (n : ℕ) → n ≤ length d.all → length (take n (characters d.all)) ≡ n
     unfolding characters
     first_count n f = length-take-le n _ (omega (arith, length-map d.all (λ (x : Letter). x.character)))
@@ -370,31 +342,31 @@ module _
           ≡ concat_map (item_words begin (begin + length os)) (flag_items os (take n (characters d.all)))
       flags_are n = rw all_letters (sym (flag_records begin (begin + length os) os whole (take n (characters d.all)) all_text))
 
-      pub one_letter : (c : ℕ) → r ≡ Single c → Puts o at p g 1 0 (record_of (Short c false whole)) → Out
+      pub one_letter : (c : ℕ) → r ≡ Single c → Puts o at p g 1 None (record_of (Short c false whole)) → Out
       unfolding cluster_group cluster_items ambiguous_at concat_map
       one_letter c f z =
-          makes os begin at o p g 1 0 _ _ _ z (cluster_is (Single c) f) refl
+          makes os begin at o p g 1 None _ _ _ z (cluster_is (Single c) f) refl
           (sym (append-nil _ ∙ short_record begin (begin + length os) os whole all_text c false))
 
-      pub unknown_letter_lem : (k : ℕ) → r ≡ Withdrawn k → Puts o at p g 1 0 (record_of (Word whole)) → Out
+      pub unknown_letter_lem : (k : ℕ) → r ≡ Withdrawn k → Puts o at p g 1 None (record_of (Word whole)) → Out
       unfolding cluster_group cluster_items ambiguous_at concat_map
       unknown_letter_lem k f z =
-          makes os begin at o p g 1 0 _ _ _ z (cluster_is (Withdrawn k) f) refl
+          makes os begin at o p g 1 None _ _ _ z (cluster_is (Withdrawn k) f) refl
           (sym (append-nil _ ∙ word_record begin (begin + length os) os whole all_text))
 
-      pub all_flags_lem : (n : ℕ) → r ≡ AllFlags n → Puts o at p g n 0 (flag_words whole (first_letters name n)) → Out
+      pub all_flags_lem : (n : ℕ) → r ≡ AllFlags n → Puts o at p g n None (flag_words whole (first_letters name n)) → Out
       unfolding cluster_group cluster_items ambiguous_at
       all_flags_lem n f z =
           let cs = take n (characters d.all) in
           let size : length (flag_items os cs) ≡ n = flags_count os cs ∙ first_count n (omega (arith, counted (AllFlags n) f)) in
-          makes os begin at o p g n 0 _ _ _ z (cluster_is (AllFlags n) f)
-          (ap (λ (m : ℕ). record { count = m; ambiguous = 0; marker = false }) (sym size))
+          makes os begin at o p g n None _ _ _ z (cluster_is (AllFlags n) f)
+          (ap (λ (m : ℕ). record { count = m; ambiguous = None; marker = false }) (sym size))
           (flags_are n)
 
       pub ambiguous_letter_lem :
           (n : ℕ)
           → r ≡ Ambiguous n
-          → Puts o at p g (n + 1) (n + 1) (flag_words whole (first_letters name n) ++ record_of (Word whole))
+          → Puts o at p g (n + 1) (Some n) (flag_words whole (first_letters name n) ++ record_of (Word whole))
           → Out
       unfolding cluster_group cluster_items ambiguous_at concat_map
       ambiguous_letter_lem n f z =
@@ -402,9 +374,8 @@ module _
           let count = first_count n (omega (arith, counted (Ambiguous n) f)) in
           let size : n + 1 ≡ length (flag_items os cs ++ (rules.Word os ∷ [])) =
           omega (arith, length-append (flag_items os cs) (rules.Word os ∷ []), flags_count os cs) in
-          let place : n + 1 ≡ suc (length cs) = omega arith in
-          makes os begin at o p g (n + 1) (n + 1) _ _ _ z (cluster_is (Ambiguous n) f)
-          (ap₂ (λ (m a : ℕ). record { count = m; ambiguous = a; marker = false }) size place)
+          makes os begin at o p g (n + 1) (Some n) _ _ _ z (cluster_is (Ambiguous n) f)
+          (ap₂ (λ (m a : ℕ). record { count = m; ambiguous = Some a; marker = false }) size (sym count))
           (sym (concat_append (item_words begin (begin + length os)) (flag_items os cs) (rules.Word os ∷ [])
           ∙ ap₂ (λ (v w : List ℕ). v ++ w) (sym (flags_are n)) (append-nil _ ∙ word_record begin (begin + length os) os whole all_text)))
 
@@ -421,12 +392,12 @@ module _
             → argument_items os c (drop k name) ≡ is
             → m ≡ n + length is
             → w ≡ concat_map (item_words begin (begin + length os)) is
-            → Puts o at p g m 0 (flag_words whole (first_letters name n) ++ w)
+            → Puts o at p g m None (flag_words whole (first_letters name n) ++ w)
             → Out
         unfolding cluster_group cluster_items ambiguous_at cs
         makes_argument m w is i size q z =
-            makes os begin at o p g m 0 _ _ _ z (cluster_is (Argument n c k) f)
-            (ap (λ (j : ℕ). record { count = j; ambiguous = 0; marker = false })
+            makes os begin at o p g m None _ _ _ z (cluster_is (Argument n c k) f)
+            (ap (λ (j : ℕ). record { count = j; ambiguous = None; marker = false })
             (let j : m ≡ length (flag_items os cs ++ argument_items os c (drop k name)) =
             omega (arith, length-append (flag_items os cs) (argument_items os c (drop k name)), ap length i, flags_count os cs, argument_count_lem) in j))
             (sym (concat_append (item_words begin (begin + length os)) (flag_items os cs) (argument_items os c (drop k name))
@@ -435,7 +406,7 @@ module _
 
         pub argument_alone :
             k + 1 ≡ length os
-            → Puts o at p g (n + 1) 0 (flag_words whole (first_letters name n) ++ record_of (Short c false whole))
+            → Puts o at p g (n + 1) None (flag_words whole (first_letters name n) ++ record_of (Short c false whole))
             → Out
         unfolding argument_items concat_map
         argument_alone s z =
@@ -447,7 +418,7 @@ module _
             (value : Part)
             → (k + 1 ≡ length os → ⊥)
             → value ≡ part_of (begin + (k + 1)) (length os - (k + 1))
-            → Puts o at p g (n + 2) 0 (flag_words whole (first_letters name n) ++ (record_of (Short c true whole) ++ record_of (Word value)))
+            → Puts o at p g (n + 2) None (flag_words whole (first_letters name n) ++ (record_of (Short c true whole) ++ record_of (Word value)))
             → Out
         unfolding argument_items concat_map
         argument_rest value s v z =

@@ -2,12 +2,13 @@
 use mathlib.Core.Path.{◌≡◌, refl, sym, ◌∙◌, ap}
 use mathlib.Core.Bool.{false}
 use mathlib.Core.List.{List, [], ◌∷◌, ◌++◌, append_assoc}
-use Prim.Native.Nat.{ℕ, suc, ◌+◌, ◌-◌, ◌*◌, ◌≤◌, ◌<◌}
+use Prim.Native.Nat.{ℕ, suc, ◌+◌, ◌*◌, ◌≤◌, ◌<◌}
 use native.Mathlib.Nat.{add-zero, add-suc, suc-add}
 use native.Mathlib.Omega.{arith}
 use lib.ListN.{length, set, length-append}
 use lib.Seq.{sets}
 use borrow.Author.Tests.{le-leb, lt-leb}
+use Rattle.std.specs.Prelude.{Option as CodeOption}
 use Rattle.split_arg.specs.declared.Item.{Item}
 use Rattle.split_arg.specs.declared.Item.TheVariants.{Short, Long, ArgWord, Word, PosWord}
 use Rattle.split_arg.specs.Items.{record_of}
@@ -59,14 +60,14 @@ unfolding stored
 has_room o at n w h = rw (le-leb (at + n) 256 h)
 
 pub puts_nothing :
-    (o : List ℕ) (at : ℕ) (r : Group) (n a : ℕ) (w : List ℕ)
+    (o : List ℕ) (at : ℕ) (r : Group) (n : ℕ) (a : CodeOption ℕ) (w : List ℕ)
     → r ≡ record { count = n; ambiguous = a; marker = false }
     → 256 < at + n
     → Puts o at o r n a w
 puts_nothing o at r n a w e h = record { group = e; words≡ = no_room o at n w h }
 
 pub puts_all :
-    (o : List ℕ) (at : ℕ) (p : List ℕ) (r : Group) (n a : ℕ) (w : List ℕ)
+    (o : List ℕ) (at : ℕ) (p : List ℕ) (r : Group) (n : ℕ) (a : CodeOption ℕ) (w : List ℕ)
     → r ≡ record { count = n; ambiguous = a; marker = false }
     → p ≡ sets o (7 * at) w
     → at + n ≤ 256

@@ -1,13 +1,12 @@
 -- What the functions that split one argument leave: a group of items, and their records in the item slice.
-use Rattle.std.specs.Prelude.{◌≡◌, true, false, List, [], ◌∷◌, ◌++◌, ◌⊎◌, ℕ, ◌+◌, ◌*◌, ◌^◌, ◌≤◌, ◌<◌, leb, length, take, drop, if◌then◌else◌}
-use Rattle.std.proofs.Math.Option.{some}
+use Rattle.std.specs.Prelude.{◌≡◌, true, false, List, [], ◌∷◌, ◌++◌, ◌⊎◌, ℕ, ◌+◌, ◌*◌, ◌^◌, ◌≤◌, ◌<◌, leb, length, take, drop, if◌then◌else◌, Option as CodeOption, Some, None}
+use Rattle.std.proofs.Math.Option.{Option, some, none}
 use Rattle.std.proofs.Math.ListN.{get_elem?}
 use Rattle.std.proofs.lemmas.List.Edits.{sets}
 use Rattle.utf8.specs.Utf8.{well_formed}
 use Rattle.rules.specs.Base.{concat_map}
 use Rattle.rules.specs.Outcome.{Outcome, ok, refused, fault}
 use Rattle.rules.specs.Accept.{Letters}
-use Rattle.rules.specs.Codes.{place_code}
 use Rattle.rules.specs.Split.{Letter, cluster_from, item_words, short_group, Group as Meaning}
 use Rattle.split_arg.specs.declared.Part.{Part}
 use Rattle.split_arg.specs.declared.Item.TheVariants.{Short}
@@ -55,12 +54,17 @@ pub record Flags (name : List ℕ) (count at : ℕ) : Type 0 where
   pub places : at ≤ 256
 
 -- ---- what they leave
-pub record Puts (before : List ℕ) (at : ℕ) (after : List ℕ) (r : Group) (n ambiguous : ℕ) (words : List ℕ) : Type 0 where
+pub record Puts (before : List ℕ) (at : ℕ) (after : List ℕ) (r : Group) (n : ℕ) (ambiguous : CodeOption ℕ) (words : List ℕ) : Type 0 where
   pub group : r ≡ record { count = n; ambiguous = ambiguous; marker = false }
   pub words≡ : after ≡ stored before at n words
 
+-- which item it is, as the code has it
+abbrev pub which : Option ℕ → CodeOption ℕ
+which none = None
+which (some i) = Some i
+
 abbrev pub told : Meaning → Group
-told g = record { count = length g.items; ambiguous = place_code g.ambiguous; marker = g.marker }
+told g = record { count = length g.items; ambiguous = which g.ambiguous; marker = g.marker }
 
 -- the group of an argument that begins at an offset of the area
 pub record Makes (os : List ℕ) (begin at : ℕ) (before after : List ℕ) (r : Group) (o : Outcome Meaning) : Type 0 where

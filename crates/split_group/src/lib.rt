@@ -1,26 +1,24 @@
 // From one argument to its items, which are written once the outcome of the argument and their number are known.
 #![tactic(auto)]
 
-ghost use Rattle.std.specs.Prelude.{◌≡◌, [], ◌∷◌, ◌++◌, ◌+◌, ◌-◌, ◌*◌, ◌^◌, ◌≤◌, ◌<◌, drop};
+ghost use Rattle.std.specs.Prelude.{◌≡◌, false, None, [], ◌∷◌, ◌++◌, ◌+◌, ◌-◌, ◌*◌, ◌^◌, ◌≤◌, ◌<◌, drop};
 ghost use Rattle.std.proofs.Math.Option.{none};
 ghost use Rattle.std.proofs.lemmas.List.Edits.{sets};
 ghost use Rattle.rules.specs.Base.{same};
 ghost use Rattle.rules.specs.Outcome.{ok};
-ghost use Rattle.rules.specs.Split.{PosWord, plain, dash, word_group, short_group, split_argument};
+ghost use Rattle.rules.specs.Split.{PosWord, plain as plain_group, dash, word_group, short_group, split_argument};
 ghost use Rattle.split_arg.specs.Items.{part_of, record_of};
-ghost use Rattle.split_arg.specs.Clusters.{letters};
+ghost use Rattle.split_arg.specs.Clusters.{meaning};
 ghost use Rattle.split_arg.specs.Order.{CanLookUp};
 ghost use Rattle.split_group.specs.Groups.{first_letters, flag_words, ArgumentFits, ClusterIn, ValueIn, Flags, Puts, Makes, MakesValue};
 
-use split_arg::{ITEMS, Item, Outcome, Part, Parts};
-use utf8::Decoded;
+use split_arg::{ITEMS, Item, Letters, Outcome, Part, Parts};
 
-// What one argument gave: how many items, which of them is the Word of an ambiguous letter (plus 1, or 0 for none), and
-// whether it is the first `--`. More items than there is room for are not written.
+// What one argument gave: how many items, which of them is the Word of an ambiguous letter, and whether it is the first `--`. More items than there is room for are not written.
 #[derive(Clone, Copy)]
 pub struct Group {
     pub count: usize,
-    pub ambiguous: usize,
+    pub ambiguous: Option<usize>,
     pub marker: bool,
 }
 
@@ -39,30 +37,35 @@ fn write_flags(name: &[u8], count: usize, whole: Part, items: &mut [u32], at: us
 {
     let mut text = whole;
     let mut place = 0;
-    let mut k = 0;
-    while k < count {
-        let Decoded::Char(letter, size) = split_arg::letter_at(name, place) else {
+    for k in 0..count {
+        let Some(letter) = split_arg::letter_at(name, place) else {
             return;
         };
-        split_arg::store_item(items, at + k, Item::Short(letter, false, text));
+        split_arg::store_item(items, at + k, Item::Short(letter.value, false, text));
         text = Part {
             offset: 0,
             length: 0,
         };
-        place += size;
-        k += 1;
+        place += letter.size;
+    }
+}
+
+// Items of which none stands for an ambiguous letter or is the first `--`.
+fn plain(count: usize) -> Group
+    ensures { result ≡ record { count = count; ambiguous = None; marker = false } }
+{
+    Group {
+        count,
+        ambiguous: None,
+        marker: false,
     }
 }
 
 fn put_one(items: &mut [u32], at: usize, item: Item) -> Group
     requires { at ≤ 256 }
-    ensures { Puts items.old at items.new result 1 0 (record_of item) }
+    ensures { Puts items.old at items.new result 1 None (record_of item) }
 {
-    let group = Group {
-        count: 1,
-        ambiguous: 0,
-        marker: false,
-    };
+    let group = plain(1);
     if at == ITEMS {
         return group;
     }
@@ -72,13 +75,9 @@ fn put_one(items: &mut [u32], at: usize, item: Item) -> Group
 
 fn put_two(items: &mut [u32], at: usize, first: Item, second: Item) -> Group
     requires { at ≤ 256 }
-    ensures { Puts items.old at items.new result 2 0 (record_of first ++ record_of second) }
+    ensures { Puts items.old at items.new result 2 None (record_of first ++ record_of second) }
 {
-    let group = Group {
-        count: 2,
-        ambiguous: 0,
-        marker: false,
-    };
+    let group = plain(2);
     if 255 <= at {
         return group;
     }
@@ -89,13 +88,9 @@ fn put_two(items: &mut [u32], at: usize, first: Item, second: Item) -> Group
 
 fn put_flags(name: &[u8], before: usize, whole: Part, items: &mut [u32], at: usize) -> Group
     requires { Flags name.now before at }
-    ensures { Puts items.old at items.new result before 0 (flag_words whole (first_letters name.now before)) }
+    ensures { Puts items.old at items.new result before None (flag_words whole (first_letters name.now before)) }
 {
-    let group = Group {
-        count: before,
-        ambiguous: 0,
-        marker: false,
-    };
+    let group = plain(before);
     if ITEMS - at < before {
         return group;
     }
@@ -109,7 +104,7 @@ fn put_flags_one(
     before: usize,
     whole: Part,
     last: Item,
-    ambiguous: usize,
+    ambiguous: Option<usize>,
     items: &mut [u32],
     at: usize,
 ) -> Group
@@ -140,13 +135,9 @@ fn put_flags_two(
     at: usize,
 ) -> Group
     requires { Flags name.now before at }
-    ensures { Puts items.old at items.new result (before + 2) 0 (flag_words whole (first_letters name.now before) ++ (record_of letter ++ record_of rest)) }
+    ensures { Puts items.old at items.new result (before + 2) None (flag_words whole (first_letters name.now before) ++ (record_of letter ++ record_of rest)) }
 {
-    let group = Group {
-        count: before + 2,
-        ambiguous: 0,
-        marker: false,
-    };
+    let group = plain(before + 2);
     if ITEMS - at <= before + 1 {
         return group;
     }
@@ -157,21 +148,14 @@ fn put_flags_two(
 }
 
 // `-NAME` without `=`.
-fn split_cluster(
-    os: &[u8],
-    begin: usize,
-    flags: &[u32],
-    arguments: &[u32],
-    items: &mut [u32],
-    at: usize,
-) -> Group
-    requires { ClusterIn os.now begin at × CanLookUp flags.now arguments.now }
-    ensures { Makes os.now begin at items.old items.new result (short_group (letters flags.now arguments.now) os.now (drop 1 os.now) none) }
+fn split_cluster(os: &[u8], begin: usize, letters: &Letters, items: &mut [u32], at: usize) -> Group
+    requires { ClusterIn os.now begin at × CanLookUp letters.now.flags.now letters.now.arguments.now }
+    ensures { Makes os.now begin at items.old items.new result (short_group (meaning letters.now) os.now (drop 1 os.now) none) }
 {
     let len = os.len();
     let whole = text(begin, len, 0);
     let name = &os[1..];
-    match split_arg::disambiguate_short(name, flags, arguments) {
+    match split_arg::disambiguate_short(name, letters) {
         Outcome::Single { letter } => put_one(items, at, Item::Short(letter, false, whole)),
         Outcome::AllFlags { before } => put_flags(name, before, whole, items, at),
         Outcome::Argument {
@@ -181,7 +165,7 @@ fn split_cluster(
         } => {
             if rest + 1 == len {
                 let alone = Item::Short(letter, false, whole);
-                return put_flags_one(name, before, whole, alone, 0, items, at);
+                return put_flags_one(name, before, whole, alone, None, items, at);
             }
             let named = Item::Short(letter, true, whole);
             let value = Item::Word(text(begin, len, rest + 1));
@@ -190,7 +174,7 @@ fn split_cluster(
         Outcome::Withdrawn { place: _ } => put_one(items, at, Item::Word(whole)),
         Outcome::Ambiguous { before } => {
             let last = Item::Word(whole);
-            put_flags_one(name, before, whole, last, before + 1, items, at)
+            put_flags_one(name, before, whole, last, Some(before), items, at)
         }
     }
 }
@@ -198,13 +182,7 @@ fn split_cluster(
 fn is_marker(os: &[u8]) -> bool
     ensures { result ≡ same os.now (dash ∷ dash ∷ []) }
 {
-    if os.len() != 2 {
-        return false;
-    }
-    if os[0] != b'-' {
-        return false;
-    }
-    os[1] == b'-'
+    os == b"--".as_slice()
 }
 
 // What has no name: a Word, or the first `--`.
@@ -214,11 +192,9 @@ fn split_word(os: &[u8], begin: usize, items: &mut [u32], at: usize) -> Group
 {
     let whole = text(begin, os.len(), 0);
     if is_marker(os) {
-        let group = put_one(items, at, Item::PosWord(whole));
         return Group {
-            count: group.count,
-            ambiguous: 0,
             marker: true,
+            ..put_one(items, at, Item::PosWord(whole))
         };
     }
     put_one(items, at, Item::Word(whole))
@@ -227,7 +203,7 @@ fn split_word(os: &[u8], begin: usize, items: &mut [u32], at: usize) -> Group
 // An argument behind the first `--`.
 pub fn split_positional(os: &[u8], begin: usize, items: &mut [u32], at: usize) -> Group
     requires { ArgumentFits os.now begin at }
-    ensures { Makes os.now begin at items.old items.new result (ok (plain (PosWord os.now ∷ []))) }
+    ensures { Makes os.now begin at items.old items.new result (ok (plain_group (PosWord os.now ∷ []))) }
 {
     let whole = text(begin, os.len(), 0);
     put_one(items, at, Item::PosWord(whole))
@@ -241,13 +217,13 @@ fn split_value(os: &[u8], begin: usize, body: usize, items: &mut [u32], at: usiz
     let len = os.len();
     let whole = text(begin, len, 0);
     let value = text(begin, len, body);
-    let Decoded::Char(letter, _) = utf8::decode_at(&os[1..2], 0) else {
+    let Some(letter) = utf8::decode_at(&os[1..2], 0) else {
         return put_one(items, at, Item::Word(whole));
     };
     put_two(
         items,
         at,
-        Item::Short(letter, true, whole),
+        Item::Short(letter.value, true, whole),
         Item::ArgWord(value),
     )
 }
@@ -255,24 +231,23 @@ fn split_value(os: &[u8], begin: usize, body: usize, items: &mut [u32], at: usiz
 pub fn split_argument(
     os: &[u8],
     begin: usize,
-    flags: &[u32],
-    arguments: &[u32],
+    letters: &Letters,
     items: &mut [u32],
     at: usize,
 ) -> Group
-    requires { ArgumentFits os.now begin at × CanLookUp flags.now arguments.now }
-    ensures { Makes os.now begin at items.old items.new result (split_argument (letters flags.now arguments.now) os.now) }
+    requires { ArgumentFits os.now begin at × CanLookUp letters.now.flags.now letters.now.arguments.now }
+    ensures { Makes os.now begin at items.old items.new result (split_argument (meaning letters.now) os.now) }
 {
     let len = os.len();
     match split_arg::split_os_argument(os) {
-        Parts::None => split_word(os, begin, items, at),
-        Parts::Short { name: _ } => split_cluster(os, begin, flags, arguments, items, at),
-        Parts::ShortBody { name: _, body } => split_value(os, begin, body, items, at),
-        Parts::Long { name } => {
+        None => split_word(os, begin, items, at),
+        Some(Parts::Short { .. }) => split_cluster(os, begin, letters, items, at),
+        Some(Parts::ShortBody { body, .. }) => split_value(os, begin, body, items, at),
+        Some(Parts::Long { name }) => {
             let long = text(begin, name + 2, 2);
             put_one(items, at, Item::Long(long, false, text(begin, len, 0)))
         }
-        Parts::LongBody { name, body } => {
+        Some(Parts::LongBody { name, body }) => {
             let long = text(begin, name + 2, 2);
             let value = text(begin, len, body);
             put_two(

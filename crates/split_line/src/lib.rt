@@ -8,25 +8,24 @@ ghost use Rattle.form_codes.specs.Codes.{CodedNames};
 ghost use Rattle.split_args.specs.Construct.{SplitEnds};
 ghost use Rattle.split_line.specs.Input.{Splittable};
 
+use split_arg::Letters;
 use split_args::Ended;
-
-fn no_letters() -> [u32; 128]
-    ensures { result ≡ replicate 128 0 }
-{
-    [0u32; 128]
-}
 
 // The same as `split`, with the letters of the form worked out.
 fn split_clusters(form: &[u8], codes: &[u32], sheet: &[u8], items: &mut [u32]) -> Ended
     requires { Splittable form.now sheet.now items.old × CodedNames form.now codes.now }
     ensures { SplitEnds (letters_of (read_form form.now)) sheet.now (length items.old) items.new result }
 {
-    let mut flags = no_letters();
-    let mut arguments = no_letters();
+    let mut flags = [0u32; 128];
+    let mut arguments = [0u32; 128];
     let counts = form_letters::letters(form, codes, &mut flags, &mut arguments);
     let n = counts.flags;
     let m = counts.arguments;
-    split_args::construct(sheet, &flags[0..n], &arguments[0..m], items)
+    let letters = Letters {
+        flags: &flags[0..n],
+        arguments: &arguments[0..m],
+    };
+    split_args::construct(sheet, &letters, items)
 }
 
 // The short names of the form are given as numbers. The letters are worked out only where one can be looked up.
@@ -35,7 +34,11 @@ pub fn split(form: &[u8], codes: &[u32], sheet: &[u8], items: &mut [u32]) -> End
     ensures { SplitEnds (letters_of (read_form form.now)) sheet.now (length items.old) items.new result }
 {
     if split_args::all_plain(sheet) {
-        return split_args::construct(sheet, &codes[0..0], &codes[0..0], items);
+        let none = Letters {
+            flags: &[],
+            arguments: &[],
+        };
+        return split_args::construct(sheet, &none, items);
     }
     split_clusters(form, codes, sheet, items)
 }

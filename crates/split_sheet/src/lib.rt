@@ -4,36 +4,34 @@
 ghost use Rattle.std.specs.Prelude.{◌≡◌};
 ghost use Rattle.wire.specs.Wire.{offset, entry_of};
 ghost use Rattle.rules.specs.Sheet.{argument_count, sheet_fault};
+ghost use Rattle.rules.specs.Reported.{tested};
 ghost use Rattle.split_sheet.specs.Checked.{HasArgument, HasOffset};
+
+use rules::Refusal;
 
 // The most arguments that a sheet has, and the most bytes of their area.
 const ARGUMENTS: usize = 256;
 
 const AREA: usize = 32768;
 
-// The refusals: of the table and the area, and of the count.
-const BAD_SHEET: u32 = 5;
-
-const TOO_MANY: u32 = 6;
-
-// 0 if the sheet is well made. 6 stands before the faults of the offsets: the count is read first.
-pub fn check(s: &[u8]) -> u32
-    ensures { result ≡ sheet_fault s.now }
+// Whether the sheet is well made. 6 stands before the faults of the offsets: the count is read first.
+pub fn check(s: &[u8]) -> Result<(), Refusal>
+    ensures { tested result ≡ sheet_fault s.now }
 {
     if s.len() < 2 {
-        return BAD_SHEET;
+        return Err(Refusal::BadSheet);
     }
     let count = wire::u16_at(s, 0) as usize;
     if count > ARGUMENTS {
-        return TOO_MANY;
+        return Err(Refusal::TooManyArguments);
     }
     if !wire::table_good(s, 2, count) {
-        return BAD_SHEET;
+        return Err(Refusal::BadSheet);
     }
     if s.len() - wire::area_start(2, count) > AREA {
-        return BAD_SHEET;
+        return Err(Refusal::BadSheet);
     }
-    0
+    Ok(())
 }
 
 pub fn count(s: &[u8]) -> usize

@@ -11,6 +11,7 @@ use lib.ListN.{length, get_or, take, drop, set, get_elem?, replicate, length-app
 use lib.Seq.{length-take-le, take-set-lt, drop-set-lt, take_at, drop_at}
 use borrow.Author.Tests.{eq-eqb, lt-ltb, le-ltb, le-leb, lt-leb, eqb-true, eqb-false, ltb-true, not-true}
 use Rattle.std.specs.Prelude.{if◌then◌else◌}
+use Rattle.std.proofs.lemmas.List.{take_all}
 use Rattle.rules.specs.Base.{all}
 use Rattle.rules.specs.Outcome.{ok, refused, refuse, ◌>>=◌, at}
 use Rattle.rules.specs.Tree.{zeros}
@@ -280,6 +281,10 @@ module _ (fields n : ℕ) (x : Raw) (k : StateKept fields n x) where
       let z = k.count in
       let g : zeros (drop n x.marks) ≡ true = rw z at k.rest in
       false≢true (sym (not-true b t) ∙ e ∙ g)
+
+-- what the code's range takes is all that is behind
+pub zeros_behind : (m : List ℕ) (n : ℕ) → zeros (take (length m - n) (drop n m)) ≡ zeros (drop n m)
+zeros_behind m n = ap zeros (take_all _ (drop n m) (omega (arith, length-drop n m)))
 
 -- ---- as it is handed over
 

@@ -1,25 +1,25 @@
 -- Loops over marks: each invariant says that what is still to be looked at gives what the whole gives.
 use mathlib.Core.Path.{◌≡◌, refl, sym, ap, subst, ◌∙◌}
-use mathlib.Core.Bool.{Bool, true, false, not, xor, ◌&&◌}
+use mathlib.Core.Bool.{and-eq-true_iff, Bool, true, false, false≢true, not, xor, beq, ◌&&◌}
 use mathlib.Core.List.{List, [], ◌∷◌, ◌++◌, append_assoc}
-use mathlib.Core.Option.{some, none}
+use mathlib.Core.Option.{some}
 use mathlib.Core.Logic.{◌⊎◌, inl, inr, ⊎_elim}
 use Prim.Native.Nat.{ℕ, zero, suc, ◌+◌, ◌-◌, ◌≤◌, ◌<◌, suc-le-suc}
-use native.Mathlib.Nat.{not-suc-le-zero, le_of_suc-le-suc, eq-or-lt_of_le}
+use native.Mathlib.Nat.{eq-or-lt_of_le, not-suc-le-zero, le_of_suc-le-suc}
 use native.Mathlib.Numerals.{add-one}
 use native.Mathlib.Omega.{arith}
 use lib.Dec.{ltb, eqb}
 use lib.ListN.{length, get_or, take, drop, set, drop_of_length-le, take-append-drop}
 use lib.Seq.{drop-cons, get_or-take, length-take-le, set_at, get_or_at}
-use borrow.Author.Tests.{eqb-true, ltb-true, ltb-false, not-true, not-false}
-use Rattle.std.specs.Prelude.{if◌then◌else◌}
+use borrow.Author.Tests.{eqb-true, ne_eqb, ltb-true, ltb-false}
+use Rattle.std.specs.Prelude.{if◌then◌else◌, Some, None}
+use Rattle.std.specs.List.{list_all}
+use Rattle.std.proofs.lemmas.Bool.{false_from_ne_true}
 use Rattle.rules.specs.Base.{all}
+use Rattle.rules.specs.Tree.{zeros}
 use Rattle.rules.specs.State.{parsed, present, present_at, present_from, count_present, pick_from, conflicts}
-use Rattle.rules.specs.Codes.{place_of}
 use Rattle.rules.proofs.Places.{conflicts_length}
-use Rattle.rules.proofs.CodeLaws.{place_next}
-use Rattle.state_marks.proofs.Mark.{present_of, used_of}
-use Rattle.state_marks.specs.Lent.{first_or, pick_of, conflict_mark, Alike}
+use Rattle.state_marks.specs.Lent.{first_or, NoneWhere, FirstWhere, pick_of, conflict_mark, Alike}
 
 pub present_at_lem : (m : List ℕ) (i : ℕ) → i < length m → present_at m i ≡ present (get_or m i 0)
 unfolding present_at
@@ -29,20 +29,7 @@ present_at_lem (x ∷ m) (suc i) h = present_at_lem m i (le_of_suc-le-suc h)
 
 -- ---- the first that is present
 
-pub record FirstFrom (m : List ℕ) (from end i : ℕ) : Type 0 where
-  pub within : i ≤ end
-  pub same : first_or end (present_from m (end - i) i) ≡ first_or end (present_from m (end - from) from)
-
-pub searched_first : (m : List ℕ) (from end : ℕ) → from ≤ end → FirstFrom m from end from
-searched_first m from end h = record { within = h; same = refl }
-
 module _ (m : List ℕ) (end i : ℕ) (h : i < end) (l : end ≤ length m) where
-  pub from_used : present (get_or m i 0) ≡ false → present_from m (end - i) i ≡ present_from m (end - (i + 1)) (i + 1)
-  unfolding present_from
-  from_used e =
-      let z : end - i ≡ suc (end - suc i) = omega arith in
-      rw (z, add-one i, present_at_lem m i (omega arith), e)
-
   pub from_hit : present (get_or m i 0) ≡ true → present_from m (end - i) i ≡ i ∷ present_from m (end - (i + 1)) (i + 1)
   unfolding present_from
   from_hit e =
@@ -53,19 +40,59 @@ pub from_none : (m : List ℕ) (end i : ℕ) → end ≤ i → present_from m (e
 unfolding present_from
 from_none m end i h = let z : end - i ≡ 0 = omega arith in rw z
 
-module _ (m : List ℕ) (from end i : ℕ) (s : FirstFrom m from end i) (l : end ≤ length m) where
-  pub searched_next : i < end → (x : Bool) → x ≡ present (get_or m i 0) → x ≡ false → FirstFrom m from end (i + 1)
-  searched_next h x e g = record { within = omega arith; same = ap (first_or end) (sym (from_used m end i h l (sym e ∙ g))) ∙ s.same }
+-- places that are used add nothing
+from_past : (m : List ℕ) (d n i : ℕ) → ((k : ℕ) → i ≤ k → k < i + d → present_at m k ≡ true → ⊥) → present_from m (d + n) i ≡ present_from m n (i + d)
+unfolding present_from
+from_past m zero n i f =
+    let y : zero + n ≡ n = omega arith in
+    let z : i + zero ≡ i = omega arith in
+    rw (y, z)
+from_past m (suc d) n i f =
+    let y : suc d + n ≡ suc (d + n) = omega arith in
+    let z : i + suc d ≡ suc i + d = omega arith in
+    rw (y, z, false_from_ne_true (present_at m i) (f i (omega arith) (omega arith)))
+    (from_past m d n (suc i) (λ k l b. f k (omega arith) (omega arith)))
 
-  pub searched_hit : i < end → (x : Bool) → x ≡ present (get_or m i 0) → x ≡ true → i ≡ first_or end (present_from m (end - from) from)
-  unfolding first_or
-  searched_hit h x e g = sym (ap (first_or end) (from_hit m end i h l (sym e ∙ g))) ∙ s.same
+-- what `first_where` finds by a test that nothing fails
+pub first_of_all : (m : List ℕ) (from end r : ℕ) → end ≤ length m → (says : ℕ → Bool → Type 0) → FirstWhere m says from end r
+    → ((k : ℕ) → says k false → ⊥) → r ≡ first_or end (present_from m (end - from) from)
+unfolding first_or
+first_of_all m from end r l says f n =
+    let y : end - from ≡ r - from + (end - r) = omega (arith, f.behind, f.within) in
+    let z : from + (r - from) ≡ r = omega (arith, f.behind) in
+    let past = from_past m (r - from) (end - r) from (λ k a b p. n k (f.before k a (omega (arith, f.behind)) p)) in
+    let same : present_from m (end - from) from ≡ present_from m (end - r) r = rw y (rw z at past) in
+    rw same
+    (⊎_elim
+    (λ (e : r ≡ end). rw (e, from_none m end end (omega arith)))
+    (λ (h : r < end). rw (from_hit m end r h l (sym (present_at_lem m r (omega arith)) ∙ (f.here h).0)))
+    (eq-or-lt_of_le f.within))
 
-  pub searched_end : end ≤ i → i ≡ first_or end (present_from m (end - from) from)
-  unfolding first_or
-  searched_end h =
-      let z : i ≡ end = omega (arith, s.within) in
-      z ∙ sym (ap (first_or end) (from_none m end i h)) ∙ s.same
+-- the loop of `first_where`
+module _ (m : List ℕ) (says : ℕ → Bool → Type 0) (from i : ℕ) (z : NoneWhere m says from i) where
+  none_next : (present_at m i ≡ true → says i false) → NoneWhere m says from (i + 1)
+  none_next f k a b p = ⊎_elim
+      (λ (e : k ≡ i). rw e (f (rw e at p)))
+      (λ (l : k < i). z k a l p)
+      (eq-or-lt_of_le (omega arith))
+
+  module _ (end : ℕ) (h : i < end) (l : end ≤ length m) (x : Bool) (e : x ≡ present (get_or m i 0)) where
+    at_place : present_at m i ≡ x
+    at_place = present_at_lem m i (omega arith) ∙ sym e
+
+    pub where_used : x ≡ false → NoneWhere m says from (i + 1)
+    where_used g = none_next (λ p. absurd (false≢true (sym (at_place ∙ g) ∙ p)))
+
+    pub where_fails : (r : Bool) → says i r → r ≡ false → NoneWhere m says from (i + 1)
+    where_fails r s g = none_next (λ p. subst (says i) g s)
+
+    pub where_hit : from ≤ i → x ≡ true → (r : Bool) → says i r → r ≡ true → FirstWhere m says from end i
+    where_hit o g r s q = record {
+      behind = o;
+      within = omega arith;
+      before = z;
+      here = λ _. (at_place ∙ g, subst (says i) q s);
+    }
 
 -- what the search finds: a present place, before which none is
 pub record FirstAt (m : List ℕ) (k a r : ℕ) : Type 0 where
@@ -175,6 +202,14 @@ module _ (m : List ℕ) (from to count i : ℕ) (s : Counting m from to count i)
 
 -- ---- the first place where two differ
 
+-- as the code tests it
+xor_is : (x y : Bool) → xor x y ≡ not (beq x y)
+unfolding xor
+xor_is true true = refl
+xor_is true false = refl
+xor_is false true = refl
+xor_is false false = refl
+
 pub record Picking (a b : List ℕ) (count i : ℕ) : Type 0 where
   pub within : i ≤ count
   pub same : pick_from i (drop i (take count a)) (drop i (take count b)) ≡ pick_from 0 (take count a) (take count b)
@@ -203,52 +238,40 @@ module _ (a b : List ℕ) (count i : ℕ) (s : Picking a b count i) (la : count 
   unfolding pick_from
   pick_step h = sym s.same ∙ rw (part_cons a count i h la, part_cons b count i h lb, add-one i)
 
-  pick_at : (x : Bool) → pick_of (record { first = x; place = i + 1 }) ≡ record { first = x; place = some i }
+  pub picking_hit : i < count → (x y : Bool) → x ≡ parsed (get_or a i 0) → y ≡ parsed (get_or b i 0) → not (beq x y) ≡ true
+      → pick_of (record { first = x; place = Some i }) ≡ pick_from 0 (take count a) (take count b)
   unfolding pick_of
-  pick_at x = rw (place_next i)
+  picking_hit h x y p q t = sym (pick_step h ∙ rw (← p, ← q, xor_is x y, t))
 
-  pub picking_hit : i < count → (x y d : Bool) → x ≡ parsed (get_or a i 0) → y ≡ parsed (get_or b i 0) → d ≡ xor x y → d ≡ true
-      → pick_of (record { first = x; place = i + 1 }) ≡ pick_from 0 (take count a) (take count b)
-  picking_hit h x y d p q e t = pick_at x ∙ sym (pick_step h ∙ rw (← p, ← q, ← e, t))
-
-  pub picking_next : i < count → (x y d : Bool) → x ≡ parsed (get_or a i 0) → y ≡ parsed (get_or b i 0) → d ≡ xor x y → d ≡ false
+  pub picking_next : i < count → (x y : Bool) → x ≡ parsed (get_or a i 0) → y ≡ parsed (get_or b i 0) → not (beq x y) ≡ false
       → Picking a b count (i + 1)
-  picking_next h x y d p q e t = record { within = omega arith; same = sym (pick_step h ∙ rw (← p, ← q, ← e, t)) }
+  picking_next h x y p q t = record { within = omega arith; same = sym (pick_step h ∙ rw (← p, ← q, xor_is x y, t)) }
 
-  pub picking_last : count ≤ i → pick_of (record { first = true; place = 0 }) ≡ pick_from 0 (take count a) (take count b)
-  unfolding pick_from pick_of place_of
+  pub picking_last : count ≤ i → pick_of (record { first = true; place = None }) ≡ pick_from 0 (take count a) (take count b)
+  unfolding pick_from pick_of
   picking_last h = sym (sym s.same ∙ rw (part_none a count i h la))
 
-xor_same : (x : Bool) → xor x x ≡ false
-unfolding xor
-xor_same true = refl
-xor_same false = refl
+differ_same : (x : Bool) → not (beq x x) ≡ false
+differ_same true = refl
+differ_same false = refl
 
 -- a block: unless others were found, the marks passed are the same
-pub record Blocked (a b : List ℕ) (from others k : ℕ) : Type 0 where
-  pub within : k ≤ 16
-  pub alike : others ≡ 0 → Alike a b from (from + k)
+pub record Blocked (a b : List ℕ) (from : ℕ) (same : Bool) (k : ℕ) : Type 0 where
+  pub alike : same ≡ true → Alike a b from (from + k)
 
-pub blocked_first : (a b : List ℕ) (from : ℕ) → Blocked a b from 0 0
-blocked_first a b from = record { within = omega arith; alike = λ _ j l h. absurd (omega arith) }
+pub blocked_first : (a b : List ℕ) (from : ℕ) → Blocked a b from true 0
+blocked_first a b from = record { alike = λ _ j l h. absurd (omega arith) }
 
-pub blocked_next : (a b : List ℕ) (from others k : ℕ) → Blocked a b from others k → k < 16
-    → (r : ℕ) → r ≡ (if eqb (get_or a (from + k) 0) (get_or b (from + k) 0) then others else 1) → Blocked a b from r (k + 1)
-blocked_next a b from others k s h r w = go (eqb (get_or a (from + k) 0) (get_or b (from + k) 0)) refl w
-  where
-    go : (c : Bool) → eqb (get_or a (from + k) 0) (get_or b (from + k) 0) ≡ c → r ≡ (if c then others else 1) → Blocked a b from r (k + 1)
-    go true c w = record {
-      within = omega arith;
-      alike = λ z j l q.
-          ⊎_elim
-          (λ (e : j ≡ from + k). subst (λ (i : ℕ). get_or a i 0 ≡ get_or b i 0) (sym e) (eqb-true (get_or a (from + k) 0) (get_or b (from + k) 0) c))
-          (λ (e : j < from + k). s.alike (sym w ∙ z) j l e)
-          (eq-or-lt_of_le (omega arith));
-    }
-    go false c w = record { within = omega arith; alike = λ e. absurd (omega arith) }
-
-pub blocked_last : (a b : List ℕ) (from others k : ℕ) → Blocked a b from others k → 16 ≤ k → eqb others 0 ≡ true → Alike a b from (from + 16)
-blocked_last a b from others k s h e = λ j l q. s.alike (eqb-true others 0 e) j l (omega arith)
+pub blocked_next : (a b : List ℕ) (from : ℕ) (same : Bool) (k : ℕ) → Blocked a b from same k
+    → Blocked a b from (same && eqb (get_or a (from + k) 0) (get_or b (from + k) 0)) (k + 1)
+blocked_next a b from same k s = record {
+  alike = λ z j l q.
+      let both = (and-eq-true_iff same (eqb (get_or a (from + k) 0) (get_or b (from + k) 0))).0 z in
+      ⊎_elim
+      (λ (e : j ≡ from + k). subst (λ (i : ℕ). get_or a i 0 ≡ get_or b i 0) (sym e) (eqb-true _ _ both.1))
+      (λ (e : j < from + k). s.alike both.0 j l e)
+      (eq-or-lt_of_le (omega arith));
+}
 
 -- blocks: the marks passed are the same
 pub record Blocks (a b : List ℕ) (count i : ℕ) : Type 0 where
@@ -272,8 +295,8 @@ picking_from a b count (suc i) la lb h f =
     let s = picking_from a b count i la lb (omega arith) (λ k l r. f k l (omega arith)) in
     let same : get_or a i 0 ≡ get_or b i 0 = f i (omega arith) (omega arith) in
     rw (← add-one i)
-    (picking_next a b count i s la lb (omega arith) (parsed (get_or a i 0)) (parsed (get_or b i 0)) false refl refl
-    (sym (rw same (xor_same (parsed (get_or b i 0))))) refl)
+    (picking_next a b count i s la lb (omega arith) (parsed (get_or a i 0)) (parsed (get_or b i 0)) refl refl
+    (rw same (differ_same (parsed (get_or b i 0)))))
 
 -- ---- conflicts
 
@@ -352,56 +375,30 @@ module _ (m₀ l : List ℕ) (w count : ℕ) (m : List ℕ) (i : ℕ) (s : Savin
 
 -- ---- a test of all
 
-pub record AllFrom (p : ℕ → Bool) (l : List ℕ) (from i : ℕ) : Type 0 where
-  pub same : all p (drop i l) ≡ all p (drop from l)
+-- as the library has it
+pub all_is : (p : ℕ → Bool) (l : List ℕ) → list_all p l ≡ all p l
+unfolding all
+all_is p [] = refl
+all_is p (x ∷ l) = ap (λ (b : Bool). p x && b) (all_is p l)
 
-module _ (p : ℕ → Bool) (l : List ℕ) (from i : ℕ) (s : AllFrom p l from i) where
-  all_step : i < length l → all p (drop i l) ≡ p (get_or l i 0) && all p (drop (i + 1) l)
-  unfolding all
-  all_step h = rw (add-one i, drop-cons l i 0 h)
+pub zeros_is : (l : List ℕ) → list_all (λ m. eqb m 0) l ≡ zeros l
+unfolding zeros all
+zeros_is [] = refl
+zeros_is (zero ∷ l) = zeros_is l
+zeros_is (suc x ∷ l) = rw (ne_eqb (suc x) 0 (omega arith), ne_eqb 0 (suc x) (omega arith))
 
-  pub passing_next : i < length l → p (get_or l i 0) ≡ true → AllFrom p l from (i + 1)
-  passing_next h e = record { same = sym (all_step h ∙ rw e) ∙ s.same }
+-- ---- one mark of `conflicts`, by the answers of `is_present` and `is_parsed`
 
-  pub passing_fails : i < length l → p (get_or l i 0) ≡ false → false ≡ all p (drop from l)
-  passing_fails h e = sym (all_step h ∙ rw e) ∙ s.same
-
-  pub passing_last : length l ≤ i → true ≡ all p (drop from l)
-  unfolding all
-  passing_last h = sym (ap (all p) (drop_of_length-le l h)) ∙ s.same
-
--- over the first n of a list, with the test's result in hand
-module _ (p : ℕ → Bool) (l : List ℕ) (n i : ℕ) (s : AllFrom p (take n l) 0 i) (r : n ≤ length l) where
-  part_at : i < n → (x : Bool) → x ≡ p (get_or l i 0) → p (get_or (take n l) i 0) ≡ x
-  part_at h x e = rw (get_or-take n l i 0) (sym e)
-
-  pub part_next : i < n → (x : Bool) → x ≡ p (get_or l i 0) → not x ≡ false → AllFrom p (take n l) 0 (i + 1)
-  part_next h x e t =
-      let long : length (take n l) ≡ n = length-take-le n l r in
-      passing_next p (take n l) 0 i s (omega arith) (part_at h x e ∙ not-false x t)
-
-  pub part_fails : i < n → (x : Bool) → x ≡ p (get_or l i 0) → not x ≡ true → false ≡ all p (take n l)
-  part_fails h x e t =
-      let long : length (take n l) ≡ n = length-take-le n l r in
-      passing_fails p (take n l) 0 i s (omega arith) (part_at h x e ∙ not-true x t)
-
-  pub part_last : n ≤ i → true ≡ all p (take n l)
-  part_last h =
-      let long : length (take n l) ≡ n = length-take-le n l r in
-      passing_last p (take n l) 0 i s (omega arith)
-
--- ---- one mark of `conflicts`, by the answers of `is_parsed`
-
-module _ (w m l : ℕ) (x : Bool) (e : x ≡ parsed m) where
-  pub conflict_used : x ≡ true → m ≡ conflict_mark w m l
+module _ (w m l : ℕ) (x : Bool) (e : x ≡ present m) where
+  pub conflict_used : x ≡ false → m ≡ conflict_mark w m l
   unfolding conflict_mark
-  conflict_used h = rw (used_of m x e h)
+  conflict_used h = rw (← e, h)
 
-  module _ (h : x ≡ false) (y : Bool) (f : y ≡ parsed l) where
+  module _ (h : x ≡ true) (y : Bool) (f : y ≡ parsed l) where
     pub conflict_new : y ≡ true → 2 + w ≡ conflict_mark w m l
     unfolding conflict_mark
-    conflict_new k = rw (present_of m x e h, ← f, k)
+    conflict_new k = rw (← e, h, ← f, k)
 
     pub conflict_none : y ≡ false → m ≡ conflict_mark w m l
     unfolding conflict_mark
-    conflict_none k = rw (present_of m x e h, ← f, k)
+    conflict_none k = rw (← e, h, ← f, k)

@@ -1,10 +1,11 @@
 -- A state whose marks are lent and whose numbers go by value.
-use Rattle.std.specs.Prelude.{◌≡◌, true, ◌&&◌, List, [], ◌∷◌, ℕ, ◌+◌, ◌≤◌, ◌<◌, length, drop, get_or}
-use Rattle.std.specs.Prelude.{if◌then◌else◌}
+use Rattle.std.specs.Prelude.{Bool, ◌≡◌, true, false, ◌&&◌, List, [], ◌∷◌, ℕ, ◌+◌, ◌≤◌, ◌<◌, length, drop, get_or}
+use Rattle.std.specs.Prelude.{if◌then◌else◌, Some, None}
+use Rattle.std.specs.Prelude.{Option as Coded}
+use Rattle.std.proofs.Math.Option.{Option, some, none}
 use Rattle.rules.specs.Outcome.{ok}
 use Rattle.rules.specs.Tree.{zeros}
-use Rattle.rules.specs.State.{State, parsed, present, remove, Picked as Pick}
-use Rattle.rules.specs.Codes.{place_of}
+use Rattle.rules.specs.State.{State, parsed, present, present_at, remove, Picked as Pick}
 use Rattle.rules.specs.Calls.{from_raw}
 use Rattle.rules.specs.Sound.{Good}
 use Rattle.rules.specs.declared.State.{State as Raw}
@@ -58,8 +59,24 @@ unfoldable pub first_or : ℕ → List ℕ → ℕ
 first_or d [] = d
 first_or d (x ∷ xs) = x
 
+-- of each place from `from` on, below `i`, that is present, `false` is said
+abbrev pub NoneWhere : List ℕ → (ℕ → Bool → Type 0) → ℕ → ℕ → Type 0
+NoneWhere m says from i = (k : ℕ) → from ≤ k → k < i → present_at m k ≡ true → says k false
+
+-- the first present place of which `true` is said, or the end
+pub record FirstWhere (m : List ℕ) (says : ℕ → Bool → Type 0) (from end r : ℕ) : Type 0 where
+  pub behind : from ≤ r
+  pub within : r ≤ end
+  pub before : NoneWhere m says from r
+  pub here : r < end → (present_at m r ≡ true) × says r true
+
+-- an `Option` of the code, as the rules have it
+abbrev pub option_of : {A : Type 0} → Coded A → Option A
+option_of (Some x) = some x
+option_of None = none
+
 unfoldable pub pick_of : Picked → Pick
-pick_of r = record { first = r.first; place = place_of r.place }
+pick_of r = record { first = r.first; place = option_of r.place }
 
 -- one mark of `conflicts`
 unfoldable pub conflict_mark : ℕ → ℕ → ℕ → ℕ

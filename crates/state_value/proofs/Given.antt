@@ -8,6 +8,8 @@ use native.Mathlib.Omega.{arith}
 use lib.ListN.{length, get_or, take, drop, get_elem?}
 use lib.Seq.{length-take-le, drop-nil}
 use borrow.Author.Tests.{eq-eqb, ne_eqb, lt-ltb, le-ltb, le-leb}
+use Rattle.std.specs.Prelude.{Some, None}
+use Rattle.std.specs.Prelude.{Option as Coded}
 use Rattle.rules.specs.Base.{null, slice_from, ◌>>?◌}
 use Rattle.rules.specs.Outcome.{Outcome, ok, ◌>>=◌, at}
 use Rattle.rules.specs.Split.{Item}
@@ -16,11 +18,9 @@ use Rattle.rules.specs.State.{conflict, set_scope, until_present, proposed, adja
 use Rattle.rules.specs.Calls.{from_raw, to_raw, state_in}
 use Rattle.rules.specs.Sound.{Good}
 use Rattle.rules.specs.declared.State.{State as Raw}
-use Rattle.rules.specs.Codes.{place_of}
 use Rattle.rules.proofs.Places.{at_below, slice_below, count_from}
 use Rattle.rules.proofs.StepLaws.{set_scope_good}
-use Rattle.rules.proofs.CodeLaws.{place_some}
-use Rattle.state_marks.specs.Lent.{raw_of, numbers_of, state_of, pick_of, first_or, Fine, FineState, Removed}
+use Rattle.state_marks.specs.Lent.{raw_of, numbers_of, state_of, option_of, pick_of, first_or, Fine, FineState, Removed}
 use Rattle.state_marks.specs.declared.Numbers.{Numbers}
 use Rattle.state_marks.specs.declared.Picked.{Picked}
 use Rattle.state_marks.proofs.Marks.{from_take, first_hit, first_within, first_none}
@@ -249,14 +249,14 @@ module _ (x : Raw) (fine : FineState x) where
           let i = fine.inside in
           mark_at x.marks x.count r (omega (arith, below)) (fine_long x.marks (numbers_of x) fine)
 
-      module _ (k : ℕ) (z : place_of k ≡ winner (get_or x.marks r 0)) (items : List Item) (l : length items ≡ x.count) where
+      module _ (k : Coded ℕ) (z : option_of k ≡ winner (get_or x.marks r 0)) (items : List Item) (l : length items ≡ x.count) where
         item_here : (y : Item) × (get_elem? items r ≡ some y)
         item_here = let i = fine.inside in at_below items r (omega (arith, below))
 
-        pub conflict_absent : k ≡ 0 → conflict items (from_raw x) ≡ ok none
-        unfolding conflict first find find_in conflict_at ◌>>=◌ at ◌>>?◌ from_raw place_of
+        pub conflict_absent : k ≡ None → conflict items (from_raw x) ≡ ok none
+        unfolding conflict first find find_in conflict_at ◌>>=◌ at ◌>>?◌ from_raw
         conflict_absent h = rw (found, item_here.1, mark_here, ← z, h)
 
-        pub conflict_there : (k ≡ 0 → ⊥) → conflict items (from_raw x) ≡ ok (some (record { place = r; winner = k - 1 }))
+        pub conflict_there : (w : ℕ) → k ≡ Some w → conflict items (from_raw x) ≡ ok (some (record { place = r; winner = w }))
         unfolding conflict first find find_in conflict_at ◌>>=◌ at ◌>>?◌ from_raw
-        conflict_there h = rw (found, item_here.1, mark_here, ← z, place_some k h)
+        conflict_there w h = rw (found, item_here.1, mark_here, ← z, h)

@@ -1,16 +1,14 @@
 -- What the calls hand back: states, options and scopes of the rules.
 use Rattle.std.specs.Prelude.{◌≡◌, List, ℕ, ◌+◌, ◌≤◌, ltb, take, drop}
 use Rattle.std.proofs.Math.Option.{Option, some, none}
-use Rattle.std.specs.Prelude.{if◌then◌else◌}
+use Rattle.std.specs.Prelude.{if◌then◌else◌, Some, None}
+use Rattle.std.specs.Prelude.{Option as Coded}
 use Rattle.rules.specs.Outcome.{Outcome, ok, ◌>>=◌}
 use Rattle.rules.specs.State.{State, Scope as Range, Conflict, until_present, span}
 use Rattle.rules.specs.Calls.{to_raw}
 use Rattle.rules.specs.declared.State.{State as Raw}
 use Rattle.state_value.specs.declared.Scope.{Scope}
-use Rattle.state_value.specs.declared.ScopeOption.{ScopeOption}
-use Rattle.state_value.specs.declared.ScopeOption.TheVariants as scope
-use Rattle.state_value.specs.declared.ConflictOption.{ConflictOption}
-use Rattle.state_value.specs.declared.ConflictOption.TheVariants as conflict
+use Rattle.state_value.specs.declared.ConflictAt.{ConflictAt}
 
 -- a state as it is handed over
 unfoldable pub handed_over : Outcome State → Outcome Raw
@@ -19,13 +17,13 @@ handed_over o = o >>= λ u. ok (to_raw u)
 abbrev pub range_of : Scope → Range
 range_of r = record { start = r.start; end = r.end }
 
-abbrev pub scope_of : ScopeOption → Option Range
-scope_of (scope.Some a b) = some (record { start = a; end = b })
-scope_of scope.None = none
+abbrev pub scope_of : Coded Scope → Option Range
+scope_of (Some r) = some (range_of r)
+scope_of None = none
 
-abbrev pub conflict_of : ConflictOption → Option Conflict
-conflict_of (conflict.Some i w) = some (record { place = i; winner = w })
-conflict_of conflict.None = none
+abbrev pub conflict_of : Coded ConflictAt → Option Conflict
+conflict_of (Some c) = some (record { place = c.place; winner = c.winner })
+conflict_of None = none
 
 -- a place below the end, or none
 unfoldable pub place_below : ℕ → ℕ → Option ℕ

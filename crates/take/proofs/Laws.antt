@@ -1,6 +1,6 @@
 -- Laws of the takes.
 use mathlib.Core.Path.{◌≡◌, refl, sym, ap, subst, ◌∙◌}
-use mathlib.Core.Bool.{Bool, true, false, not, ◌&&◌}
+use mathlib.Core.Bool.{Bool, true, false, ◌&&◌}
 use mathlib.Core.List.{List, [], ◌∷◌}
 use mathlib.Core.Option.{Option, some, none}
 use Prim.Native.Nat.{ℕ, suc, ◌+◌, ◌-◌, ◌*◌, ◌≤◌, ◌<◌}
@@ -8,7 +8,7 @@ use native.Mathlib.Numerals.{add-one}
 use native.Mathlib.Omega.{arith}
 use lib.Dec.{ltb}
 use lib.ListN.{length, get_or, get_elem?}
-use borrow.Author.Tests.{le-leb, lt-ltb, le-ltb, ltb-true, not-true, not-false}
+use borrow.Author.Tests.{le-leb, ltb-true}
 use types.Run.{OneOf}
 use denote.Enum.Declared.{tag_of}
 use Rattle.rules.specs.Outcome.{Outcome, ok, refused, fault, at, ◌>>=◌}
@@ -39,8 +39,7 @@ use Rattle.take_search.proofs.Items.{operand_said}
 use Rattle.take_search.proofs.Search.{Hits, nothing_found, something_found, sought_all}
 use Rattle.take_table.specs.Known.{TableTells}
 use Rattle.take.specs.declared.Argument.{Argument}
-use Rattle.take.specs.declared.Value.TheVariants.{Missing, Taken as Value-as-Taken}
-use Rattle.take.specs.declared.Operand.TheVariants.{Missing as Operand-as-Missing, Taken as Operand-as-Taken}
+use Rattle.std.specs.Prelude.{Some, None, Ok}
 use Rattle.take_search.specs.States.{CanTake, Items, LeftState}
 use Rattle.take_search.proofs.States.{left_same}
 use Rattle.take.specs.Takes.{Skips, set_current, refused_at, free_below, text_part, strict_item, UsesBoth, TakesFlag, TakesArg, TakesPositional, TakesCmd}
@@ -54,17 +53,9 @@ bind_assoc (ok x) f k = refl
 bind_assoc (refused e) f k = refl
 bind_assoc (fault e) f k = refl
 
-pub free_beyond : (m : List ℕ) (end i : ℕ) → end ≤ i → false ≡ free_below m end i
+pub free_inside : (m : List ℕ) (end i : ℕ) (f : Bool) → f ≡ free_below m end i → f ≡ true → i < end
 unfolding free_below
-free_beyond m end i h = rw (le-ltb i end h)
-
-pub free_test : (m : List ℕ) (end i : ℕ) → i < end → (x : Bool) → x ≡ present (get_or m i 0) → x ≡ free_below m end i
-unfolding free_below
-free_test m end i h x e = rw (lt-ltb i end h) e
-
-pub free_inside : (m : List ℕ) (end i : ℕ) (f : Bool) → f ≡ free_below m end i → not f ≡ false → i < end
-unfolding free_below
-free_inside m end i f ef w = ltb-true i end (left (ltb i end) (present (get_or m i 0)) (sym ef ∙ not-false f w))
+free_inside m end i f ef w = ltb-true i end (left (ltb i end) (present (get_or m i 0)) (sym ef ∙ w))
 
 pub bind_ok : {A B : Type 0} (o : Outcome A) (x : A) (k : A → Outcome B) → o ≡ ok x → (o >>= k) ≡ k x
 unfolding ◌>>=◌
@@ -271,7 +262,7 @@ module _ (mark : ℕ) (area words m : List ℕ) (p : Numbers) (g : CanTake area 
         (x.0, rw (scope_free i from ∙ f) x.1, t.at i x.0 x.1)
 
   module _ (n : Named) (adjacent : Bool) (r : ℕ) (sought : Sought area words (matches_arg n adjacent) m a e r) where
-    pub arg_missing : e ≤ r → TakesArg mark area words n adjacent m p m (record { value = Missing; numbers = p })
+    pub arg_missing : e ≤ r → TakesArg mark area words n adjacent m p m (record { value = Ok None; numbers = p })
     unfolding take_arg ◌>>=◌
     arg_missing h = record {
       same = λ is t. rw (find_nothing (matches_arg n adjacent) r sought is t.0 t.1 h);
@@ -298,16 +289,16 @@ module _ (mark : ℕ) (area words m : List ℕ) (p : Numbers) (g : CanTake area 
         left = left_same m p g.fine;
       }
 
-      pub no_place : (f : Bool) → f ≡ free_below m e (r + 1) → not f ≡ true → (v : Argument) → v ≡ refused_at r p
+      pub no_place : (f : Bool) → f ≡ free_below m e (r + 1) → f ≡ false → (v : Argument) → v ≡ refused_at r p
           → TakesArg mark area words n adjacent m p m v
       unfolding value_text
       no_place f ef w v ev =
-          let z : free_below m e (suc r) ≡ false = rw (← add-one r) (sym ef ∙ not-true f w) in
+          let z : free_below m e (suc r) ≡ false = rw (← add-one r) (sym ef ∙ w) in
           rw ev (refused_at_lem (λ is t. rw (get_none is t.0 t.1 (suc r) (behind is t) z)))
 
-      module _ (f : Bool) (ef : f ≡ free_below m e (r + 1)) (w : not f ≡ false) where
+      module _ (f : Bool) (ef : f ≡ free_below m e (r + 1)) (w : f ≡ true) where
         free_next : free_below m e (suc r) ≡ true
-        free_next = rw (← add-one r) (sym ef ∙ not-false f w)
+        free_next = rw (← add-one r) (sym ef ∙ w)
 
         next_below : r + 1 < e
         next_below = free_inside m e (r + 1) f ef w
@@ -327,7 +318,7 @@ module _ (mark : ℕ) (area words m : List ℕ) (p : Numbers) (g : CanTake area 
         -- the item at the value's place is of one of two kinds
         value_taken : (t : Part) (m' : List ℕ) (left : Numbers) → UsesBoth mark m p r m' left
             → ((x : rules.Item) → item_from area (record_at words (r + 1)) ≡ some x → value_text (some x) ≡ some (part_bytes area t))
-            → TakesArg mark area words n adjacent m p m' (record { value = Value-as-Taken (r + 1) t; numbers = left })
+            → TakesArg mark area words n adjacent m p m' (record { value = Ok (Some (record { place = r + 1; text = t })); numbers = left })
         unfolding take_value
         value_taken t m' q u v = record {
           same = λ is i.
@@ -341,10 +332,10 @@ module _ (mark : ℕ) (area words m : List ℕ) (p : Numbers) (g : CanTake area 
         }
 
         module _ (item : Item) (q : item ≡ item_of (record_at words (r + 1))) (t : Part) (m' : List ℕ) (s : Numbers) (u : UsesBoth mark m p r m' s) where
-          pub word_taken : item ≡ Word t → TakesArg mark area words n adjacent m p m' (record { value = Value-as-Taken (r + 1) t; numbers = s })
+          pub word_taken : item ≡ Word t → TakesArg mark area words n adjacent m p m' (record { value = Ok (Some (record { place = r + 1; text = t })); numbers = s })
           word_taken k = value_taken t m' s u (λ x e. word_value area _ x e item q t k)
 
-          pub arg_word_taken : item ≡ ArgWord t → TakesArg mark area words n adjacent m p m' (record { value = Value-as-Taken (r + 1) t; numbers = s })
+          pub arg_word_taken : item ≡ ArgWord t → TakesArg mark area words n adjacent m p m' (record { value = Ok (Some (record { place = r + 1; text = t })); numbers = s })
           arg_word_taken k = value_taken t m' s u (λ x e. arg_word_value area _ x e item q t k)
 
   -- ---- `take_positional_word`
@@ -430,7 +421,7 @@ module _ (mark : ℕ) (words m : List ℕ) (p : Numbers) (g : (area : List ℕ) 
       operand_said g.0 words r (operand_kind (get_or words (7 * r) 0)) refl x.item (t.0.at r x.item x.there) ∙ x.passes
 
   module _ (r : ℕ) (sought : (area : List ℕ) → Sought area words is_operand m a e r) where
-    pub positional_missing : e ≤ r → (area : List ℕ) → TakesPositional mark area words m p m (record { operand = Operand-as-Missing; numbers = p })
+    pub positional_missing : e ≤ r → (area : List ℕ) → TakesPositional mark area words m p m (record { operand = None; numbers = p })
     positional_missing h area = record {
       same = λ is t. operand_missing mark area words m p (ready_of area is t) a e start end r (sought area) is t h;
       left = left_same m p g.1.fine;
@@ -438,7 +429,7 @@ module _ (mark : ℕ) (words m : List ℕ) (p : Numbers) (g : (area : List ℕ) 
 
     pub positional_taken : r < e → (here : Numbers) → here ≡ set_current (r + 1) p → (m' : List ℕ) (q : Numbers) → Removed mark m here r m' q
         → (b : Bool) → b ≡ strict_item (item_of (record_at words r)) → (t : Part) → t ≡ text_part (item_of (record_at words r))
-        → (area : List ℕ) → TakesPositional mark area words m p m' (record { operand = Operand-as-Taken r b t; numbers = q })
+        → (area : List ℕ) → TakesPositional mark area words m p m' (record { operand = Some (record { place = r; strict = b; text = t }); numbers = q })
     positional_taken h here set m' q d b eb t et area = record {
       same = λ is i. rw (eb, et) (operand_taken mark area words m p (ready_of area is i) a e start end r (sought area) is i h here set m' q d (item_of (record_at words r)) refl);
       left = record { count = d.count ∙ ap (λ (x : Numbers). x.count) set; long = d.long; fine = d.fine };

@@ -10,11 +10,11 @@ use native.Mathlib.Omega.{arith}
 use lib.Dec.{eqb, lit<}
 use lib.ListN.{length, get_or, drop}
 use lib.Seq.{get_or-take, get_or-drop}
-use borrow.Author.Tests.{eqb-true, not-true, not-false}
+use borrow.Author.Tests.{eqb-true}
 use types.Run.{OneOf}
 use denote.Enum.Declared.{tag_of}
 use Rattle.std.specs.Prelude.{if◌then◌else◌}
-use Rattle.rules.specs.Base.{same}
+use Rattle.std.specs.Str.{bytes_eq}
 use Rattle.rules.specs.Calls.{item_from}
 use Rattle.rules.specs.Sheet.{sheet_area}
 use Rattle.rules.specs.Split as rules
@@ -26,18 +26,11 @@ use Rattle.split_arg.specs.Items.{record_at, part_at, item_of}
 use Rattle.split_arg.specs.contracts.Item as T
 use Rattle.take_search.specs.Items.{part_bytes, HasPart, operand_kind}
 use Rattle.take_search.specs.Search.{HasItem}
+use Rattle.take_search.proofs.NameLaws.{bytes_same}
 use Rattle.take_search.proofs.Items.{is_short_lem, is_long_lem, is_arg_word_lem, is_word, is_pos_word_lem}
 use Rattle.take.specs.Takes.{text_part, strict_item, compared_item}
 
 -- the tags that an arm for all others leaves
-pub tags_not_compared : (z : Item) → ((c : ℕ) → (a : Bool) → (t : Part) → z ≡ Short c a t → ⊥)
-    → ((n : Part) → (a : Bool) → (t : Part) → z ≡ Long n a t → ⊥) → ((t : Part) → z ≡ Word t → ⊥) → OneOf (2 ∷ 4 ∷ []) (tag_of T.the_type z)
-tags_not_compared (Short c a t) s l w = absurd (s c a t refl)
-tags_not_compared (Long n a t) s l w = absurd (l n a t refl)
-tags_not_compared (ArgWord t) s l w = inl refl
-tags_not_compared (Word t) s l w = absurd (w t refl)
-tags_not_compared (PosWord t) s l w = inr refl
-
 pub tags_not_word : (z : Item) → ((t : Part) → z ≡ ArgWord t → ⊥) → ((t : Part) → z ≡ Word t → ⊥) → OneOf (0 ∷ 1 ∷ 4 ∷ []) (tag_of T.the_type z)
 tags_not_word (Short c a t) h w = inl refl
 tags_not_word (Long n a t) h w = inr (inl refl)
@@ -109,15 +102,6 @@ strict_read words i h = go (eqb (get_or words (7 * i) 0) 4) refl h
     go true e h = rw (kind, eqb-true (get_or words (7 * i) 0) 4 e)
     go false e h = rw (kind, eqb-true (get_or words (7 * i) 0) 5 h)
 
--- ---- by the tags that are left
-
-pub not_compared : (item : Item) → OneOf (2 ∷ 4 ∷ []) (tag_of T.the_type item) → false ≡ compared_item item
-not_compared (Short c a t) k = absurd (⊎_elim (λ (e : ◌≡◌ {A = ℕ} 0 2). omega arith) (λ (e : ◌≡◌ {A = ℕ} 0 4). omega arith) k)
-not_compared (Long n a t) k = absurd (⊎_elim (λ (e : ◌≡◌ {A = ℕ} 1 2). omega arith) (λ (e : ◌≡◌ {A = ℕ} 1 4). omega arith) k)
-not_compared (ArgWord t) k = refl
-not_compared (Word t) k = absurd (⊎_elim (λ (e : ◌≡◌ {A = ℕ} 3 2). omega arith) (λ (e : ◌≡◌ {A = ℕ} 3 4). omega arith) k)
-not_compared (PosWord t) k = refl
-
 -- ---- values
 
 pub word_value : (area r : List ℕ) (x : rules.Item) → item_from area r ≡ some x → (item : Item) → item ≡ item_of r → (t : Part) → item ≡ Word t
@@ -152,20 +136,20 @@ module _ (s words : List ℕ) (i : ℕ) (item : Item) (q : item ≡ item_of (rec
     abbrev Commands : Bool → Type 0
     Commands r = (x : rules.Item) → item_from (sheet_area s) (record_at words i) ≡ some x → r ≡ is_command word (some (record { place = i; item = x }))
 
-    pub no_command : (f : Bool) → f ≡ compared_item item → not f ≡ true → Commands false
+    pub no_command : (f : Bool) → f ≡ compared_item item → f ≡ false → Commands f
     unfolding is_command
     no_command f ef n x e =
         let a = agrees (sheet_area s) (record_at words i) x e item q in
-        let w : compared_item item ≡ false = sym ef ∙ not-true f n in
+        let w : compared_item item ≡ false = sym ef ∙ n in
         let z : command_text x ≡ none = a.compared ∙ rw w in
-        rw (z, is_command)
+        rw (z, n, is_command)
 
-    pub a_command : (f : Bool) → f ≡ compared_item item → not f ≡ false → (t : Part) → t ≡ text_part item
-        → (y : List ℕ) → y ≡ part_bytes (sheet_area s) t → (r : Bool) → r ≡ same y word → Commands r
+    pub a_command : (f : Bool) → f ≡ compared_item item → f ≡ true → (t : Part) → t ≡ text_part item
+        → (y : List ℕ) → y ≡ part_bytes (sheet_area s) t → (r : Bool) → r ≡ bytes_eq y word → Commands r
     unfolding is_command
     a_command f ef n t et y ey r er x e =
         let a = agrees (sheet_area s) (record_at words i) x e item q in
-        let w : compared_item item ≡ true = sym ef ∙ not-false f n in
+        let w : compared_item item ≡ true = sym ef ∙ n in
         let v : part_bytes (sheet_area s) (text_part item) ≡ y = sym (ey ∙ ap (part_bytes (sheet_area s)) et) in
         let z : command_text x ≡ some y = a.compared ∙ rw (w, v) in
-        rw (z, is_command) er
+        rw (z, is_command) (er ∙ bytes_same y word)

@@ -15,11 +15,12 @@ use Rattle.take_search.specs.Items.{part_bytes}
 use Rattle.take_search.specs.States.{LeftState, Items}
 use Rattle.take_search.specs.Search.{Passed}
 use Rattle.take.specs.declared.Flag.{Flag}
-use Rattle.take.specs.declared.Value.{Value}
-use Rattle.take.specs.declared.Value.TheVariants.{Missing, Taken as Value-as-Taken, NoArgument}
+use Rattle.std.specs.Prelude as prelude
+use Rattle.std.specs.Prelude.{Some, None, Ok, Err}
+use Rattle.take.specs.declared.Word.{Word as TakenWord}
+use Rattle.take.specs.declared.NoArgument.{NoArgument}
 use Rattle.take.specs.declared.Argument.{Argument}
 use Rattle.take.specs.declared.Operand.{Operand}
-use Rattle.take.specs.declared.Operand.TheVariants.{Missing as Operand-as-Missing, Taken as Operand-as-Taken}
 use Rattle.take.specs.declared.Positional.{Positional}
 
 -- ---- where a search may begin: in scope, and with no present item before it that passes the test
@@ -71,25 +72,27 @@ pub record UsesBoth (mark : ℕ) (m : List ℕ) (p : Numbers) (key : ℕ) (m' : 
   pub left : LeftState m p m' q
 
 -- ---- answers
+-- an argument's value as the code has it
+abbrev pub Value : Type 0
+Value = prelude.Result (prelude.Option TakenWord) NoArgument
+
 abbrev pub value_of : List ℕ → List ℕ → Numbers → Value → Outcome (Took (Option Taken))
-value_of area m p Missing = took none (state_of m p)
-value_of area m p (Value-as-Taken i t) = took (some (record { place = i; text = part_bytes area t })) (state_of m p)
-value_of area m p (NoArgument i) = refused (refuse 22 (some i))
+value_of area m p (Ok None) = took none (state_of m p)
+value_of area m p (Ok (Some w)) = took (some (record { place = w.place; text = part_bytes area w.text })) (state_of m p)
+value_of area m p (Err e) = refused (refuse 22 (some e.key))
 
 -- refusal 22
 abbrev pub refused_at : ℕ → Numbers → Argument
-refused_at key p = record { value = NoArgument key; numbers = p }
+refused_at key p = record { value = Err (record { key = key }); numbers = p }
 
 -- refused, nothing is changed
 abbrev pub ValueUnchanged : List ℕ → Numbers → List ℕ → Numbers → Value → Type 0
-ValueUnchanged m p m' q Missing = Unit {0}
-ValueUnchanged m p m' q (Value-as-Taken i t) = Unit {0}
-ValueUnchanged m p m' q (NoArgument i) = (m' ≡ m) × (q ≡ p)
+ValueUnchanged m p m' q (Ok v) = Unit {0}
+ValueUnchanged m p m' q (Err e) = (m' ≡ m) × (q ≡ p)
 
-abbrev pub operand_of : List ℕ → List ℕ → Numbers → Operand → Outcome (Took (Option RulesOperand))
-operand_of area m p Operand-as-Missing = took none (state_of m p)
-operand_of area m p (Operand-as-Taken i strict t) =
-    took (some (record { place = i; strict = strict; text = part_bytes area t })) (state_of m p)
+abbrev pub operand_of : List ℕ → List ℕ → Numbers → prelude.Option Operand → Outcome (Took (Option RulesOperand))
+operand_of area m p None = took none (state_of m p)
+operand_of area m p (Some w) = took (some (record { place = w.place; strict = w.strict; text = part_bytes area w.text })) (state_of m p)
 
 -- ---- what the takes do, for the items that the words are
 pub record TakesFlag (mark : ℕ) (area words : List ℕ) (n : Named) (m : List ℕ) (p : Numbers) (m' : List ℕ) (r : Flag) : Type 0 where

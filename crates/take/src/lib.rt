@@ -22,7 +22,6 @@ ghost use Rattle.take.specs.Takes.{Skips, HasBits, set_current, refused_at, free
 use split_arg::{Item, Part};
 use state_marks::{Numbers, is_present};
 use take_search::Names;
-use wire::wide;
 
 // Whether it was taken.
 #[derive(Clone, Copy)]
@@ -31,65 +30,63 @@ pub struct Flag {
     pub numbers: Numbers,
 }
 
-// The value of an argument: its place and its text; or the place of a key that has none (refusal 22).
+// The value of an argument.
 #[derive(Clone, Copy)]
-pub enum Value {
-    Missing,
-    Taken(usize, Part),
-    NoArgument(usize),
+pub struct Word {
+    pub place: usize,
+    pub text: Part,
+}
+
+// Refusal 22: the place of a key that has no value.
+#[derive(Clone, Copy)]
+pub struct NoArgument {
+    pub key: usize,
 }
 
 #[derive(Clone, Copy)]
 pub struct Argument {
-    pub value: Value,
+    pub value: Result<Option<Word>, NoArgument>,
     pub numbers: Numbers,
 }
 
-// A word that a positional takes: its place, whether it is a PosWord, and its text.
+// A word that a positional takes. It is strict if it is a PosWord.
 #[derive(Clone, Copy)]
-pub enum Operand {
-    Missing,
-    Taken(usize, bool, Part),
+pub struct Operand {
+    pub place: usize,
+    pub strict: bool,
+    pub text: Part,
 }
 
 #[derive(Clone, Copy)]
 pub struct Positional {
-    pub operand: Operand,
+    pub operand: Option<Operand>,
     pub numbers: Numbers,
 }
 
 fn set_current(p: Numbers, current: u32) -> Numbers
     ensures { result ≡ set_current current p }
 {
-    Numbers {
-        count: p.count,
-        remaining: p.remaining,
-        current,
-        start: p.start,
-        end: p.end,
-    }
+    Numbers { current, ..p }
 }
 
 // A place that stands behind one in scope is in scope if it lies below the end.
+#[tactic(auto, unfolding(crate::specs::Takes::free_below))]
 fn is_free(marks: &[u16], i: usize, end: usize) -> bool
     requires { end ≤ length marks.now }
     ensures { result ≡ free_below marks.now end i }
 {
-    if end <= i {
-        return false;
-    }
-    is_present(marks[i])
+    i < end && is_present(marks[i])
 }
 
 fn text_of(item: Item) -> Part
     ensures { result ≡ text_part item }
 {
     match item {
-        Item::Short(_, _, t) => t,
-        Item::Long(_, _, t) => t,
-        Item::ArgWord(t) => t,
-        Item::Word(t) => t,
-        Item::PosWord(t) => t,
+        Item::Short(_, _, t)
+        | Item::Long(_, _, t)
+        | Item::ArgWord(t)
+        | Item::Word(t)
+        | Item::PosWord(t) => t,
     }
 }
 
@@ -97,12 +94,10 @@ fn text_of(item: Item) -> Part
 fn is_compared(item: Item) -> bool
     ensures { result ≡ compared_item item }
 {
-    match item {
-        Item::Short(_, _, _) => true,
-        Item::Long(_, own, _) => !own,
-        Item::Word(_) => true,
-        _ => false,
-    }
+    matches!(
+        item,
+        Item::Short(..) | Item::Long(_, false, _) | Item::Word(_)
+    )
 }
 
 fn is_command(sheet: &[u8], items: &[u32], i: usize, word: &[u8]) -> bool
@@ -110,10 +105,7 @@ fn is_command(sheet: &[u8], items: &[u32], i: usize, word: &[u8]) -> bool
     ensures { (x : RulesItem) → item_from (sheet_area sheet.now) (record_at items.now i) ≡ some x → result ≡ is_command word.now (some (record { place = i; item = x })) }
 {
     let item = split_arg::read_item(items, i);
-    if !is_compared(item) {
-        return false;
-    }
-    take_search::same_bytes(take_search::part_bytes(sheet, text_of(item)), word)
+    is_compared(item) && take_search::part_bytes(sheet, text_of(item)) == word
 }
 
 // A flag for which a search found `place`, or the end of the scope.
@@ -121,7 +113,7 @@ fn use_flag(marks: &mut [u16; 256], p: Numbers, place: usize, mark: u16) -> Flag
     requires { Fine marks.old p × (parsed mark ≡ true) }
     ensures { (area words : List ℕ) (n : Named) → CanTake area words marks.old p mark → Sought area words (matches_arg n false) marks.old p.start p.end place → TakesFlag mark area words n marks.old p marks.new result }
 {
-    if wide(p.end) <= place {
+    if p.end as usize <= place {
         return Flag {
             found: false,
             numbers: p,
@@ -149,8 +141,8 @@ pub fn take_flag(
     requires { HasNames form.now codes.now first count × (sheet_fault sheet.now ≡ 0) × CanTake (sheet_area sheet.now) items.now marks.old p mark }
     ensures { TakesFlag mark (sheet_area sheet.now) items.now (named_at form.now first count) marks.old p marks.new result }
 {
-    let start = wide(p.start);
-    let end = wide(p.end);
+    let start = p.start as usize;
+    let end = p.end as usize;
     let names = Names {
         first,
         count,
@@ -172,7 +164,7 @@ pub fn take_flag_known(
     requires { Fine marks.old p × (parsed mark ≡ true) × HasBits known.now p node × (from ≤ p.end) }
     ensures { (area words : List ℕ) (n : Named) → CanTake area words marks.old p mark → TableTells known.now p.end node area words (matches_arg n false) → Skips area words (matches_arg n false) marks.old p from → TakesFlag mark area words n marks.old p marks.new result }
 {
-    let place = take_table::find(known, marks, node, from, wide(p.end));
+    let place = take_table::find(known, marks, node, from, p.end as usize);
     use_flag(marks, p, place, mark)
 }
 
@@ -192,7 +184,7 @@ fn no_argument(before: Numbers, key: usize) -> Argument
     ensures { result ≡ refused_at key before }
 {
     Argument {
-        value: Value::NoArgument(key),
+        value: Err(NoArgument { key }),
         numbers: before,
     }
 }
@@ -208,10 +200,10 @@ fn use_argument(
     requires { (area : List ℕ) × CanTake area items.now marks.old p mark }
     ensures { (area : List ℕ) (n : Named) (adjacent : Bool) → CanTake area items.now marks.old p mark → Sought area items.now (matches_arg n adjacent) marks.old p.start p.end key → TakesArg mark area items.now n adjacent marks.old p marks.new result }
 {
-    let end = wide(p.end);
+    let end = p.end as usize;
     if end <= key {
         return Argument {
-            value: Value::Missing,
+            value: Ok(None),
             numbers: p,
         };
     }
@@ -224,7 +216,10 @@ fn use_argument(
     };
     let left = use_both(marks, p, key, mark);
     Argument {
-        value: Value::Taken(key + 1, t),
+        value: Ok(Some(Word {
+            place: key + 1,
+            text: t,
+        })),
         numbers: left,
     }
 }
@@ -243,8 +238,8 @@ pub fn take_arg(
     requires { HasNames form.now codes.now names.first names.count × (sheet_fault sheet.now ≡ 0) × CanTake (sheet_area sheet.now) items.now marks.old p mark }
     ensures { TakesArg mark (sheet_area sheet.now) items.now (named_at form.now names.first names.count) names.adjacent marks.old p marks.new result }
 {
-    let start = wide(p.start);
-    let end = wide(p.end);
+    let start = p.start as usize;
+    let end = p.end as usize;
     let key = take_search::find_named(form, codes, sheet, items, marks, start, end, names);
     use_argument(items, marks, p, key, mark)
 }
@@ -262,7 +257,7 @@ pub fn take_arg_known(
     requires { ((area : List ℕ) × CanTake area items.now marks.old p mark) × HasBits known.now p node × (from ≤ p.end) }
     ensures { (area : List ℕ) (n : Named) (adjacent : Bool) → CanTake area items.now marks.old p mark → TableTells known.now p.end node area items.now (matches_arg n adjacent) → Skips area items.now (matches_arg n adjacent) marks.old p from → TakesArg mark area items.now n adjacent marks.old p marks.new result }
 {
-    let key = take_table::find(known, marks, node, from, wide(p.end));
+    let key = take_table::find(known, marks, node, from, p.end as usize);
     use_argument(items, marks, p, key, mark)
 }
 
@@ -295,8 +290,7 @@ pub fn take_positional_word(
     requires { (area : List ℕ) × CanTake area items.now marks.old p mark }
     ensures { (area : List ℕ) → TakesPositional mark area items.now marks.old p marks.new result }
 {
-    let start = wide(p.start);
-    take_positional_word_from(items, marks, p, start, mark)
+    take_positional_word_from(items, marks, p, p.start as usize, mark)
 }
 
 pub fn take_positional_word_from(
@@ -309,18 +303,22 @@ pub fn take_positional_word_from(
     requires { (area : List ℕ) × CanTake area items.now marks.old p mark × Skips area items.now is_operand marks.old p from }
     ensures { (area : List ℕ) → TakesPositional mark area items.now marks.old p marks.new result }
 {
-    let end = wide(p.end);
+    let end = p.end as usize;
     let place = take_search::find_operand(items, marks, from, end);
     if end <= place {
         return Positional {
-            operand: Operand::Missing,
+            operand: None,
             numbers: p,
         };
     }
     let here = set_current(p, place as u32 + 1);
     let left = state_marks::remove(marks, here, place, mark);
     Positional {
-        operand: Operand::Taken(place, is_strict(items, place), text_at(items, place)),
+        operand: Some(Operand {
+            place,
+            strict: is_strict(items, place),
+            text: text_at(items, place),
+        }),
         numbers: left,
     }
 }
@@ -337,17 +335,15 @@ pub fn take_cmd(
     requires { (sheet_fault sheet.now ≡ 0) × CanTake (sheet_area sheet.now) items.now marks.old p mark }
     ensures { TakesCmd mark (sheet_area sheet.now) items.now word.now marks.old p marks.new result }
 {
-    let start = wide(p.start);
-    let end = wide(p.end);
+    let start = p.start as usize;
+    let end = p.end as usize;
     let place = state_marks::first_present(marks, start, end);
-    if place < end {
-        if is_command(sheet, items, place, word) {
-            let left = state_marks::remove(marks, p, place, mark);
-            return Flag {
-                found: true,
-                numbers: set_current(left, place as u32 + 1),
-            };
-        }
+    if place < end && is_command(sheet, items, place, word) {
+        let left = state_marks::remove(marks, p, place, mark);
+        return Flag {
+            found: true,
+            numbers: set_current(left, place as u32 + 1),
+        };
     }
     Flag {
         found: false,

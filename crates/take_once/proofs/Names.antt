@@ -1,10 +1,10 @@
 -- Items with the same name, and the search back for the nearest.
-use mathlib.Core.Path.{◌≡◌, refl, sym, ap, ◌∙◌}
+use mathlib.Core.Path.{◌≡◌, refl, sym, ap, ◌∙◌, subst}
 use mathlib.Core.Bool.{Bool, true, false}
 use mathlib.Core.List.{List, [], ◌∷◌, reverse}
 use mathlib.Core.Logic.{⊎_elim}
 use mathlib.Core.Option.{some}
-use Prim.Native.Nat.{ℕ, suc, ◌-◌, ◌≤◌, ◌<◌}
+use Prim.Native.Nat.{ℕ, suc, ◌-◌, ◌≤◌, ◌<◌, ◌+◌}
 use native.Mathlib.Omega.{arith}
 use lib.Dec.{eqb}
 use lib.ListN.{length, take, get_elem?}
@@ -12,7 +12,7 @@ use borrow.Author.Tests.{le-leb}
 use types.Run.{OneOf}
 use denote.Enum.Declared.{tag_of}
 use Rattle.std.specs.Prelude.{if◌then◌else◌}
-use Rattle.rules.specs.Base.{same, minus, ◌>>?◌}
+use Rattle.rules.specs.Base.{minus, ◌>>?◌}
 use Rattle.rules.specs.Outcome.{at, ◌>>=◌}
 use Rattle.rules.specs.Split as rules
 use Rattle.rules.specs.State.{match_short, match_long, position, before}
@@ -27,6 +27,8 @@ use Rattle.split_arg.specs.contracts.Item as T
 use Rattle.split_arg.specs.Items.{record_at, item_of}
 use Rattle.take_search.specs.Items.{Table, part_bytes}
 use Rattle.take_search.specs.Search.{HasItem}
+use Rattle.std.specs.Str.{bytes_eq}
+use Rattle.take_search.proofs.NameLaws.{bytes_same}
 use Rattle.take_search.proofs.Items.{is_short_lem, is_long_lem, is_arg_word_lem, is_word, is_pos_word_lem}
 use Rattle.rules.specs.WhyAnswered.{same_named}
 use Rattle.rules.proofs.OnceLaws.{back_more, once_searches}
@@ -40,9 +42,9 @@ module _ (area r : List ℕ) (item : Item) (q : item ≡ item_of r) (y : rules.I
   short_is c d own t h = rw (is_short_lem area r y e item q d own t h).0
 
   pub long_is : (name n : Part) (own : Bool) (t : Part) → item ≡ Long n own t
-      → (a b : List ℕ) → a ≡ part_bytes area n → b ≡ part_bytes area name → (s : Bool) → s ≡ same a b → s ≡ match_long (part_bytes area name) y
+      → (a b : List ℕ) → a ≡ part_bytes area n → b ≡ part_bytes area name → (s : Bool) → s ≡ bytes_eq a b → s ≡ match_long (part_bytes area name) y
   unfolding match_long
-  long_is name n own t h a b ea eb s es = rw ((is_long_lem area r y e item q n own t h).0, ← ea, ← eb) es
+  long_is name n own t h a b ea eb s es = rw ((is_long_lem area r y e item q n own t h).0, ← ea, ← eb) (es ∙ bytes_same a b)
 
   -- by the tags that are left
   pub short_not : (c : ℕ) → OneOf (1 ∷ 2 ∷ 3 ∷ 4 ∷ []) (tag_of T.the_type item) → false ≡ match_short c y
@@ -133,9 +135,9 @@ module _ (area words : List ℕ) (i j : ℕ) (z : Looking area words i j) where
       same = λ is t l x e. rw n at (step is t l x e);
     }
 
-    pub looking_hit : r ≡ true → Earlier area words i j
+    hit : r ≡ true → Earlier area words i j
     unfolding before at minus place_of ◌>>=◌ ◌>>?◌
-    looking_hit n = record {
+    hit n = record {
       within = z.within;
       same = λ is t l.
           let x = lookup_some is i l in
@@ -146,10 +148,13 @@ module _ (area words : List ℕ) (i j : ℕ) (z : Looking area words i j) where
           ∙ rw (found, le-leb (i - j) i (omega arith), k, le-leb 1 j h, place_some j (λ e. omega arith));
     }
 
-  pub looking_last : j ≤ 0 → Earlier area words i j
+    pub looking_hit : r ≡ true → Earlier area words i (j - 1 + 1)
+    looking_hit n = let e : j ≡ j - 1 + 1 = omega (arith, h) in subst (Earlier area words i) e (hit n)
+
+  pub looking_last : j ≤ 0 → Earlier area words i 0
   unfolding position before place_of
   looking_last h = record {
-    within = z.within;
+    within = omega arith;
     same = λ is t l.
         let x = lookup_some is i l in
         let e : j ≡ 0 = omega arith in

@@ -36,10 +36,7 @@ fn is_long(sheet: &[u8], items: &[u32], j: usize, name: Part) -> bool
     let Item::Long(other, _, _) = item else {
         return false;
     };
-    take_search::same_bytes(
-        take_search::part_bytes(sheet, other),
-        take_search::part_bytes(sheet, name),
-    )
+    take_search::part_bytes(sheet, other) == take_search::part_bytes(sheet, name)
 }
 
 // Whether items i and j have the same name.
@@ -55,17 +52,15 @@ fn same_name(sheet: &[u8], items: &[u32], i: usize, j: usize) -> bool
     }
 }
 
-// The nearest earlier place with the same name, plus 1, or 0 for none.
+// The nearest earlier place with the same name, plus 1, or 0 for none, which `place_of` of the rules reads.
 pub fn earlier(sheet: &[u8], items: &[u32], place: usize) -> usize
     requires { HasPlace sheet.now items.now place }
     ensures { Earlier (sheet_area sheet.now) items.now place result }
 {
-    let mut j = place;
-    while 0 < j {
-        if same_name(sheet, items, place, j - 1) {
-            return j;
+    for j in (0..place).rev() {
+        if same_name(sheet, items, place, j) {
+            return j + 1;
         }
-        j -= 1;
     }
-    j
+    0
 }

@@ -10,7 +10,7 @@ use native.Mathlib.Omega.{arith}
 use lib.Dec.{eqb, lit<}
 use lib.ListN.{length, get_or, take, drop, length-drop}
 use lib.Seq.{get_or-take, get_or-drop, drop-drop}
-use borrow.Author.Tests.{leb-true, not-true, not-false, eqb-true, ne_eqb}
+use borrow.Author.Tests.{leb-true, eqb-true}
 use types.Run.{OneOf}
 use denote.Enum.Declared.{tag_of}
 use Rattle.std.specs.Prelude.{if◌then◌else◌}
@@ -123,25 +123,25 @@ module _ (b codes s words : List ℕ) (i first count : ℕ) (adjacent : Bool) (i
 
   module _ (own : Bool) (t : Part) (f : Bool) (ef : f ≡ (not adjacent || own)) where
     module _ (c : ℕ) (h : item ≡ Short c own t) where
-      pub short_apart : not f ≡ true → Matched false
+      pub short_apart : f ≡ false → Matched f
       unfolding matches_arg
-      short_apart z x e = rw (is_short_lem _ _ x e item q c own t h).0 (and_no (contains (named_at b first count).shorts c) _ (sym ef ∙ not-true f z))
+      short_apart z x e = z ∙ rw (is_short_lem _ _ x e item q c own t h).0 (and_no (contains (named_at b first count).shorts c) _ (sym ef ∙ z))
 
-      pub short_here : not f ≡ false → HasNames b codes first count → (r : Bool) → r ≡ contains (take count (drop first codes)) (c + 1) → Matched r
+      pub short_here : f ≡ true → HasNames b codes first count → (r : Bool) → r ≡ contains (take count (drop first codes)) (c + 1) → Matched r
       unfolding matches_arg
       short_here z n r w x e =
-          rw ((is_short_lem _ _ x e item q c own t h).0, ← and_yes (contains (named_at b first count).shorts c) _ (sym ef ∙ not-false f z))
+          rw ((is_short_lem _ _ x e item q c own t h).0, ← and_yes (contains (named_at b first count).shorts c) _ (sym ef ∙ z))
           (w ∙ sym (shorts_table b codes first count c n.coded n.inside))
 
     module _ (n : Part) (h : item ≡ Long n own t) where
-      pub long_apart : not f ≡ true → Matched false
+      pub long_apart : f ≡ false → Matched f
       unfolding matches_arg
-      long_apart z x e = rw (is_long_lem _ _ x e item q n own t h).0 (and_no (contains_name (named_at b first count).longs (part_bytes (sheet_area s) n)) _ (sym ef ∙ not-true f z))
+      long_apart z x e = z ∙ rw (is_long_lem _ _ x e item q n own t h).0 (and_no (contains_name (named_at b first count).longs (part_bytes (sheet_area s) n)) _ (sym ef ∙ z))
 
-      pub long_here : not f ≡ false → (y : List ℕ) → y ≡ part_bytes (sheet_area s) n → (r : Bool) → r ≡ contains_name (named_at b first count).longs y → Matched r
+      pub long_here : f ≡ true → (y : List ℕ) → y ≡ part_bytes (sheet_area s) n → (r : Bool) → r ≡ contains_name (named_at b first count).longs y → Matched r
       unfolding matches_arg
       long_here z y v r w x e =
-          rw ((is_long_lem _ _ x e item q n own t h).0, ← and_yes (contains_name (named_at b first count).longs (part_bytes (sheet_area s) n)) _ (sym ef ∙ not-false f z), ← v) w
+          rw ((is_long_lem _ _ x e item q n own t h).0, ← and_yes (contains_name (named_at b first count).longs (part_bytes (sheet_area s) n)) _ (sym ef ∙ z), ← v) w
 
   -- by the tags that are left
   pub other_not : OneOf (2 ∷ 3 ∷ 4 ∷ []) (tag_of T.the_type item) → Matched false
@@ -182,14 +182,6 @@ module _ (s : List ℕ) (p : Part) (g : HasPart s p) (n : ℕ) (en : n ≡ argum
         rw (z, drop-drop p.offset (area_start 2 (argument_count s)) s, ea, en)
 
 -- ---- operands
-
-pub operand_four : (k : ℕ) → k ≡ 4 → true ≡ operand_kind k
-unfolding operand_kind
-operand_four k e = rw e
-
-pub operand_five : (k : ℕ) → (k ≡ 4 → ⊥) → eqb k 5 ≡ operand_kind k
-unfolding operand_kind
-operand_five k h = rw (ne_eqb k 4 h)
 
 kind_choose : (x : rules.Item) (k j : ℕ) (o u : Option rules.Item)
     → (k ≡ j → o ≡ some x → operand_kind k ≡ is_operand x) → (eqb k j ≡ false → u ≡ some x → operand_kind k ≡ is_operand x)

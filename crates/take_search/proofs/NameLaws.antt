@@ -1,6 +1,7 @@
 -- The loops that look up a name.
 use mathlib.Core.Path.{◌≡◌, refl, sym, ap, ◌∙◌}
-use mathlib.Core.Bool.{Bool, true, false, ◌||◌, or-false, and-false}
+use mathlib.Core.Bool.{Bool, true, false, ◌&&◌, ◌||◌, or-false}
+use Rattle.std.specs.Str.{bytes_eq}
 use mathlib.Core.List.{List, [], ◌∷◌}
 use mathlib.Core.Option.{some}
 use Prim.Native.Nat.{ℕ, zero, suc, ◌+◌, ◌-◌, ◌≤◌, ◌<◌}
@@ -43,82 +44,32 @@ window_end l k end h = let z : end - k ≡ 0 = omega arith in rw z
 
 -- ---- short names
 
--- the loop of `has_short`
-pub record Sifting (table : List ℕ) (first count want end k : ℕ) : Type 0 where
-  pub within : k ≤ end
-  pub same : contains (window table k end) want ≡ contains (take count (drop first table)) want
+-- the loop of `has_short`: what is left decides
+pub record Sifting (l : List ℕ) (want k : ℕ) : Type 0 where
+  pub same : contains (drop k l) want ≡ contains l want
 
-pub sifting_first : (table : List ℕ) (first count want end : ℕ) → end ≡ first + count → Sifting table first count want end first
-sifting_first table first count want end e =
-    let z : end - first ≡ count = omega arith in
-    record { within = omega arith; same = rw z }
-
-module _ (table : List ℕ) (first count character wide want end k : ℕ) (ew : wide ≡ character) (et : want ≡ wide + 1)
-    (room : first + count ≤ length table) (ee : end ≡ first + count) (z : Sifting table first count want end k) where
-  pub sifting_next : k < end → (x : ℕ) → x ≡ get_or table k 0 → (x ≡ want → ⊥) → Sifting table first count want end (k + 1)
+module _ (l : List ℕ) (want k : ℕ) (z : Sifting l want k) where
+  pub sifting_next : k < length l → (get_or l k 0 ≡ want → ⊥) → Sifting l want (k + 1)
   unfolding contains
-  sifting_next h x e n =
-      record {
-        within = omega arith;
-        same = sym (rw (window_step table k end _ h (at_get_d table k (omega arith)), ← e, ne_eqb x want n)) ∙ z.same;
-      }
+  sifting_next h n = record { same = sym (rw (add-one, drop-cons l k 0 h, ne_eqb (get_or l k 0) want n)) ∙ z.same }
 
-  pub sifting_hit : k < end → (x : ℕ) → x ≡ get_or table k 0 → x ≡ want → true ≡ contains (take count (drop first table)) (character + 1)
+  pub sifting_hit : k < length l → get_or l k 0 ≡ want → true ≡ contains l want
   unfolding contains
-  sifting_hit h x e n =
-      let w : character + 1 ≡ want = omega arith in
-      rw w (sym (rw (window_step table k end _ h (at_get_d table k (omega arith)), ← e, eq-eqb x want n)) ∙ z.same)
+  sifting_hit h n = sym (rw (drop-cons l k 0 h, eq-eqb (get_or l k 0) want n)) ∙ z.same
 
-  pub sifting_last : end ≤ k → false ≡ contains (take count (drop first table)) (character + 1)
+  pub sifting_last : length l ≤ k → false ≡ contains l want
   unfolding contains
-  sifting_last h =
-      let w : character + 1 ≡ want = omega arith in
-      rw w (sym (rw (window_end table k end h)) ∙ z.same)
+  sifting_last h = sym (rw (drop_of_length-le l h)) ∙ z.same
 
 -- ---- bytes
 
-same_differ : (a b : List ℕ) → (length a ≡ length b → ⊥) → same a b ≡ false
+-- `==` of two slices is the rules' test
+pub bytes_same : (a b : List ℕ) → bytes_eq a b ≡ same a b
 unfolding same
-same_differ [] [] h = absurd (h refl)
-same_differ [] (y ∷ b) h = refl
-same_differ (x ∷ a) [] h = refl
-same_differ (x ∷ a) (y ∷ b) h = rw (same_differ a b (λ e. h (ap suc e))) (and-false (eqb x y))
-
-pub other_length : (a b : List ℕ) → (length a ≡ length b → ⊥) → false ≡ same a b
-other_length a b h = sym (same_differ a b h)
-
--- the loop of `same_bytes`
-pub record Comparing (a b : List ℕ) (i : ℕ) : Type 0 where
-  pub within : i ≤ length a
-  pub long : length a ≡ length b
-  pub same : same (drop i a) (drop i b) ≡ same a b
-
-pub comparing_first : (a b : List ℕ) → length a ≡ length b → Comparing a b 0
-comparing_first a b e = record { within = omega arith; long = e; same = refl }
-
-module _ (a b : List ℕ) (i : ℕ) (z : Comparing a b i) where
-  pub comparing_next : i < length a → get_or a i 0 ≡ get_or b i 0 → Comparing a b (i + 1)
-  unfolding same
-  comparing_next h e =
-      let l = z.long in
-      record {
-        within = omega arith;
-        long = l;
-        same = sym (rw (add-one i, drop-cons a i 0 h, drop-cons b i 0 (omega arith), eq-eqb _ _ e)) ∙ z.same;
-      }
-
-  pub comparing_differ : i < length a → (get_or a i 0 ≡ get_or b i 0 → ⊥) → false ≡ same a b
-  unfolding same
-  comparing_differ h e =
-      let l = z.long in
-      sym (rw (drop-cons a i 0 h, drop-cons b i 0 (omega arith), ne_eqb _ _ e)) ∙ z.same
-
-  pub comparing_last : length a ≤ i → true ≡ same a b
-  unfolding same
-  comparing_last h =
-      let l = z.long in
-      let k : length b ≤ i = omega arith in
-      sym (rw (drop_of_length-le a h, drop_of_length-le b k)) ∙ z.same
+bytes_same [] [] = refl
+bytes_same [] (y ∷ b) = refl
+bytes_same (x ∷ a) [] = refl
+bytes_same (x ∷ a) (y ∷ b) = ap (λ (t : Bool). eqb x y && t) (bytes_same a b)
 
 -- ---- long names
 
@@ -126,17 +77,17 @@ module _ (b : List ℕ) (k : ℕ) (x : declared.Name) (e : get_elem? (read_form 
   abbrev IsLong : Bool → Type 0
   IsLong r = (y : Name) → get_elem? (read_form b).names k ≡ some y → r ≡ contains_name (long_of (read_form b).area y) name
 
-  pub not_long_lem : (x.kind ≡ 1 → ⊥) → IsLong false
+  pub not_long_lem : (x.kind ≡ 1 → ⊥) → IsLong (eqb x.kind 1)
   unfolding long_of contains_name
   not_long_lem h y f = let w : name_of x ≡ y = cc in rw (← w, ne_eqb x.kind 1 h)
 
-  pub long_same : x.kind ≡ 1 → (s : List ℕ) → name_bytes_at (read_form b) k ≡ some s → (r : Bool) → r ≡ same s name → IsLong r
+  pub long_same : x.kind ≡ 1 → (s : List ℕ) → name_bytes_at (read_form b) k ≡ some s → (r : Bool) → r ≡ bytes_eq s name → IsLong r
   unfolding long_of contains_name name_bytes_at
   long_same h s t r q y f =
       let w : name_of x ≡ y = cc in
       let z : some (name_bytes (read_form b).area (name_of x)) ≡ some s = rw (e, name_bytes_at) at t in
       let v : name_bytes (read_form b).area (name_of x) ≡ s = cc in
-      rw (← w, eq-eqb x.kind 1 h, v, or-false (same s name)) q
+      rw (← w, eq-eqb x.kind 1 h, v, or-false (same s name)) (q ∙ bytes_same s name)
 
 -- the long names yet to be looked at
 abbrev longs : List ℕ → List Name → List (List ℕ)

@@ -1,24 +1,24 @@
--- Laws of the searches: the loop's invariant, and what a search answers.
+-- Laws of the searches: what a search answers, and where it may begin.
 use mathlib.Core.Path.{◌≡◌, refl, sym, ap, subst, ◌∙◌}
 use mathlib.Core.Bool.{Bool, true, false, false≢true}
 use mathlib.Core.List.{List, [], ◌∷◌}
 use mathlib.Core.Logic.{◌⊎◌, inl, inr, ⊎_elim}
 use mathlib.Core.Option.{some, none, some-injective}
 use Prim.Native.Nat.{ℕ, zero, suc, ◌+◌, ◌-◌, ◌≤◌, ◌<◌}
-use native.Mathlib.Nat.{eq-or-lt_of_le}
+use native.Mathlib.Nat.{eq-or-lt_of_le, le_refl}
 use native.Mathlib.Omega.{arith}
-use lib.ListN.{length, get_or, get_elem?}
+use lib.ListN.{length, get_elem?}
 use Rattle.std.specs.Prelude.{if◌then◌else◌}
 use Rattle.rules.specs.Outcome.{ok, at, ◌>>=◌}
 use Rattle.rules.specs.Split.{Item}
-use Rattle.rules.specs.State.{Found, present, present_at, present_from, find_in}
+use Rattle.rules.specs.State.{Found, present_at, present_from, find_in}
 use Rattle.rules.specs.Calls.{item_from}
 use Rattle.rules.specs.Demands.{All}
 use Rattle.rules.proofs.Acceptance.{lookup_some}
 use Rattle.rules.proofs.Places.{from_each}
 use Rattle.split_arg.specs.Items.{record_at}
-use Rattle.state_marks.proofs.Marks.{from_used, from_hit, from_none}
-use Rattle.take_search.specs.Items.{Table}
+use Rattle.state_marks.specs.Lent.{FirstWhere}
+use Rattle.state_marks.proofs.Marks.{present_at_lem, from_hit, from_none}
 use Rattle.take_search.specs.Search.{HasItem, HasItems, place_or, seek, Sought, Passed}
 
 pub item_there : (s words marks : List ℕ) (from end i : ℕ) → HasItems s words marks from end → i < end → HasItem s words i
@@ -27,58 +27,6 @@ item_there s words marks from end i g h =
     let within = g.inside in
     let x = lookup_some g.items i (omega arith) in
     record { made = g.made; room = omega arith; item = x.0; here = g.table.at i x.0 x.1 }
-
--- ---- the loop
-
-pub record Seeking (area words : List ℕ) (test : Item → Bool) (marks : List ℕ) (from end i : ℕ) : Type 0 where
-  pub within : i ≤ end
-  pub same : (is : List Item) → Table area words is → end ≤ length is
-      → place_or end (seek is test marks i end) ≡ place_or end (seek is test marks from end)
-
--- what the code says of the item at a place
-abbrev pub TestedAt : List ℕ → List ℕ → (Item → Bool) → ℕ → Bool → Type 0
-TestedAt area words test i r = (x : Item) → item_from area (record_at words i) ≡ some x → r ≡ test x
-
-module _ (area words : List ℕ) (test : Item → Bool) (marks : List ℕ) (from end : ℕ) where
-  pub seeking_first : from ≤ end → Seeking area words test marks from end from
-  seeking_first h = record { within = h; same = λ is t l. refl }
-
-  module _ (i : ℕ) (z : Seeking area words test marks from end i) where
-    pub seeking_last : end ≤ i → Sought area words test marks from end i
-    unfolding find_in
-    seeking_last h is t l =
-        let e : i ≡ end = omega (arith, z.within) in
-        e ∙ sym (rw (from_none marks end i h)) ∙ z.same is t l
-
-    module _ (h : i < end) (long : end ≤ length marks) where
-      pub seeking_used : (x : Bool) → x ≡ present (get_or marks i 0) → x ≡ false → Seeking area words test marks from end (i + 1)
-      seeking_used x e g = record {
-        within = omega arith;
-        same = λ is t l. ap (λ (p : List ℕ). place_or end (find_in is test p)) (sym (from_used marks end i h long (sym e ∙ g))) ∙ z.same is t l;
-      }
-
-      module _ (free : Bool) (e : free ≡ present (get_or marks i 0)) (g : free ≡ true) (r : Bool) (said : TestedAt area words test i r) where
-        found : (is : List Item) → Table area words is → end ≤ length is → (x : Item) × (get_elem? is i ≡ some x) × (r ≡ test x)
-        found is t l =
-            let x = lookup_some is i (omega arith) in
-            (x.0, x.1, said x.0 (t.at i x.0 x.1))
-
-        pub seeking_other : r ≡ false → Seeking area words test marks from end (i + 1)
-        unfolding find_in at ◌>>=◌
-        seeking_other n = record {
-          within = omega arith;
-          same = λ is t l.
-              let x = found is t l in
-              let w : test x.0 ≡ false = sym x.2 ∙ n in
-              sym (rw (from_hit marks end i h long (sym e ∙ g), x.1, w)) ∙ z.same is t l;
-        }
-
-        pub seeking_hit : r ≡ true → Sought area words test marks from end i
-        unfolding find_in at ◌>>=◌
-        seeking_hit n is t l =
-            let x = found is t l in
-            let w : test x.0 ≡ true = sym x.2 ∙ n in
-            sym (rw (from_hit marks end i h long (sym e ∙ g), x.1, w)) ∙ z.same is t l
 
 -- ---- what a search answers
 
@@ -242,3 +190,32 @@ module _ (area words : List ℕ) (test : Item → Bool) (marks : List ℕ) (star
       let same = find_behind is test marks (from - start) (end - from) start (omega arith) past in
       let whole : seek is test marks start end ≡ seek is test marks from end = rw y (rw z at same) in
       sought is t l ∙ ap (place_or end) (sym whole)
+
+-- what the code says of the item at a place
+abbrev pub TestedAt : List ℕ → List ℕ → (Item → Bool) → ℕ → Bool → Type 0
+TestedAt area words test i r = (x : Item) → item_from area (record_at words i) ≡ some x → r ≡ test x
+
+module _ (area words : List ℕ) (test : Item → Bool) (marks : List ℕ) (end : ℕ) where
+  pub sought_end : Sought area words test marks end end end
+  unfolding find_in
+  sought_end is t l = sym (rw (from_none marks end end (le_refl end)))
+
+  -- the first place that is present and of which `true` is said, where what is said is the test of the item
+  module _ (long : end ≤ length marks) (from r : ℕ) (says : ℕ → Bool → Type 0) (f : FirstWhere marks says from end r)
+      (told : (i : ℕ) (b : Bool) → i < end → says i b → TestedAt area words test i b) where
+    sought_here : r < end → Sought area words test marks r end r
+    unfolding find_in at ◌>>=◌
+    sought_here h is t l =
+        let x = lookup_some is r (omega arith) in
+        let p = f.here h in
+        let w : test x.0 ≡ true = sym (told r true h p.1 x.0 (t.at r x.0 x.1)) in
+        sym (rw (from_hit marks end r h long (sym (present_at_lem marks r (omega arith)) ∙ p.0), x.1, w))
+
+    pub first_sought : Sought area words test marks from end r
+    first_sought =
+        sought_all area words test marks from r end r
+        (λ k a b p x e. sym (told k false (omega (arith, f.within)) (f.before k a b p) x e)) f.behind f.within
+        (⊎_elim
+        (λ (e : r ≡ end). rw e sought_end)
+        (λ (h : r < end). sought_here h)
+        (eq-or-lt_of_le f.within))

@@ -4,7 +4,7 @@
 ghost use Rattle.std.specs.Prelude.{◌≡◌, not, ◌||◌, List, ℕ, ◌+◌, ◌*◌, ◌≤◌, ◌<◌, length, get_or, take, drop};
 ghost use Rattle.std.proofs.Math.Option.{some};
 ghost use Rattle.std.proofs.Math.ListN.{get_elem?};
-ghost use Rattle.rules.specs.Base.{contains, same};
+ghost use Rattle.rules.specs.Base.{contains};
 ghost use Rattle.rules.specs.Form.{Name, name_count, read_form};
 ghost use Rattle.rules.specs.Tree.{long_of};
 ghost use Rattle.rules.specs.Sheet.{sheet_area};
@@ -18,7 +18,6 @@ ghost use Rattle.take_search.specs.Items.{HasPart, part_bytes, operand_kind};
 ghost use Rattle.take_search.specs.Search.{HasNames, HasItem, HasItems, Sought};
 
 use split_arg::{Item, Part};
-use state_marks::is_present;
 
 // The names of a node: `count` records of the form from `first` on. An adjacent argument takes only an item that has its value
 // in its own word.
@@ -29,43 +28,18 @@ pub struct Names {
     pub adjacent: bool,
 }
 
-pub fn wide64(x: u32) -> u64
-    ensures { result ≡ x }
-{
-    x as u64
-}
-
 // Whether one of `count` codes from `first` on is that of a character.
 fn has_short(codes: &[u32], first: usize, count: usize, character: u32) -> bool
     requires { first + count ≤ length codes.now }
     ensures { result ≡ contains (take count (drop first codes.now)) (character + 1) }
 {
-    let want = wide64(character) + 1;
-    let end = first + count;
-    let mut k = first;
-    while k < end {
-        if wide64(codes[k]) == want {
+    let want = u64::from(character) + 1;
+    for code in &codes[first..first + count] {
+        if u64::from(*code) == want {
             return true;
         }
-        k += 1;
     }
     false
-}
-
-pub fn same_bytes(a: &[u8], b: &[u8]) -> bool
-    ensures { result ≡ same a.now b.now }
-{
-    if a.len() != b.len() {
-        return false;
-    }
-    let mut i = 0;
-    while i < a.len() {
-        if a[i] != b[i] {
-            return false;
-        }
-        i += 1;
-    }
-    true
 }
 
 // Whether name record k is long, and this name.
@@ -74,10 +48,7 @@ pub fn is_long(form: &[u8], k: usize, name: &[u8]) -> bool
     ensures { (x : Name) → get_elem? (read_form form.now).names k ≡ some x → result ≡ contains_name (long_of (read_form form.now).area x) name.now }
 {
     let x = form_layout::name_at(form, k);
-    if x.kind != 1 {
-        return false;
-    }
-    same_bytes(form_layout::name_bytes(form, k), name)
+    x.kind == 1 && form_layout::name_bytes(form, k) == name
 }
 
 // Whether one of `count` name records from `first` on is this long name.
@@ -85,13 +56,10 @@ fn has_long(form: &[u8], name: &[u8], first: usize, count: usize) -> bool
     requires { GoodNames form.now × (first + count ≤ name_count form.now) }
     ensures { result ≡ contains_name (named_at form.now first count).longs name.now }
 {
-    let end = first + count;
-    let mut k = first;
-    while k < end {
+    for k in first..first + count {
         if is_long(form, k, name) {
             return true;
         }
-        k += 1;
     }
     false
 }
@@ -111,7 +79,7 @@ pub fn part_bytes(sheet: &[u8], x: Part) -> &[u8]
 fn fits(adjacent: bool, own: bool) -> bool
     ensures { result ≡ (not adjacent || own) }
 {
-    if adjacent { own } else { true }
+    !adjacent || own
 }
 
 // `matches_arg`: whether item i has one of the names.
@@ -129,22 +97,18 @@ pub fn matches(
     let item = split_arg::read_item(items, i);
     match item {
         Item::Short(character, own, _) => {
-            if !fits(names.adjacent, own) {
-                return false;
-            }
-            has_short(codes, names.first, names.count, character)
+            fits(names.adjacent, own) && has_short(codes, names.first, names.count, character)
         }
         Item::Long(name, own, _) => {
-            if !fits(names.adjacent, own) {
-                return false;
-            }
-            has_long(form, part_bytes(sheet, name), names.first, names.count)
+            fits(names.adjacent, own)
+                && has_long(form, part_bytes(sheet, name), names.first, names.count)
         }
         Item::ArgWord(_) | Item::Word(_) | Item::PosWord(_) => false,
     }
 }
 
-// The first present place from `from` on, below `end`, whose item has one of the names; `end` if there is none.
+// The first present place from `from` on, below `end`, whose item has one of the names; `end` if there is none: that place is the end of
+// the scope. This loop, `find_operand`'s and take_table's stay three: with the test as a closure, each caller would state its contract.
 pub fn find_named(
     form: &[u8],
     codes: &[u32],
@@ -158,28 +122,21 @@ pub fn find_named(
     requires { HasNames form.now codes.now names.first names.count × HasItems sheet.now items.now marks.now from end }
     ensures { Sought (sheet_area sheet.now) items.now (matches_arg (named_at form.now names.first names.count) names.adjacent) marks.now from end result }
 {
-    let mut i = from;
-    while i < end {
-        if is_present(marks[i]) {
-            if matches(form, codes, sheet, items, i, names) {
-                return i;
-            }
-        }
-        i += 1;
-    }
-    i
+    state_marks::first_where(
+        marks,
+        from,
+        end,
+        |i| matches(form, codes, sheet, items, i, names),
+    )
 }
 
 // Whether record i is a Word or a PosWord.
+#[tactic(auto, unfolding(crate::specs::Items::operand_kind))]
 fn is_operand(items: &[u32], i: usize) -> bool
     requires { 7 * i < length items.now }
     ensures { result ≡ operand_kind (get_or items.now (7 * i) 0) }
 {
-    let kind = items[7 * i];
-    if kind == 4 {
-        return true;
-    }
-    kind == 5
+    matches!(items[7 * i], 4 | 5)
 }
 
 // The first present place from `from` on, below `end`, that is a Word or a PosWord; `end` if there is none.
@@ -187,14 +144,5 @@ pub fn find_operand(items: &[u32], marks: &[u16], from: usize, end: usize) -> us
     requires { (from ≤ end) × (end ≤ length marks.now) × (7 * end ≤ length items.now) }
     ensures { (area : List ℕ) → Sought area items.now is_operand marks.now from end result }
 {
-    let mut place = from;
-    while place < end {
-        if is_present(marks[place]) {
-            if is_operand(items, place) {
-                return place;
-            }
-        }
-        place += 1;
-    }
-    place
+    state_marks::first_where(marks, from, end, |i| is_operand(items, i))
 }

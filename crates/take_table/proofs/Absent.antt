@@ -8,7 +8,7 @@ use lib.ListN.{get_or}
 use borrow.Author.Tests.{not-true}
 use Rattle.rules.specs.Split.{Item}
 use Rattle.take_search.specs.Search.{Sought}
-use Rattle.take_search.proofs.Search.{seeking_first, seeking_last, sought_all}
+use Rattle.take_search.proofs.Search.{sought_end, sought_all}
 use Rattle.take_table.specs.Bits.{bit_at}
 use Rattle.take_table.specs.Known.{TableTells}
 
@@ -18,5 +18,4 @@ module _ (table : List ℕ) (node : ℕ) (absent : Bool) (e : absent ≡ not (bi
       → Sought area words test marks from end end
   absent_sought marks from end o area words test s =
       let none = s.none (not-true (bit_at (get_or table 0 0) node) (sym e ∙ h)) in
-      let last = seeking_last area words test marks end end end (seeking_first area words test marks end end (le_refl end)) (le_refl end) in
-      sought_all area words test marks from end end end (λ k a b p x q. sym (s.at k x b q) ∙ none k b) o (le_refl end) last
+      sought_all area words test marks from end end end (λ k a b p x q. sym (s.at k x b q) ∙ none k b) o (le_refl end) (sought_end area words test marks end)

@@ -18,7 +18,6 @@ use denote.Enum.Declared.{tag_of}
 use Rattle.rules.specs.Base.{contains, concat_map}
 use Rattle.rules.specs.Form.{Node, Name, name_count, read_form}
 use Rattle.rules.specs.Sheet.{sheet_area}
-use Rattle.rules.specs.Split as rules
 use Rattle.rules.specs.Tree.{short_of, long_of, named_by}
 use Rattle.rules.specs.Take.{contains_name, matches_arg}
 use Rattle.rules.proofs.Acceptance.{lookup_some}

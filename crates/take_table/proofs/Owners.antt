@@ -2,9 +2,9 @@
 use mathlib.Core.Path.{◌≡◌, refl, sym, ap, ◌∙◌}
 use mathlib.Core.Bool.{Bool, true, false, ◌&&◌, ◌||◌, or-false, and-true, and-false}
 use mathlib.Core.List.{List}
-use mathlib.Core.Logic.{⊎_elim}
+use mathlib.Core.Logic.{◌⊎◌, ⊎_elim}
 use mathlib.Core.Option.{some, some-injective}
-use Prim.Native.Nat.{ℕ, ◌+◌, ◌%◌, ◌≤◌, ◌<◌, min}
+use Prim.Native.Nat.{ℕ, ◌+◌, ◌≤◌, ◌<◌, min}
 use native.Mathlib.Nat.{eq-or-lt_of_le}
 use native.Mathlib.Omega.{arith}
 use lib.Dec.{eqb, leb, ltb}
@@ -14,6 +14,7 @@ use Rattle.rules.specs.Form.{Node, node_count, name_count, read_form}
 use Rattle.rules.specs.Accept.{length_good}
 use Rattle.rules.proofs.Acceptance.{lookup_inside}
 use Rattle.form_layout.specs.declared.Node as layout
+use Rattle.form_layout.specs.Kinds.{kind_number}
 use Rattle.form_layout.specs.Layout.{node_of, GoodNames}
 use Rattle.form_layout.proofs.Sizes.{nodes_length, sized}
 use Rattle.form_letters.specs.Classes.{MarkedBits}
@@ -24,33 +25,28 @@ use Rattle.take_table.proofs.Bits.{bit_or_lem, bit_none, three_ways}
 
 -- ---- one node
 
-named_kind : (kind : ℕ) → (kind ≡ 0 → ⊥) → kind ≤ 2 → (eqb kind 1 || eqb kind 2) ≡ true
-named_kind kind f h = ⊎_elim (λ e. rw e) (λ (l : kind < 2). let e : kind ≡ 1 = omega arith in rw e) (eq-or-lt_of_le h)
-
 or_itself : (a b : Bool) → (a || b) ≡ (a || (b && true))
 or_itself a b = ap (λ (v : Bool). a || v) (sym (and-true b))
 
 module _ (x : layout.Node) (n count : ℕ) (t : List ℕ) where
-  unmarked : (x.kind ≡ 1 → ⊥) → (x.kind ≡ 2 → ⊥) → Added (node_of x) n count t t
+  pub unmarked : (kind_number x.kind ≡ 1 → ⊥) → (kind_number x.kind ≡ 2 → ⊥) → Added (node_of x) n count t t
   unfolding owns is_named
   unmarked f g = record {
     long = refl;
-    at = λ k h m. sym (rw (ne_eqb x.kind 1 f, ne_eqb x.kind 2 g, and-false (eqb m n)) (or-false (bit_at (get_or t k 0) m)));
+    at = λ k h m. sym (rw (ne_eqb (kind_number x.kind) 1 f, ne_eqb (kind_number x.kind) 2 g, and-false (eqb m n)) (or-false (bit_at (get_or t k 0) m)));
   }
 
-  pub no_kind : x.kind ≡ 0 → Added (node_of x) n count t t
-  no_kind e = unmarked (λ f. omega arith) (λ f. omega arith)
+  is_named_lem : (kind_number x.kind ≡ 1) ⊎ (kind_number x.kind ≡ 2) → is_named (node_of x) ≡ true
+  unfolding is_named
+  is_named_lem = ⊎_elim (λ e. rw e) (λ e. rw e)
 
-  pub no_names_lem : 2 < x.kind → Added (node_of x) n count t t
-  no_names_lem e = unmarked (λ f. omega arith) (λ f. omega arith)
-
-  pub marked : (x.kind ≡ 0 → ⊥) → x.kind ≤ 2 → (set : ℕ) → ((m : ℕ) → bit_at set m ≡ eqb m n)
+  pub marked : (kind_number x.kind ≡ 1) ⊎ (kind_number x.kind ≡ 2) → (set : ℕ) → ((m : ℕ) → bit_at set m ≡ eqb m n)
       → (end : ℕ) → end ≡ min (x.p + x.q) count → (t' : List ℕ) → MarkedBits set x.p end t t' → Added (node_of x) n count t t'
-  unfolding owns is_named
-  marked f g set s end e t' z = record { long = z.long; at = λ k h m. go k h m (leb x.p k) (ltb k (x.p + x.q)) refl refl }
+  unfolding owns
+  marked named set s end e t' z = record { long = z.long; at = λ k h m. go k h m (leb x.p k) (ltb k (x.p + x.q)) refl refl }
     where
-      kind : (eqb x.kind 1 || eqb x.kind 2) ≡ true
-      kind = named_kind x.kind f g
+      kind : is_named (node_of x) ≡ true
+      kind = is_named_lem named
 
       out : (k m : ℕ) → (leb x.p k && ltb k (x.p + x.q)) ≡ false → (x.p ≤ k → k < end → ⊥)
           → bit_at (get_or t' k 0) m ≡ (bit_at (get_or t k 0) m || (eqb m n && owns (node_of x) k))
@@ -72,14 +68,6 @@ module _ (x : layout.Node) (n count : ℕ) (t : List ℕ) where
 -- ---- adjacent arguments
 
 module _ (x : layout.Node) where
-  pub other_kind : (x.kind ≡ 2 → ⊥) → false ≡ is_adjacent (node_of x)
-  unfolding is_adjacent
-  other_kind h = rw (ne_eqb x.kind 2 h)
-
-  pub odd_argument : x.kind ≡ 2 → eqb (x.r % 2) 1 ≡ is_adjacent (node_of x)
-  unfolding is_adjacent
-  odd_argument h = rw (eq-eqb x.kind 2 h)
-
   module _ (set n : ℕ) (a : Bool) (e : a ≡ is_adjacent (node_of x)) where
     pub stays_out : a ≡ true → (m : ℕ) → bit_at set m ≡ (bit_at set m || (eqb m n && is_loose (node_of x)))
     unfolding is_loose

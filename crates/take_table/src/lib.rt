@@ -1,7 +1,7 @@
 // Which flags and arguments each item matches, worked out once: bit n of an item's word is set if node n matches the item.
 #![tactic(auto)]
 
-ghost use Rattle.std.specs.Prelude.{◌≡◌, Bool, true, not, ◌&&◌, ◌||◌, List, ℕ, ◌≤◌, ◌<◌, eqb, length, get_or, replicate};
+ghost use Rattle.std.specs.Prelude.{◌≡◌, Bool, true, not, ◌&&◌, ◌||◌, List, ℕ, ◌≤◌, ◌<◌, eqb, length, get_or};
 ghost use Rattle.rules.specs.Accept.{length_good};
 ghost use Rattle.rules.specs.Form.{name_count};
 ghost use Rattle.rules.specs.Sheet.{sheet_area};
@@ -13,9 +13,8 @@ ghost use Rattle.take_table.specs.Bits.{bit_at};
 ghost use Rattle.take_table.specs.Known.{is_adjacent, SetOf, Matchable, MatchSet, Known, TableTells};
 ghost use Rattle.take_table.specs.Owners.{NoOwners, Owners, Added, is_loose, Lookup, has_short, has_long};
 
+use form_layout::Kind;
 use split_arg::Item;
-use state_marks::is_present;
-use take_search::wide64;
 
 // The words of the longest table: one of all items, then one for each item that a line can have. A shorter line needs no more than
 // one word for each of its own items.
@@ -23,7 +22,7 @@ pub const TABLE_WORDS: usize = 257;
 
 const ALL_ITEMS: usize = 0;
 
-// ---- sets of nodes as the bits of a word
+// ---- sets of nodes as the bits of a word. Functions, as no clause of `>>`, `<<` and `|` says what each bit is.
 
 // Whether n is in the set.
 fn has(set: u64, n: usize) -> bool
@@ -54,56 +53,37 @@ const MOST_NAMES: usize = 128;
 
 const FEW_NAMES: usize = 16;
 
-fn no_owners() -> [u64; MOST_NAMES]
-    ensures { result ≡ replicate 128 0 }
-{
-    [0u64; MOST_NAMES]
-}
-
-fn no_few_owners() -> [u64; FEW_NAMES]
-    ensures { result ≡ replicate 16 0 }
-{
-    [0u64; FEW_NAMES]
-}
-
-// The records from `first` on, below `end`, get the nodes of a set as owners.
+// The records from `first` on, below `end`, get the nodes of a set as owners. By places: `first` may lie behind `end`, where a part of
+// the slice would be out of bounds. form_letters has the same over bytes: one for both would need a trait with a law for `|`.
 fn mark(owners: &mut [u64], set: u64, first: usize, end: usize)
     requires { end ≤ length owners.old }
     ensures { MarkedBits set first end owners.old owners.new }
 {
-    let mut k = first;
-    while k < end {
+    for k in first..end {
         owners[k] |= set;
-        k += 1;
     }
 }
 
-// A flag (kind 1) or an argument (kind 2) becomes an owner of its names.
+// A flag or an argument becomes an owner of its names.
 fn mark_node(x: form_layout::Node, n: usize, count: usize, owners: &mut [u64])
     requires { (n < 64) × (count ≤ length owners.old) }
     ensures { Added (node_of x) n count owners.old owners.new }
 {
-    if x.kind == 0 {
-        return;
+    if let Kind::Flag | Kind::Argument = x.kind {
+        mark(
+            owners,
+            only(n),
+            x.p,
+            form_letters::names_end(x.p, x.q, count),
+        );
     }
-    if 2 < x.kind {
-        return;
-    }
-    mark(
-        owners,
-        only(n),
-        x.p,
-        form_letters::names_end(x.p, x.q, count),
-    );
 }
 
+#[tactic(auto, unfolding(crate::specs::Known::is_adjacent))]
 fn is_adjacent(x: form_layout::Node) -> bool
     ensures { result ≡ is_adjacent (node_of x) }
 {
-    if x.kind != 2 {
-        return false;
-    }
-    x.r % 2 == 1
+    x.kind == Kind::Argument && x.r % 2 == 1
 }
 
 // Node n goes to the set unless it is an adjacent argument.
@@ -124,31 +104,27 @@ fn mark_nodes(form: &[u8], count: usize, owners: &mut [u64]) -> u64
 {
     let end = form_layout::node_count(form);
     let mut loose: u64 = 0;
-    let mut n = 0;
-    while n < end {
+    for n in 0..end {
         let x = form_layout::node_at(form, n);
         mark_node(x, n, count, owners);
         loose = add_loose(loose, x, n);
-        n += 1;
     }
     loose
 }
 
 // ---- the nodes that match an item
 
-// The nodes that have this character as a short name.
+// The nodes that have this character as a short name. By places: in a `zip` the proof has no name for place k of both.
 fn short_owners(codes: &[u32], count: usize, owners: &[u64], character: u32) -> u64
     requires { (count ≤ length codes.now) × (count ≤ length owners.now) }
     ensures { (form : List ℕ) (loose : ℕ) → Lookup form codes.now count owners.now loose → SetOf form (has_short form character) result }
 {
-    let want = wide64(character) + 1;
+    let want = u64::from(character) + 1;
     let mut set: u64 = 0;
-    let mut k = 0;
-    while k < count {
-        if wide64(codes[k]) == want {
+    for k in 0..count {
+        if u64::from(codes[k]) == want {
             set = union(set, owners[k]);
         }
-        k += 1;
     }
     set
 }
@@ -159,12 +135,10 @@ fn long_owners(form: &[u8], count: usize, owners: &[u64], name: &[u8]) -> u64
     ensures { SetOf form.now (has_long form.now name.now) result }
 {
     let mut set: u64 = 0;
-    let mut k = 0;
-    while k < count {
+    for k in 0..count {
         if take_search::is_long(form, k, name) {
             set = union(set, owners[k]);
         }
-        k += 1;
     }
     set
 }
@@ -223,12 +197,10 @@ fn known_by(
 {
     let loose = mark_nodes(form, names, owners);
     let mut all: u64 = 0;
-    let mut i = 0;
-    while i < count {
+    for i in 0..count {
         let set = matching(form, codes, sheet, items, i, names, owners, loose);
         table[i + 1] = set;
         all = union(all, set);
-        i += 1;
     }
     table[ALL_ITEMS] = all;
 }
@@ -248,10 +220,10 @@ pub fn known(
 {
     let names = form_layout::name_count(form);
     if names <= FEW_NAMES {
-        let mut few = no_few_owners();
+        let mut few = [0u64; FEW_NAMES];
         known_by(form, codes, sheet, items, count, names, &mut few, table);
     } else {
-        let mut owners = no_owners();
+        let mut owners = [0u64; MOST_NAMES];
         known_by(form, codes, sheet, items, count, names, &mut owners, table);
     }
 }
@@ -264,7 +236,7 @@ pub fn is_absent(table: &[u64], node: usize) -> bool
     !has(table[ALL_ITEMS], node)
 }
 
-// The first present place from `from` on, below `end`, whose word has the bit of a node; `end` if there is none.
+// The first present place from `from` on, below `end`, whose word has the bit of a node; `end` if there is none, as in take_search.
 pub fn find(table: &[u64], marks: &[u16], node: usize, from: usize, end: usize) -> usize
     requires { (node < 64) × (from ≤ end) × (end ≤ 256) × (end < length table.now) × (end ≤ length marks.now) }
     ensures { (area words : List ℕ) (test : RulesItem → Bool) → TableTells table.now end node area words test → Sought area words test marks.now from end result }
@@ -272,14 +244,5 @@ pub fn find(table: &[u64], marks: &[u16], node: usize, from: usize, end: usize) 
     if is_absent(table, node) {
         return end;
     }
-    let mut i = from;
-    while i < end {
-        if is_present(marks[i]) {
-            if has(table[i + 1], node) {
-                return i;
-            }
-        }
-        i += 1;
-    }
-    i
+    state_marks::first_where(marks, from, end, |i| has(table[i + 1], node))
 }

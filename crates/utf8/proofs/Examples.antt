@@ -3,7 +3,7 @@ use mathlib.Core.Path.{◌≡◌, refl}
 use mathlib.Core.Bool.{true, false}
 use mathlib.Core.List.{List, [], ◌∷◌}
 use Prim.Native.Nat.{ℕ}
-use Rattle.utf8.specs.declared.Decoded.TheVariants.{Char, Bad}
+use Rattle.std.specs.Prelude.{Some, None}
 use Rattle.utf8.specs.Utf8.{table, holds, fits, lead_bits, continued, scalar, decode_by, decode, decode_at, well_formed_after, well_formed}
 
 -- <004D, 0430, 4E8C, 10302>
@@ -11,11 +11,11 @@ sequence : List ℕ
 sequence = 0x4D ∷ 0xD0 ∷ 0xB0 ∷ 0xE4 ∷ 0xBA ∷ 0x8C ∷ 0xF0 ∷ 0x90 ∷ 0x8C ∷ 0x82 ∷ []
 
 characters :
-    (decode_at sequence 0 ≡ Char 0x4D 1)
-    × (decode_at sequence 1 ≡ Char 0x430 2)
-    × (decode_at sequence 3 ≡ Char 0x4E8C 3)
-    × (decode_at sequence 6 ≡ Char 0x10302 4)
-    × (decode_at sequence 10 ≡ Bad)
+    (decode_at sequence 0 ≡ Some (record { value = 0x4D; size = 1 }))
+    × (decode_at sequence 1 ≡ Some (record { value = 0x430; size = 2 }))
+    × (decode_at sequence 3 ≡ Some (record { value = 0x4E8C; size = 3 }))
+    × (decode_at sequence 6 ≡ Some (record { value = 0x10302; size = 4 }))
+    × (decode_at sequence 10 ≡ None)
     × (well_formed sequence ≡ true)
 unfolding sequence decode_at decode decode_by table fits holds scalar continued lead_bits well_formed well_formed_after
 characters = (refl, refl, refl, refl, refl, refl)

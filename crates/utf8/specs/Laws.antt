@@ -1,6 +1,6 @@
 -- Laws of the definition. First the form that the code follows, in which the first byte fixes the row; then what holds of every
 -- character, and of the bytes behind it.
-use Rattle.std.specs.Prelude.{◌≡◌, Bool, true, false, ◌&&◌, ◌||◌, ℕ, zero, suc, ◌+◌, ◌-◌, ◌*◌, ◌/◌, ◌%◌, ◌^◌, ◌≤◌, ◌<◌, leb, ltb, eqb, length, get_or, take, if◌then◌else◌}
+use Rattle.std.specs.Prelude.{◌≡◌, Bool, true, false, ◌&&◌, ◌||◌, Option, Some, None, ℕ, zero, suc, ◌+◌, ◌-◌, ◌*◌, ◌/◌, ◌%◌, ◌^◌, ◌≤◌, ◌<◌, leb, ltb, eqb, length, get_or, take, if◌then◌else◌}
 use Rattle.std.proofs.Math.Path.{refl, ap}
 use Rattle.std.proofs.Common.{sym, ◌∙◌, zero-le, suc-le-suc, add-zero, add_assoc, mod-eq_of_lt, div-mul-le_self, le-div_iff_mul-le, le_trans, arith, lit<, length-drop, drop_of_length-le}
 use Rattle.std.proofs.Common.{pow_pos, length-take-le, drop-drop, get_or-drop, ltb-true, leb-true, eqb-true, le-leb, le-ltb}
@@ -12,8 +12,7 @@ use Rattle.std.proofs.Math.Numerals.{add-one}
 use Rattle.std.proofs.Math.ListN.{drop}
 use Rattle.std.proofs.lemmas.List.{length-map}
 use Rattle.std.proofs.Math.Seq.{drop-cons}
-use Rattle.utf8.specs.declared.Decoded.{Decoded}
-use Rattle.utf8.specs.declared.Decoded.TheVariants.{Char, Bad}
+use Rattle.utf8.specs.declared.Char.{Char}
 use Rattle.utf8.specs.Utf8.{Range, ◌to◌, table, holds, fits, lead_bits, continued, scalar, decode_by, decode, decode_at, if_char, well_formed_after, well_formed}
 
 -- ---- ranges
@@ -46,8 +45,9 @@ apart_none (a to e) (lo to hi) b p h = go (holds (lo to hi) b) refl
 -- ---- the first byte fixes the row
 
 -- the character by the ranges that follow the first byte in its row
-unfoldable pub after_lead : List Range → ℕ → List ℕ → Decoded
-after_lead rs b s = if fits rs s then Char (scalar (b ∷ take (length rs) s)) (suc (length rs)) else Bad
+unfoldable pub after_lead : List Range → ℕ → List ℕ → Option Char
+after_lead rs b s =
+    if fits rs s then Some (record { value = scalar (b ∷ take (length rs) s); size = suc (length rs) }) else None
 
 -- no row of these begins with a byte of r
 unfoldable pub free : Range → List (List Range) → Bool
@@ -78,15 +78,15 @@ module _ (r : Range) (b : ℕ) (s : List ℕ) (h : holds r b ≡ true) where
       ∙ rw (h, ← append-nil (drop (suc k) table), passed (drop (suc k) table) [] after)
 
   -- no row of the table begins with a byte of r
-  pub by_none : free r table ≡ true → decode (b ∷ s) ≡ Bad
+  pub by_none : free r table ≡ true → decode (b ∷ s) ≡ None
   unfolding decode decode_by
   by_none e = rw (← append-nil table) (passed table [] e)
 
-pub ascii : (b : ℕ) (s : List ℕ) → b < 0x80 → decode (b ∷ s) ≡ Char b 1
+pub ascii : (b : ℕ) (s : List ℕ) → b < 0x80 → decode (b ∷ s) ≡ Some (record { value = b; size = 1 })
 unfolding table free apart after_lead fits scalar continued lead_bits
 ascii b s h =
     by_row (0x00 to 0x7F) b s (inside 0x00 0x7F b (omega arith) (omega arith)) 0 [] refl refl refl
-    ∙ ap (λ (v : ℕ). Char v 1) (mod-eq_of_lt h)
+    ∙ ap (λ (v : ℕ). let c : Char = record { value = v; size = 1 } in Some c) (mod-eq_of_lt h)
 
 -- bytes that are missing may be taken for 0, which stands only at the first place of a row
 padded : (b : ℕ) (s : List ℕ) → decode (b ∷ s) ≡ decode (b ∷ get_or s 0 0 ∷ get_or s 1 0 ∷ get_or s 2 0 ∷ [])
@@ -97,7 +97,7 @@ padded b (x ∷ y ∷ []) = simp and-false
 padded b (x ∷ y ∷ z ∷ s) = refl
 
 module _ (s : List ℕ) (at : ℕ) where
-  pub decode_end : length s ≤ at → decode_at s at ≡ Bad
+  pub decode_end : length s ≤ at → decode_at s at ≡ None
   unfolding decode_at decode decode_by table fits
   decode_end h = rw (drop_of_length-le s h)
 
@@ -105,7 +105,7 @@ module _ (s : List ℕ) (at : ℕ) where
   unfolding decode_at
   decode_cons h = rw (add-one, drop-cons s at 0 h)
 
-  pub decode_ascii : (b : ℕ) → at < length s → b ≡ get_or s at 0 → b < 0x80 → Char b 1 ≡ decode_at s at
+  pub decode_ascii : (b : ℕ) → at < length s → b ≡ get_or s at 0 → b < 0x80 → Some (record { value = b; size = 1 }) ≡ decode_at s at
   decode_ascii b h e l = rw (decode_cons h, ← e) (sym (ascii b (drop (at + 1) s) l))
 
   pub decode_bytes : at < length s → decode_at s at ≡ decode (get_or s at 0 ∷ get_or s (at + 1) 0 ∷ get_or s (at + 2) 0 ∷ get_or s (at + 3) 0 ∷ [])
@@ -147,28 +147,31 @@ unfolding table every row_good row_level level scalar continued lead_bits low hi
 table_good_lem = refl
 
 -- the row that gave a character
-record Row (s : List ℕ) (value size : ℕ) : Type 0 where
+record Row (s : List ℕ) (c : Char) : Type 0 where
   row : List Range
   good : row_good row ≡ true
   fit : fits row s ≡ true
-  value≡ : value ≡ scalar (take (length row) s)
-  size≡ : size ≡ length row
+  value≡ : c.value ≡ scalar (take (length row) s)
+  size≡ : c.size ≡ length row
 
-row_of : (rows : List (List Range)) (s : List ℕ) (v n : ℕ) → every row_good rows ≡ true → decode_by rows s ≡ Char v n → Row s v n
+row_of : (rows : List (List Range)) (s : List ℕ) (c : Char) → every row_good rows ≡ true → decode_by rows s ≡ Some c → Row s c
 unfolding every decode_by
-row_of [] s v n g e = absurd (let z : ◌≡◌ {A = ℕ} 0 1 = cc in omega arith)
-row_of (row ∷ rows) s v n g e =
+row_of [] s c g e = absurd (let z : ◌≡◌ {A = ℕ} 0 1 = cc in omega arith)
+row_of (row ∷ rows) s c g e =
     let p = (and-eq-true_iff (row_good row) (every row_good rows)).0 g in
-    go (fits row s) refl e p.0 (row_of rows s v n p.1)
+    go (fits row s) refl e p.0 (row_of rows s c p.1)
   where
     go :
         (t : Bool)
         → fits row s ≡ t
-        → (if t then Char (scalar (take (length row) s)) (length row) else decode_by rows s) ≡ Char v n
+        → (if t then Some (record { value = scalar (take (length row) s); size = length row }) else decode_by rows s) ≡ Some c
         → row_good row ≡ true
-        → (decode_by rows s ≡ Char v n → Row s v n)
-        → Row s v n
-    go true f e good later = record { row = row; good = good; fit = f; value≡ = cc; size≡ = cc }
+        → (decode_by rows s ≡ Some c → Row s c)
+        → Row s c
+    go true f e good later =
+        let here : Char = record { value = scalar (take (length row) s); size = length row } in
+        let same : c ≡ here = cc in
+        record { row = row; good = good; fit = f; value≡ = ap (λ (x : Char). x.value) same; size≡ = ap (λ (x : Char). x.size) same }
     go false f e good later = later e
 
 -- a range in which the higher bits are the same keeps its order in the lower ones
@@ -221,17 +224,17 @@ scalar_between ((lo to hi) ∷ rs) (b ∷ s) f g =
     (between rs s (lo % m) (b % m) (hi % m) p.1 q.1 y.0 y.1)
 
 -- a character has one to four bytes, all of them there, and its value is a scalar value: below 0x110000 and no surrogate
-pub record Character (s : List ℕ) (at value size : ℕ) : Type 0 where
-  pub some : 1 ≤ size
-  pub few : size ≤ 4
-  pub within : at + size ≤ length s
-  pub bound : value < 0x110000
-  pub unsurrogate : holds surrogates value ≡ false
+pub record Character (s : List ℕ) (at : ℕ) (c : Char) : Type 0 where
+  pub some : 1 ≤ c.size
+  pub few : c.size ≤ 4
+  pub within : at + c.size ≤ length s
+  pub bound : c.value < 0x110000
+  pub unsurrogate : holds surrogates c.value ≡ false
 
-pub character : (s : List ℕ) (at v n : ℕ) → decode_at s at ≡ Char v n → Character s at v n
+pub character : (s : List ℕ) (at : ℕ) (c : Char) → decode_at s at ≡ Some c → Character s at c
 unfolding decode_at decode row_good
-character s at v n e =
-    let w = row_of table (drop at s) v n table_good_lem e in
+character s at c e =
+    let w = row_of table (drop at s) c table_good_lem e in
     let row = w.row in
     let p = (and-eq-true_iff (leb 1 (length row)) _).0 w.good in
     let q = (and-eq-true_iff (leb (length row) 4) _).0 p.1 in
@@ -246,7 +249,7 @@ character s at v n e =
       few = omega (arith, leb-true (length row) 4 q.0);
       within = omega (arith, fits_length row (drop at s) w.fit, length-drop at s);
       bound = omega (arith, ltb-true (scalar (map high row)) 0x110000 y.0);
-      unsurrogate = apart_none (scalar (map low row) to scalar (map high row)) surrogates v y.1 (inside _ _ v (omega arith) (omega arith));
+      unsurrogate = apart_none (scalar (map low row) to scalar (map high row)) surrogates c.value y.1 (inside _ _ c.value (omega arith) (omega arith));
     }
 
 -- ---- the bytes behind a character
@@ -266,17 +269,17 @@ module _ (s : List ℕ) (at : ℕ) where
   unfolding well_formed well_formed_after
   step h = rw (decode_cons s at h, add-one, drop-cons s at 0 h)
 
-  pub well_formed_bad : at < length s → decode_at s at ≡ Bad → well_formed (drop at s) ≡ false
+  pub well_formed_bad : at < length s → decode_at s at ≡ None → well_formed (drop at s) ≡ false
   well_formed_bad h e = step h ∙ rw e
 
   -- past a character it is as well-formed as it was
-  pub well_formed_char : (v n : ℕ) → decode_at s at ≡ Char v n → well_formed (drop at s) ≡ well_formed (drop (at + n) s)
-  well_formed_char v n e =
-      let w = character s at v n e in
+  pub well_formed_char : (c : Char) → decode_at s at ≡ Some c → well_formed (drop at s) ≡ well_formed (drop (at + c.size) s)
+  well_formed_char c e =
+      let w = character s at c e in
       let some = w.some in
       let within = w.within in
-      let past : at + 1 + (n - 1) ≡ at + n = omega arith in
-      step (omega arith) ∙ rw (e, skipped (n - 1) (drop (at + 1) s), drop-drop (n - 1) (at + 1) s, past)
+      let past : at + 1 + (c.size - 1) ≡ at + c.size = omega arith in
+      step (omega arith) ∙ rw (e, skipped (c.size - 1) (drop (at + 1) s), drop-drop (c.size - 1) (at + 1) s, past)
 
 -- ---- ASCII alone
 

@@ -1,8 +1,7 @@
 -- UTF-8, from the Unicode Standard, section 3.9: well-formed byte sequences (Table 3-7) and the scalar value that each encodes (Table 3-6).
 use Rattle.std.specs.Prelude.{if◌then◌else◌}
-use Rattle.std.specs.Prelude.{Bool, true, false, ◌&&◌, List, [], ◌∷◌, ℕ, zero, suc, ◌+◌, ◌-◌, ◌*◌, ◌%◌, ◌^◌, leb, length, get_or, take, drop}
-use Rattle.utf8.specs.declared.Decoded.{Decoded}
-use Rattle.utf8.specs.declared.Decoded.TheVariants.{Char, Bad}
+use Rattle.std.specs.Prelude.{Bool, true, false, ◌&&◌, Option, Some, None, List, [], ◌∷◌, ℕ, zero, suc, ◌+◌, ◌-◌, ◌*◌, ◌%◌, ◌^◌, leb, length, get_or, take, drop}
+use Rattle.utf8.specs.declared.Char.{Char}
 
 infix 68 ◌to◌
 -- a range of bytes, both ends in it
@@ -47,23 +46,23 @@ scalar [] = 0
 scalar (b ∷ s) = continued (b % 2 ^ get_or lead_bits (length s) 0) s
 
 -- the first row that fits gives the character and its size in bytes
-unfoldable pub decode_by : List (List Range) → List ℕ → Decoded
-decode_by [] s = Bad
+unfoldable pub decode_by : List (List Range) → List ℕ → Option Char
+decode_by [] s = None
 decode_by (row ∷ rows) s =
-    if fits row s then Char (scalar (take (length row) s)) (length row) else decode_by rows s
+    if fits row s then Some (record { value = scalar (take (length row) s); size = length row }) else decode_by rows s
 
 -- the character that a list of bytes begins with
-unfoldable pub decode : List ℕ → Decoded
+unfoldable pub decode : List ℕ → Option Char
 decode s = decode_by table s
 
 -- the character at a place: none at the end or past it
-unfoldable pub decode_at : List ℕ → ℕ → Decoded
+unfoldable pub decode_at : List ℕ → ℕ → Option Char
 decode_at s at = decode (drop at s)
 
 -- of a character's size, where there is a character
-abbrev pub if_char : Decoded → (ℕ → Bool) → Bool
-if_char (Char value size) rest = rest size
-if_char Bad rest = false
+abbrev pub if_char : Option Char → (ℕ → Bool) → Bool
+if_char (Some c) rest = rest c.size
+if_char None rest = false
 
 -- A list is well-formed if it is empty, or if it begins with a character and what follows that is well-formed.
 -- `skip` counts the bytes of the last character that are still to be passed over.

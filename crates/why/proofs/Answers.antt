@@ -3,7 +3,7 @@ use mathlib.Core.Bool.{Bool, true, false, not, ◌&&◌}
 use mathlib.Core.List.{List, [], ◌∷◌, ◌++◌}
 use mathlib.Core.Option.{Option, some, none}
 use mathlib.Core.Path.{◌≡◌, refl, sym, ap, subst, ◌∙◌}
-use Prim.Native.Nat.{ℕ, zero, suc, ◌+◌, ◌-◌, ◌≤◌, ◌<◌}
+use Prim.Native.Nat.{ℕ, zero, suc, ◌-◌, ◌≤◌, ◌<◌}
 use native.Mathlib.Omega.{arith}
 use lib.Dec.{eqb, ltb}
 use lib.ListN.{length, get_or, get_elem?, replicate}
@@ -31,7 +31,7 @@ use Rattle.run.proofs.Told.{RunTold, run_told}
 use Rattle.run.proofs.Back.{line_table}
 use Rattle.why_letter.specs.Withdrawn.{LinePlace}
 use Rattle.why_reason.specs.declared.Reason.{Reason}
-use Rattle.why_reason.specs.Reasons.{MarkedUp, LeftAt, FindsReason}
+use Rattle.why_reason.specs.Reasons.{kind_number, MarkedUp, LeftAt, FindsReason}
 use Rattle.why.specs.declared.WhyAnswer.{WhyAnswer}
 use Rattle.why.specs.Explained.{left_in, unexplained, WhyEnded, answer_for, why_answer}
 
@@ -131,9 +131,10 @@ module _ (b s : List ℕ) (i ni na nl : ℕ) (r : RunAnswer) (is os ls : List �
     left_same = ap (λ (n : ℕ). left_in n r.state i) x.number ∙ left_plain report.number report.state.marks r.state i count_is marks_are few
 
     module _ (u : Bool) (g : u ≡ left_in r.number r.state i) where
-      pub answer_unleft : not u ≡ true → (w : WhyAnswer) → w ≡ unexplained 28 0 → why_answer (why b s i ni na nl) ≡ ended w
+      pub answer_unleft : not u ≡ true → (k : ℕ) → k ≡ 28 → (w : WhyAnswer) → w ≡ unexplained k 0 → why_answer (why b s i ni na nl) ≡ ended w
       unfolding explain answer_for
-      answer_unleft e w d =
+      answer_unleft e k z w o =
+          let d : w ≡ unexplained 28 0 = o ∙ ap (λ (n : ℕ). unexplained n 0) z in
           let not_left_lem : is_left ≡ false = sym left_same ∙ sym g ∙ not-true u e in
           ap why_answer (explained ∙ rw (not_before, not_left_lem)) ∙ slices 28 none none w (sym d)
 
@@ -190,10 +191,11 @@ module _ (b s : List ℕ) (i ni na nl : ℕ) (r : RunAnswer) (is os ls : List �
             }
 
         pub answer_left : (q : Reason) → FindsReason b s is r.state.marks i q
-            → why_answer (why b s i ni na nl) ≡ ended (record { number = 0; place = 0; reason = q.code; detail = q.detail })
+            → (n : ℕ) → n ≡ kind_number q.kind
+            → why_answer (why b s i ni na nl) ≡ ended (record { number = 0; place = 0; reason = n; detail = q.detail })
         unfolding explain left_place answer_for ◌>>=◌
-        answer_left q h =
+        answer_left q h n e =
             let (p, given, tells) = h.same spot line marked in
             let spotted : left_place b s report i ≡ ok spot = rw (over ends).grouped in
             let done : explain b s i report ≡ ok (record { number = 0; place = none; reason = some p; ran = report }) = rw (not_before, is_left_lem, spotted, given) in
-            ap why_answer (explained ∙ done) ∙ slices 0 none (some p) _ (rw (tells.code, tells.detail))
+            ap why_answer (explained ∙ done) ∙ slices 0 none (some p) _ (rw (e, tells.code, tells.detail))

@@ -6,14 +6,8 @@ ghost use Rattle.std.proofs.Math.Option.{some};
 ghost use Rattle.rules.specs.Why.{refused_before, why as why_of};
 ghost use Rattle.why.specs.Explained.{left_in, unexplained, why_answer};
 
-use rules::State;
+use rules::{Refusal, State};
 use state_marks::is_present;
-use wire::wide;
-
-// A run that has a place left over, and the refusal of a place that is not one.
-const LEFT_OVER: u32 = 27;
-
-const NOT_THERE: u32 = 28;
 
 // The number and place of a refusal, or a reason from 1 on. The detail is a place plus 1, or a character.
 #[repr(C)]
@@ -26,16 +20,11 @@ pub struct WhyAnswer {
 }
 
 // Refused as the run: 1 to 9, and 14.
+#[tactic(auto, unfolding(rules::specs::Why::refused_before))]
 fn refused_before(number: u32) -> bool
     ensures { result ≡ refused_before number }
 {
-    if number == 14 {
-        return true;
-    }
-    if number == 0 {
-        return false;
-    }
-    number <= 9
+    matches!(number, 1..=9 | 14)
 }
 
 fn refused(number: u32, place: u32) -> WhyAnswer
@@ -50,19 +39,14 @@ fn refused(number: u32, place: u32) -> WhyAnswer
 }
 
 // Whether a run that ended under this number left the place over.
+#[tactic(auto, unfolding(crate::specs::Explained::left_in))]
 fn is_left(number: u32, s: State, place: usize) -> bool
     ensures { result ≡ left_in number s place }
 {
-    if number != LEFT_OVER {
-        return false;
-    }
-    if wide(s.count) <= place {
-        return false;
-    }
-    if 256 <= place {
-        return false;
-    }
-    is_present(s.marks[place])
+    number == Refusal::LeftOver.number()
+        && place < s.count as usize
+        && place < s.marks.len()
+        && is_present(s.marks[place])
 }
 
 // A form, a sheet and a place: the run, with what it leaves in the slices, and the reason. 28 where there is no such place, it is used,
@@ -83,13 +67,13 @@ pub fn why(
     }
     let s = ran.state;
     if !is_left(ran.number, s, place) {
-        return refused(NOT_THERE, 0);
+        return refused(Refusal::NotThere.number(), 0);
     }
     let found = why_reason::find_reason(form, sheet, items, &s.marks, place);
     WhyAnswer {
         number: 0,
         place: 0,
-        reason: found.code,
+        reason: found.kind.number(),
         detail: found.detail,
     }
 }

@@ -12,7 +12,7 @@ use borrow.Author.Tests.{not-true, not-false}
 use types.Run.{OneOf}
 use denote.Enum.Declared.{tag_of}
 use Rattle.utf8.specs.Utf8.{well_formed}
-use Rattle.rules.specs.Base.{same, is_some, ◌>>?◌}
+use Rattle.rules.specs.Base.{is_some, ◌>>?◌}
 use Rattle.rules.specs.Sheet.{sheet_area, arguments}
 use Rattle.rules.specs.Form.{read_form}
 use Rattle.rules.specs.Accept.{Accepted, accepted, check_form, Letters, letters_of}
@@ -42,8 +42,7 @@ use Rattle.take_search.specs.Items.{part_bytes, HasPart}
 use Rattle.take_search.proofs.Items.{is_short_lem, is_long_lem, is_arg_word_lem, is_word, is_pos_word_lem}
 use Rattle.why_letter.proofs.Laws.{none_small}
 use Rattle.why_letter.proofs.Names.{take_all}
-use Rattle.why_letter.specs.declared.LetterOption.{LetterOption}
-use Rattle.why_letter.specs.declared.LetterOption.TheVariants.{None}
+use Rattle.std.specs.Prelude.{Option as CodeOption, None}
 use Rattle.why_letter.specs.Withdrawn.{letter_of, LinePlace, CanExplain, SmallLetter, RestTold, LetterTold, ClusterTold, UnknownTold}
 
 -- ---- an argument
@@ -82,7 +81,7 @@ module _ (l : Letters) (os : List ℕ) (r : Bool) (h : r ≡ is_some (dashed_nam
     pub name_good_lem : well_formed (take (length os - 1) (drop 1 os)) ≡ true
     name_good_lem = ap well_formed (name_whole ∙ shape.all) ∙ shape.utf8
 
-    pub cluster_short : (z : LetterOption) → LetterTold l (take (length os - 1) (drop 1 os)) z → ClusterTold l os z
+    pub cluster_short : (z : CodeOption ℕ) → LetterTold l (take (length os - 1) (drop 1 os)) z → ClusterTold l os z
     unfolding ◌>>?◌
     cluster_short z k = record {
       letter = k.letter;
@@ -106,7 +105,7 @@ unknown_same l m s none = refl
 unknown_same l m s (some ls) = first_same l m s ls
 
 -- letters that the form's splitting may be done with
-pub told_same : (l m : Letters) → SameLetters l m → (os : List ℕ) (r : LetterOption) → ClusterTold l os r → ClusterTold m os r
+pub told_same : (l m : Letters) → SameLetters l m → (os : List ℕ) (r : CodeOption ℕ) → ClusterTold l os r → ClusterTold m os r
 told_same l m s os r h = record {
   letter = h.letter;
   same = λ word. h.same (argument_same l m s os ∙ word) ∙ unknown_same l m s (cluster_letters os);
@@ -120,7 +119,7 @@ pub buffers_told :
     → q ≡ replicate 128 0
     → WroteLetters form 1 o p n
     → WroteLetters form 2 q s m
-    → (os : List ℕ) (r : LetterOption)
+    → (os : List ℕ) (r : CodeOption ℕ)
     → ClusterTold (letters (take (n - 0) p) (take (m - 0) s)) os r
     → ClusterTold (letters_of (read_form form)) os r
 buffers_told form a e o p n q s m zo zq wo wq os r h =
@@ -157,7 +156,7 @@ module _ (b s words : List ℕ) (i : ℕ) where
   module _ (item : Item) (q : item ≡ item_of (record_at words i)) where
     -- what is told of a place, from its item's record
     told_by :
-        (r : LetterOption)
+        (r : CodeOption ℕ)
         → SmallLetter r
         → ((x : LeftPlace) (y : rules.Item) → LinePlace b s words i x → get_elem? (line_items x) i ≡ some y → item_from (sheet_area s) (record_at words i) ≡ some y → letter_of r ≡ unknown_in x y)
         → UnknownTold b s words i r
@@ -218,7 +217,7 @@ module _ (b s words : List ℕ) (i : ℕ) where
               let at = sym same_argument ∙ a in
               rw (word_here y f) (rest_not_whole (letters_of (read_form b)) (arguments s) p.given i text os p.splits p.clear text_there at (behind_is true h)))
 
-          whole_told : RestTold words i false → (r : LetterOption) → ClusterTold (letters_of (read_form b)) text r → letter_of r ≡ unknown_in x y
+          whole_told : RestTold words i false → (r : CodeOption ℕ) → ClusterTold (letters_of (read_form b)) text r → letter_of r ≡ unknown_in x y
           unfolding unknown_in is_whole ◌>>?◌
           whole_told h r told =
               let below = rw same_items at p.below in
@@ -232,6 +231,6 @@ module _ (b s words : List ℕ) (i : ℕ) where
       pub unknown_word :
           (r : Bool) → RestTold words i r → r ≡ false
           → (os : List ℕ) → os ≡ part_bytes (sheet_area s) t
-          → (z : LetterOption) → ClusterTold (letters_of (read_form b)) os z
+          → (z : CodeOption ℕ) → ClusterTold (letters_of (read_form b)) os z
           → UnknownTold b s words i z
       unknown_word r h e os o z told = told_by z told.letter (λ x y p g f. whole_told x p y g f (rw e at h) z (rw o at told))

@@ -1,19 +1,19 @@
 -- What each part tells of the letter, from what its steps give.
 use mathlib.Core.Bool.{Bool, true, false, not, ◌||◌}
 use mathlib.Core.List.{List, [], ◌∷◌}
-use mathlib.Core.Logic.{◌⊎◌, ⊎_elim}
+use mathlib.Core.Logic.{⊎_elim}
 use mathlib.Core.Option.{some}
 use mathlib.Core.Path.{◌≡◌, refl, sym, ap, ◌∙◌}
 use Prim.Native.Nat.{ℕ, suc, ◌+◌, ◌-◌, ◌≤◌, ◌<◌}
 use native.Mathlib.Omega.{arith}
-use lib.ListN.{length, get_or, get_elem?, drop}
-use borrow.Author.Tests.{eq-eqb, ne_eqb, not-true, not-false}
+use lib.ListN.{length, get_elem?, drop}
+use borrow.Author.Tests.{not-true, not-false}
 use types.Run.{OneOf}
 use denote.Enum.Declared.{tag_of}
 use Rattle.utf8.specs.Utf8.{decode_at, well_formed}
 use Rattle.utf8.specs.Laws.{character}
-use Rattle.utf8.specs.declared.Decoded.{Decoded}
-use Rattle.utf8.specs.declared.Decoded.TheVariants.{Char, Bad}
+use Rattle.std.specs.Prelude.{Option, Some, None}
+use Rattle.utf8.specs.declared.Char.{Char}
 use Rattle.rules.specs.Base.{contains}
 use Rattle.rules.specs.Outcome.{ok}
 use Rattle.rules.specs.Accept.{Letters}
@@ -25,14 +25,13 @@ use Rattle.rules.specs.WhyAnswered.{adjacent_short, behind_adjacent}
 use Rattle.rules.proofs.Acceptance.{lookup_some}
 use Rattle.rules.proofs.SplitLaws.{cluster_ok, ok_injective}
 use Rattle.split_arg.specs.Clusters.{letters}
-use Rattle.split_arg.proofs.LookUp.{contains_end, contains_step, letters_from, Next, next, none_left}
+use Rattle.split_arg.proofs.LookUp.{letters_from, Next, next, none_left}
 use Rattle.split_arg.specs.declared.Part.{Part}
 use Rattle.split_arg.specs.declared.Item.{Item}
 use Rattle.split_arg.specs.declared.Item.TheVariants.{Short, Long, ArgWord, Word, PosWord}
 use Rattle.split_arg.specs.contracts.Item as T
 use Rattle.split_arg.specs.Items.{record_at, item_of}
 use Rattle.take_search.proofs.Items.{is_short_lem, is_long_lem, is_arg_word_lem, is_word, is_pos_word_lem}
-use Rattle.why_letter.specs.declared.LetterOption.TheVariants.{None, Some}
 use Rattle.why_letter.specs.Withdrawn.{SmallLetter, RestTold, LetterTold}
 
 -- ---- the item before a place
@@ -77,23 +76,6 @@ pub none_small : SmallLetter None
 none_small = record { small = λ c e. absurd (let z : ◌≡◌ {A = ℕ} 0 1 = cc in omega arith) }
 
 -- ---- a letter among others
-pub record NotYet (s : List ℕ) (c i : ℕ) : Type 0 where
-  pub same : contains (drop i s) c ≡ contains s c
-
-pub knows_first : (s : List ℕ) (c : ℕ) → NotYet s c 0
-knows_first s c = record { same = refl }
-
-module _ (s : List ℕ) (c i : ℕ) (g : NotYet s c i) where
-  module _ (h : i < length s) where
-    pub knows_hit : get_or s i 0 ≡ c → true ≡ contains s c
-    knows_hit e = sym (sym g.same ∙ contains_step s c i h ∙ rw (eq-eqb (get_or s i 0) c e))
-
-    pub knows_next : (get_or s i 0 ≡ c → ⊥) → NotYet s c (i + 1)
-    knows_next n = record { same = sym (sym g.same ∙ contains_step s c i h ∙ rw (ne_eqb (get_or s i 0) c n)) }
-
-  pub knows_last : length s ≤ i → false ≡ contains s c
-  knows_last h = sym (contains_end s c i h) ∙ g.same
-
 pub known_flag : (f a : Bool) (r : Bool) → r ≡ f → r ≡ true → true ≡ (f || a)
 known_flag f a r e t = let z : f ≡ true = sym e ∙ t in rw z
 
@@ -115,40 +97,40 @@ seeking_first l name w =
     let (ls, e) = cluster_ok 0 0 name w in
     record { left = ls; further = e; good = w; within = omega arith; same = λ all h. ap (first_unknown l) (ok_injective (sym h ∙ e)) }
 
-module _ (fl ar name : List ℕ) (at : ℕ) (z : Seeking (letters fl ar) name at) (x : Decoded) (d : x ≡ decode_at name at) where
-  pub seeking_end : x ≡ Bad → LetterTold (letters fl ar) name None
+module _ (fl ar name : List ℕ) (at : ℕ) (z : Seeking (letters fl ar) name at) (x : Option Char) (d : x ≡ decode_at name at) where
+  pub seeking_end : x ≡ None → LetterTold (letters fl ar) name None
   unfolding first_unknown
   seeking_end b =
       let gone = none_left name z.left at z.further z.good z.within (sym d ∙ b) in
       record { letter = none_small; same = λ ls h. sym (z.same ls h ∙ ap (first_unknown (letters fl ar)) gone) }
 
-  module _ (c n : ℕ) (b : x ≡ Char c n) (r : Bool) (k : r ≡ (contains fl c || contains ar c)) where
-    here : Next name z.left at c n
-    here = next name z.left at z.further z.good c n (sym d ∙ b)
+  module _ (c : Char) (b : x ≡ Some c) (r : Bool) (k : r ≡ (contains fl c.value || contains ar c.value)) where
+    here : Next name z.left at c
+    here = next name z.left at z.further z.good c (sym d ∙ b)
 
-    pub seeking_hit : not r ≡ true → LetterTold (letters fl ar) name (Some c)
+    pub seeking_hit : not r ≡ true → LetterTold (letters fl ar) name (Some c.value)
     unfolding first_unknown
     seeking_hit e =
-        let unknown : (contains fl c || contains ar c) ≡ false = sym k ∙ not-true r e in
+        let unknown : (contains fl c.value || contains ar c.value) ≡ false = sym k ∙ not-true r e in
         record {
-          letter = record { small = λ e h. let y : c ≡ e = cc in omega (arith, (character name at c n (sym d ∙ b)).bound) };
+          letter = record { small = λ e h. let y : c.value ≡ e = cc in omega (arith, (character name at c (sym d ∙ b)).bound) };
           same = λ ls h. sym (z.same ls h ∙ ap (first_unknown (letters fl ar)) here.first ∙ rw unknown);
         }
 
-    pub seeking_next : not r ≡ false → Seeking (letters fl ar) name (at + n)
+    pub seeking_next : not r ≡ false → Seeking (letters fl ar) name (at + c.size)
     unfolding first_unknown
     seeking_next e =
-        let known : (contains fl c || contains ar c) ≡ true = sym k ∙ not-false r e in
+        let known : (contains fl c.value || contains ar c.value) ≡ true = sym k ∙ not-false r e in
         record {
           left = here.later;
           further = here.further;
           good = here.good;
-          within = (character name at c n (sym d ∙ b)).within;
+          within = (character name at c (sym d ∙ b)).within;
           same = λ ls h. z.same ls h ∙ ap (first_unknown (letters fl ar)) here.first ∙ rw known;
         }
 
-    pub letter_fits : length name < 18446744073709551616 → at + n < 18446744073709551616
-    letter_fits h = omega (arith, (character name at c n (sym d ∙ b)).within)
+    pub letter_fits : length name < 18446744073709551616 → at + c.size < 18446744073709551616
+    letter_fits h = omega (arith, (character name at c (sym d ∙ b)).within)
 
-    pub seeking_less : length name - (at + n) < length name - at
-    seeking_less = let w = character name at c n (sym d ∙ b) in omega (arith, w.some, w.within)
+    pub seeking_less : length name - (at + c.size) < length name - at
+    seeking_less = let w = character name at c (sym d ∙ b) in omega (arith, w.some, w.within)

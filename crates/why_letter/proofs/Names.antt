@@ -1,10 +1,11 @@
 -- The name behind one dash, test by test.
 use Rattle.std.specs.Prelude.{if◌then◌else◌}
-use mathlib.Core.Bool.{Bool, true, false, not, ◌&&◌}
+use Rattle.std.specs.List.{list_any}
+use mathlib.Core.Bool.{Bool, true, false, not, ◌&&◌, ◌||◌}
 use mathlib.Core.List.{List, [], ◌∷◌}
 use mathlib.Core.Option.{some, none}
 use mathlib.Core.Path.{◌≡◌, refl, sym, ap, ◌∙◌}
-use Prim.Native.Nat.{ℕ, zero, suc, ◌+◌, ◌-◌, ◌≤◌, ◌<◌}
+use Prim.Native.Nat.{ℕ, ◌-◌, ◌≤◌, ◌<◌}
 use native.Mathlib.Omega.{arith}
 use lib.Dec.{eqb}
 use lib.ListN.{length, get_or, take, drop}
@@ -18,26 +19,15 @@ pub take_all : (l : List ℕ) → take (length l) l ≡ l
 take_all [] = refl
 take_all (b ∷ l) = ap (λ (k : List ℕ). b ∷ k) (take_all l)
 
--- ---- an `=` from a byte on
-pub record NoEquals (os : List ℕ) (from i : ℕ) : Type 0 where
-  pub same : behind_equals (drop i os) ≡ behind_equals (drop from os)
-
-pub equals_first : (os : List ℕ) (from : ℕ) → NoEquals os from from
-equals_first os from = record { same = refl }
-
-one_on : (os : List ℕ) (i : ℕ) → i < length os → drop i os ≡ get_or os i 0 ∷ drop (suc i) os
-one_on [] i h = absurd (omega arith)
-one_on (b ∷ os) zero h = refl
-one_on (b ∷ os) (suc i) h = one_on os i (omega arith)
-
-one_by : (os : List ℕ) (i : ℕ) → i < length os → drop i os ≡ get_or os i 0 ∷ drop (i + 1) os
-one_by os i h = let z : i + 1 ≡ suc i = omega arith in rw z (one_on os i h)
-
-past : (l : List ℕ) (k : ℕ) → length l ≤ k → drop k l ≡ []
-past [] zero h = refl
-past [] (suc k) h = refl
-past (b ∷ l) zero h = absurd (omega arith)
-past (b ∷ l) (suc k) h = past l k (omega arith)
+-- ---- an `=` in a list
+pub any_equals : (s : List ℕ) → list_any (λ y. eqb y 61) s ≡ is_some (behind_equals s)
+unfolding behind_equals equals is_some
+any_equals [] = refl
+any_equals (b ∷ s) = go (eqb b 61) (any_equals s)
+  where
+    go : (t : Bool) → list_any (λ y. eqb y 61) s ≡ is_some (behind_equals s) → (t || list_any (λ y. eqb y 61) s) ≡ is_some (if t then some s else behind_equals s)
+    go true h = refl
+    go false h = h
 
 and-false : (b : Bool) → (b && false) ≡ false
 and-false true = refl
@@ -52,22 +42,6 @@ behind : (l : List ℕ) → 2 ≤ length l → take (length l - 1) (drop 1 l) �
 behind [] h = absurd (omega arith)
 behind (d ∷ []) h = absurd (omega arith)
 behind (d ∷ b ∷ s) h = let z : length (d ∷ b ∷ s) - 1 ≡ length (b ∷ s) = omega arith in rw z (take_all (b ∷ s))
-
-module _ (os : List ℕ) (from i : ℕ) (g : NoEquals os from i) where
-  module _ (h : i < length os) where
-    pub equals_next : (get_or os i 0 ≡ 61 → ⊥) → NoEquals os from (i + 1)
-    unfolding behind_equals equals
-    equals_next n = record { same = sym (ap behind_equals (one_by os i h) ∙ rw (ne_eqb (get_or os i 0) 61 n)) ∙ g.same }
-
-    pub equals_hit : get_or os i 0 ≡ 61 → true ≡ is_some (behind_equals (drop from os))
-    unfolding behind_equals equals is_some
-    equals_hit e =
-        let found : behind_equals (get_or os i 0 ∷ drop (i + 1) os) ≡ some (drop (i + 1) os) = rw (eq-eqb (get_or os i 0) 61 e) in
-        sym (ap is_some (sym g.same ∙ ap behind_equals (one_by os i h) ∙ found))
-
-  pub equals_none : length os ≤ i → false ≡ is_some (behind_equals (drop from os))
-  unfolding behind_equals is_some
-  equals_none h = sym (ap is_some (sym g.same ∙ ap behind_equals (past os i h)))
 
 -- ---- the tests in their order
 module _ (os : List ℕ) where

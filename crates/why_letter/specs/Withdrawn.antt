@@ -1,5 +1,5 @@
 -- A place of a line, and the letter for which its argument was withdrawn.
-use Rattle.std.specs.Prelude.{Bool, List, [], ◌∷◌, ◌≡◌, ℕ, ◌<◌, length}
+use Rattle.std.specs.Prelude.{Bool, List, [], ◌∷◌, ◌≡◌, ℕ, ◌<◌, length, Option as CodeOption, Some, None}
 use Rattle.std.proofs.Math.Option.{Option, some, none}
 use Rattle.std.proofs.Math.ListN.{get_elem?}
 use Rattle.rules.specs.Base.{◌>>?◌}
@@ -12,10 +12,8 @@ use Rattle.rules.specs.WhyAnswered.{behind_adjacent}
 use Rattle.rules.specs.Why.{LeftPlace, line_items, cluster_letters, first_unknown, unknown_in}
 use Rattle.form_codes.specs.Codes.{CodedNames}
 use Rattle.take_search.specs.Items.{Table}
-use Rattle.why_letter.specs.declared.LetterOption.{LetterOption}
-use Rattle.why_letter.specs.declared.LetterOption.TheVariants.{None, Some}
 
-abbrev pub letter_of : LetterOption → Option ℕ
+abbrev pub letter_of : CodeOption ℕ → Option ℕ
 letter_of None = none
 letter_of (Some c) = some c
 
@@ -42,23 +40,23 @@ pub record CanExplain (b codes s words : List ℕ) (i : ℕ) : Type 0 where
 
 -- ---- what each part tells
 -- a letter is a character
-pub record SmallLetter (r : LetterOption) : Type 0 where
+pub record SmallLetter (r : CodeOption ℕ) : Type 0 where
   pub small : (c : ℕ) → letter_of r ≡ some c → c < 1114112
 
 pub record RestTold (words : List ℕ) (i : ℕ) (r : Bool) : Type 0 where
   pub same : (area : List ℕ) (is : List Item) → Table area words is → i < length is → r ≡ behind_adjacent is i
 
 -- the first unknown letter of a name
-pub record LetterTold (l : Letters) (name : List ℕ) (r : LetterOption) : Type 0 where
+pub record LetterTold (l : Letters) (name : List ℕ) (r : CodeOption ℕ) : Type 0 where
   pub letter : SmallLetter r
   pub same : (ls : List Letter) → cluster_from 0 0 name ≡ ok ls → letter_of r ≡ first_unknown l ls
 
 -- the first unknown letter of an argument that became one Word
-pub record ClusterTold (l : Letters) (os : List ℕ) (r : LetterOption) : Type 0 where
+pub record ClusterTold (l : Letters) (os : List ℕ) (r : CodeOption ℕ) : Type 0 where
   pub letter : SmallLetter r
   pub same : split_argument l os ≡ ok (plain (Word os ∷ [])) → letter_of r ≡ (cluster_letters os >>? first_unknown l)
 
 -- of a place
-pub record UnknownTold (b s words : List ℕ) (i : ℕ) (r : LetterOption) : Type 0 where
+pub record UnknownTold (b s words : List ℕ) (i : ℕ) (r : CodeOption ℕ) : Type 0 where
   pub letter : SmallLetter r
   pub same : (x : LeftPlace) (y : Item) → LinePlace b s words i x → get_elem? (line_items x) i ≡ some y → letter_of r ≡ unknown_in x y

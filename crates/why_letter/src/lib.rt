@@ -6,17 +6,10 @@ ghost use Rattle.utf8.specs.Utf8.{well_formed};
 ghost use Rattle.rules.specs.Base.{contains, is_some};
 ghost use Rattle.rules.specs.Split.{behind_equals};
 ghost use Rattle.rules.specs.Why.{dashed_name};
-ghost use Rattle.split_arg.specs.Clusters.{letters};
+ghost use Rattle.split_arg.specs.Clusters.{meaning};
 ghost use Rattle.why_letter.specs.Withdrawn.{CanExplain, RestTold, LetterTold, ClusterTold, UnknownTold};
 
-use split_arg::Item;
-use utf8::Decoded;
-
-#[derive(Clone, Copy)]
-pub enum LetterOption {
-    None,
-    Some(u32),
-}
+use split_arg::{Item, Letters};
 
 // Whether the item before place i is a Short that has its value in its own argument: a Word behind it is the rest of that argument.
 pub fn is_rest(items: &[u32], i: usize) -> bool
@@ -33,43 +26,27 @@ pub fn is_rest(items: &[u32], i: usize) -> bool
     own
 }
 
-fn knows(s: &[u32], letter: u32) -> bool
-    ensures { result ≡ contains s.now letter }
-{
-    let mut i = 0;
-    while i < s.len() {
-        if s[i] == letter {
-            return true;
-        }
-        i += 1;
-    }
-    false
-}
-
 // Whether a letter is a flag's or an argument's.
-fn is_known(flags: &[u32], arguments: &[u32], letter: u32) -> bool
-    ensures { result ≡ (contains flags.now letter || contains arguments.now letter) }
+fn is_known(letters: &Letters, letter: u32) -> bool
+    ensures { result ≡ (contains letters.now.flags.now letter || contains letters.now.arguments.now letter) }
 {
-    if knows(flags, letter) {
-        return true;
-    }
-    knows(arguments, letter)
+    letters.flags.contains(&letter) || letters.arguments.contains(&letter)
 }
 
-// The first letter of a name that is not.
-fn first_unknown(name: &[u8], flags: &[u32], arguments: &[u32]) -> LetterOption
+// The first letter of a name that is not. A loop: the step is the size of a character, which no range counts.
+fn first_unknown(name: &[u8], letters: &Letters) -> Option<u32>
     requires { well_formed name.now ≡ true }
-    ensures { LetterTold (letters flags.now arguments.now) name.now result }
+    ensures { LetterTold (meaning letters.now) name.now result }
 {
     let mut at = 0;
     loop {
-        let Decoded::Char(letter, size) = split_arg::letter_at(name, at) else {
-            return LetterOption::None;
+        let Some(letter) = split_arg::letter_at(name, at) else {
+            return None;
         };
-        if !is_known(flags, arguments, letter) {
-            return LetterOption::Some(letter);
+        if !is_known(letters, letter.value) {
+            return Some(letter.value);
         }
-        at += size;
+        at += letter.size;
     }
 }
 
@@ -78,14 +55,7 @@ fn has_equals(os: &[u8], from: usize) -> bool
     requires { from ≤ length os.now }
     ensures { result ≡ is_some (behind_equals (drop from os.now)) }
 {
-    let mut i = from;
-    while i < os.len() {
-        if os[i] == b'=' {
-            return true;
-        }
-        i += 1;
-    }
-    false
+    os[from..].contains(&b'=')
 }
 
 // Whether an argument has one dash and a UTF-8 name with no `=` behind its first byte. Splitting asks this too, and looks letters up; with
@@ -93,29 +63,20 @@ fn has_equals(os: &[u8], from: usize) -> bool
 fn has_name(os: &[u8]) -> bool
     ensures { result ≡ is_some (dashed_name os.now) }
 {
-    if os.len() < 2 {
-        return false;
-    }
-    if os[0] != b'-' {
-        return false;
-    }
-    if os[1] == b'-' {
-        return false;
-    }
-    if has_equals(os, 2) {
+    if os.len() < 2 || os[0] != b'-' || os[1] == b'-' || has_equals(os, 2) {
         return false;
     }
     utf8::valid(&os[1..])
 }
 
 // Of an argument that became one Word, the first unknown letter, if it looks like a cluster.
-pub fn cluster_letter(os: &[u8], flags: &[u32], arguments: &[u32]) -> LetterOption
-    ensures { ClusterTold (letters flags.now arguments.now) os.now result }
+pub fn cluster_letter(os: &[u8], letters: &Letters) -> Option<u32>
+    ensures { ClusterTold (meaning letters.now) os.now result }
 {
     if !has_name(os) {
-        return LetterOption::None;
+        return None;
     }
-    first_unknown(&os[1..], flags, arguments)
+    first_unknown(&os[1..], letters)
 }
 
 fn no_letters() -> [u32; 128]
@@ -131,16 +92,16 @@ pub fn unknown_letter(
     sheet: &[u8],
     items: &[u32],
     i: usize,
-) -> LetterOption
+) -> Option<u32>
     requires { CanExplain form.now codes.now sheet.now items.now i }
     ensures { UnknownTold form.now sheet.now items.now i result }
 {
     let item = split_arg::read_item(items, i);
     let Item::Word(text) = item else {
-        return LetterOption::None;
+        return None;
     };
     if is_rest(items, i) {
-        return LetterOption::None;
+        return None;
     }
     let mut flags = no_letters();
     let mut arguments = no_letters();
@@ -148,5 +109,9 @@ pub fn unknown_letter(
     let n = counts.flags;
     let m = counts.arguments;
     let os = take_search::part_bytes(sheet, text);
-    cluster_letter(os, &flags[0..n], &arguments[0..m])
+    let letters = Letters {
+        flags: &flags[0..n],
+        arguments: &arguments[0..m],
+    };
+    cluster_letter(os, &letters)
 }

@@ -3,7 +3,7 @@ use mathlib.Core.Bool.{Bool, true, false, not, ◌&&◌}
 use mathlib.Core.List.{List, [], ◌∷◌}
 use mathlib.Core.Logic.{◌⊎◌, inl, inr}
 use mathlib.Core.Option.{some}
-use mathlib.Core.Path.{◌≡◌, refl, sym, ◌∙◌}
+use mathlib.Core.Path.{◌≡◌, refl, sym, ap, ◌∙◌}
 use Prim.Native.Nat.{ℕ, zero, suc, ◌+◌, ◌≤◌, ◌<◌}
 use native.Mathlib.Omega.{arith}
 use lib.Dec.{eqb}
@@ -20,6 +20,9 @@ use Rattle.rules.specs.Why.{names_item, no_positionals}
 use Rattle.rules.proofs.Acceptance.{Made, flag_made, argument_made, positional_made, optional_made, many_made, some_made, count_made, last_made, choice_made, fallback_made, guard_made}
 use Rattle.rules.proofs.Acceptance.{TreesAt, trees_made, names_some, accepted_length, accepted_passed, lookup_inside, lookup_some}
 use Rattle.form_layout.specs.declared.Node as layout
+use Rattle.form_layout.specs.declared.Kind.TheVariants.{Flag, Argument, Positional}
+use Rattle.form_layout.specs.Kinds.{kind_number}
+use Rattle.form_layout.proofs.KindNumbers.{either, not_kind}
 use Rattle.form_layout.specs.Layout.{node_of}
 use Rattle.form_layout.proofs.Sizes.{sized, nodes_length, names_length, accepted_names}
 use Rattle.form_codes.specs.Codes.{names_from, named_at}
@@ -80,43 +83,34 @@ module _ (b codes s words : List ℕ) (i n : ℕ) (g : CanName b codes s words i
         let trees = trees_made (read_form b) [] (read_form b).nodes g.result.trees (accepted_passed b g.result g.accepts).trees in
         trees_named b g.result.trees 0 (read_form b).nodes trees n (node_of x) at
 
-    either : 1 ≤ x.kind → x.kind ≤ 2 → (x.kind ≡ 1) ⊎ (x.kind ≡ 2)
-    either l h = go (eqb x.kind 1) refl
-      where
-        go : (t : Bool) → eqb x.kind 1 ≡ t → (x.kind ≡ 1) ⊎ (x.kind ≡ 2)
-        go true e = inl (eqb-true x.kind 1 e)
-        go false e = inr (let d = eqb-false x.kind 1 e in omega arith)
-
-    pub names_there : 1 ≤ x.kind → x.kind ≤ 2 → HasNames b codes x.p x.q
-    names_there l h = let w = either l h in record { checked = accepted_names b g.result g.accepts; coded = g.coded; inside = (named_here w).inside }
+    pub names_there : (x.kind ≡ Flag) ⊎ (x.kind ≡ Argument) → HasNames b codes x.p x.q
+    names_there w = record { checked = accepted_names b g.result g.accepts; coded = g.coded; inside = (named_here (either x.kind Flag Argument w)).inside }
 
     -- what is told of this node holds of the one that stands there
     told : (area : List ℕ) (r : Bool) → ((y : Item) → item_from area (record_at words i) ≡ some y → r ≡ names_item (read_form b) y (node_of x)) → NodeNames b area words i n r
     told area r h = record { same = λ y z e d. let same : node_of x ≡ z = cc in rw same at (h y e) }
 
-    nameless : (area : List ℕ) → (x.kind ≡ 1 → ⊥) → (x.kind ≡ 2 → ⊥) → NodeNames b area words i n false
+    pub nameless : (area : List ℕ) → (x.kind ≡ Flag → ⊥) → (x.kind ≡ Argument → ⊥) → NodeNames b area words i n false
     unfolding names_item contains
     nameless area f a =
-        told area false (λ y e. rw (ne_eqb 1 x.kind (λ w. f (sym w)), ne_eqb 2 x.kind (λ w. a (sym w))))
+        let flag : (1 ≡ kind_number x.kind) → ⊥ = λ e. not_kind x.kind 1 refl f (sym e) in
+        let argument : (2 ≡ kind_number x.kind) → ⊥ = λ e. not_kind x.kind 2 refl a (sym e) in
+        told area false (λ y e. rw (ne_eqb 1 (kind_number x.kind) flag, ne_eqb 2 (kind_number x.kind) argument))
 
-    pub below_names : (area : List ℕ) → x.kind < 1 → NodeNames b area words i n false
-    below_names area h = nameless area (λ e. omega arith) (λ e. omega arith)
-
-    pub above_names : (area : List ℕ) → 2 < x.kind → NodeNames b area words i n false
-    above_names area h = nameless area (λ e. omega arith) (λ e. omega arith)
-
-    pub node_names : (area : List ℕ) → 1 ≤ x.kind → x.kind ≤ 2 → (r : Bool)
+    pub node_names : (area : List ℕ) → (x.kind ≡ Flag) ⊎ (x.kind ≡ Argument) → (r : Bool)
         → ((y : Item) → item_from area (record_at words i) ≡ some y → r ≡ matches_arg (named_at b x.p x.q) false y)
         → NodeNames b area words i n r
     unfolding names_item contains
-    node_names area l u r h = told area r (λ y e. h y e ∙ kind w y)
+    node_names area w r h = told area r (λ y e. h y e ∙ kind w y)
       where
-        w : (x.kind ≡ 1) ⊎ (x.kind ≡ 2)
-        w = either l u
+        named : named_of (read_form b) (node_of x) ≡ some (named_at b x.p x.q)
+        named = (named_here (either x.kind Flag Argument w)).named
 
-        kind : (x.kind ≡ 1) ⊎ (x.kind ≡ 2) → (y : Item) → matches_arg (named_at b x.p x.q) false y ≡ names_item (read_form b) y (node_of x)
-        kind (inl k) y = rw (eq-eqb 1 x.kind (sym k), (named_here w).named)
-        kind (inr k) y = rw (ne_eqb 1 x.kind (λ z. omega arith), eq-eqb 2 x.kind (sym k), (named_here w).named)
+        kind : (x.kind ≡ Flag) ⊎ (x.kind ≡ Argument) → (y : Item) → matches_arg (named_at b x.p x.q) false y ≡ names_item (read_form b) y (node_of x)
+        kind (inl k) y = rw (eq-eqb 1 (kind_number x.kind) (sym (ap kind_number k)), named)
+        kind (inr k) y =
+            let e : kind_number x.kind ≡ 2 = ap kind_number k in
+            rw (ne_eqb 1 (kind_number x.kind) (λ z. omega arith), eq-eqb 2 (kind_number x.kind) (sym e), named)
 
 -- ---- the counts
 pub good_eight : (b : List ℕ) → length_good b ≡ true → 8 ≤ length b
@@ -166,12 +160,12 @@ NoPositional b n = AllBelow (λ (x : Node). not (eqb x.kind 3)) (read_form b).no
 pub positional_first : (b : List ℕ) → NoPositional b 0
 positional_first b = none_below _ _
 
-pub positional_next : (b : List ℕ) (n : ℕ) (x : layout.Node) → NoPositional b n → get_elem? (read_form b).nodes n ≡ some (node_of x) → (x.kind ≡ 3 → ⊥) → NoPositional b (n + 1)
-positional_next b n x g e k = one_more_lem _ _ n (node_of x) g e (rw (ne_eqb x.kind 3 k))
+pub positional_next : (b : List ℕ) (n : ℕ) (x : layout.Node) → NoPositional b n → get_elem? (read_form b).nodes n ≡ some (node_of x) → (x.kind ≡ Positional → ⊥) → NoPositional b (n + 1)
+positional_next b n x g e k = one_more_lem _ _ n (node_of x) g e (rw (ne_eqb (kind_number x.kind) 3 (not_kind x.kind 3 refl k)))
 
-pub positional_hit : (b : List ℕ) (n : ℕ) (x : layout.Node) → get_elem? (read_form b).nodes n ≡ some (node_of x) → x.kind ≡ 3 → true ≡ not (no_positionals (read_form b))
+pub positional_hit : (b : List ℕ) (n : ℕ) (x : layout.Node) → get_elem? (read_form b).nodes n ≡ some (node_of x) → x.kind ≡ Positional → true ≡ not (no_positionals (read_form b))
 unfolding no_positionals
-positional_hit b n x e k = rw (one_fails (λ (x : Node). not (eqb x.kind 3)) (read_form b).nodes n (node_of x) e (rw (eq-eqb x.kind 3 k)))
+positional_hit b n x e k = rw (one_fails (λ (x : Node). not (eqb x.kind 3)) (read_form b).nodes n (node_of x) e (rw k))
 
 pub positional_last : (b : List ℕ) (n end : ℕ) → NoPositional b n → end ≡ node_count b → end ≤ n → false ≡ not (no_positionals (read_form b))
 unfolding no_positionals

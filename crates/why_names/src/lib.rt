@@ -8,14 +8,8 @@ ghost use Rattle.rules.specs.Sheet.{sheet_area};
 ghost use Rattle.rules.specs.Why.{no_positionals};
 ghost use Rattle.why_names.specs.Naming.{CanName, NodeNames, FormNames};
 
+use form_layout::Kind;
 use take_search::Names;
-
-// Kinds of nodes; those up to an argument have names.
-const FLAG: u32 = 1;
-
-const ARGUMENT: u32 = 2;
-
-const POSITIONAL: u32 = 3;
 
 // Whether node n is a flag or an argument that has item i's name, adjacent or not.
 fn names_item(form: &[u8], codes: &[u32], sheet: &[u8], items: &[u32], i: usize, n: usize) -> bool
@@ -23,18 +17,15 @@ fn names_item(form: &[u8], codes: &[u32], sheet: &[u8], items: &[u32], i: usize,
     ensures { NodeNames form.now (sheet_area sheet.now) items.now i n result }
 {
     let x = form_layout::node_at(form, n);
-    if x.kind < FLAG {
-        return false;
-    }
-    if ARGUMENT < x.kind {
-        return false;
-    }
     let names = Names {
         first: x.p,
         count: x.q,
         adjacent: false,
     };
-    take_search::matches(form, codes, sheet, items, i, names)
+    match x.kind {
+        Kind::Flag | Kind::Argument => take_search::matches(form, codes, sheet, items, i, names),
+        _ => false,
+    }
 }
 
 // Whether a flag or an argument of the form has item i's name.
@@ -42,13 +33,10 @@ pub fn is_named(form: &[u8], codes: &[u32], sheet: &[u8], items: &[u32], i: usiz
     requires { CanName form.now codes.now sheet.now items.now i }
     ensures { FormNames form.now (sheet_area sheet.now) items.now i result }
 {
-    let end = form_layout::node_count(form);
-    let mut n = 0;
-    while n < end {
+    for n in 0..form_layout::node_count(form) {
         if names_item(form, codes, sheet, items, i, n) {
             return true;
         }
-        n += 1;
     }
     false
 }
@@ -58,14 +46,10 @@ pub fn has_positional(form: &[u8]) -> bool
     requires { length_good form.now ≡ true }
     ensures { result ≡ not (no_positionals (read_form form.now)) }
 {
-    let end = form_layout::node_count(form);
-    let mut n = 0;
-    while n < end {
-        let x = form_layout::node_at(form, n);
-        if x.kind == POSITIONAL {
+    for n in 0..form_layout::node_count(form) {
+        if form_layout::node_at(form, n).kind == Kind::Positional {
             return true;
         }
-        n += 1;
     }
     false
 }

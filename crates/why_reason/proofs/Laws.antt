@@ -1,16 +1,18 @@
 -- What each part of the search tells, from what its steps give.
 use mathlib.Core.Bool.{Bool, true, false, not, false≢true}
 use mathlib.Core.List.{List, [], ◌∷◌}
-use mathlib.Core.Logic.{◌⊎◌, ⊎_elim}
+use mathlib.Core.Logic.{⊎_elim}
 use mathlib.Core.Option.{Option, some, none}
 use mathlib.Core.Path.{◌≡◌, refl, sym, ap, ◌∙◌}
 use Prim.Native.Nat.{ℕ, suc, ◌+◌, ◌-◌, ◌*◌, ◌≤◌, ◌<◌}
+use native.Mathlib.Numerals.{add-one}
 use native.Mathlib.Omega.{arith}
 use lib.ListN.{length, get_or, get_elem?}
 use types.Run.{OneOf}
 use denote.Enum.Declared.{tag_of}
 use borrow.Author.Tests.{not-true, not-false}
-use Rattle.std.specs.Prelude.{if◌then◌else◌}
+use Rattle.std.specs.Prelude.{if◌then◌else◌, Some, None}
+use Rattle.std.specs.Prelude.{Option as Optional}
 use Rattle.rules.specs.Base.{all, ◌>>?◌}
 use Rattle.rules.specs.Outcome.{ok, ◌>>=◌}
 use Rattle.rules.specs.Sheet.{sheet_area}
@@ -33,18 +35,20 @@ use Rattle.split_arg.specs.declared.Item.{Item}
 use Rattle.split_arg.specs.declared.Item.TheVariants.{Short, Long, ArgWord, Word, PosWord}
 use Rattle.split_arg.specs.contracts.Item as T
 use Rattle.split_arg.specs.Items.{record_at, item_of}
+use Rattle.state_marks.specs.Lent.{option_of}
 use Rattle.take_search.proofs.Items.{is_short_lem, is_long_lem, is_arg_word_lem, is_word, is_pos_word_lem}
 use Rattle.take_once.specs.Once.{HasPlace, Earlier}
 use Rattle.why_names.specs.Naming.{CanName, FormNames}
-use Rattle.why_letter.specs.declared.LetterOption.{LetterOption}
-use Rattle.why_letter.specs.declared.LetterOption.TheVariants as letter
+use Rattle.std.specs.Prelude.{Option as CodeOption, Some, None}
 use Rattle.why_letter.specs.Withdrawn.{letter_of, LinePlace, CanExplain, UnknownTold}
 use Rattle.why_letter.proofs.Clusters.{not_whole, explain_item, explain_room}
 use Rattle.why_reason.specs.declared.Reason.{Reason}
+use Rattle.why_reason.specs.declared.ReasonKind.{ReasonKind}
+use Rattle.why_reason.specs.declared.ReasonKind.TheVariants.{LostChoice, GivenEarlier, KeyUsed, Unnamed, NoPositional, UnknownLetter, NoneOfThese}
 use Rattle.why_reason.specs.Reasons.{Tells, by_name, by_value, by_operand, by_item, MarkedUp, CanReason, LeftAt, NameTold, ValueTold, OperandTold, ItemTold, FindsReason}
 
-abbrev told : ℕ → ℕ → Reason
-told code detail = record { code = code; detail = detail }
+abbrev told : ReasonKind → ℕ → Reason
+told kind detail = record { kind = kind; detail = detail }
 
 -- ---- what the calls ask
 pub name_asked : (b codes s words : List ℕ) (i : ℕ) → CanExplain b codes s words i → CanName b codes s words i
@@ -83,7 +87,7 @@ module _ (b s words : List ℕ) (i : ℕ) (r : Bool) (h : FormNames b (sheet_are
   abbrev nobody : rules.Item → Bool
   nobody y = all (λ (n : Node). not (names_item (read_form b) y n)) (read_form b).nodes
 
-  pub name_known : r ≡ true → (q : Reason) → q ≡ told 7 0 → NameTold b s words i q
+  pub name_known : r ≡ true → (q : Reason) → q ≡ told NoneOfThese 0 → NameTold b s words i q
   unfolding by_name is_unnamed reason_code reason_detail
   name_known t q d = record {
     same = λ x y p e n.
@@ -91,7 +95,7 @@ module _ (b s words : List ℕ) (i : ℕ) (r : Bool) (h : FormNames b (sheet_are
         rw d (rw (p.form, n, none_left) (record { code = refl; detail = refl }));
   }
 
-  pub name_unknown : r ≡ false → (q : Reason) → q ≡ told 4 0 → NameTold b s words i q
+  pub name_unknown : r ≡ false → (q : Reason) → q ≡ told Unnamed 0 → NameTold b s words i q
   unfolding by_name is_unnamed reason_code reason_detail
   name_unknown f q d = record {
     same = λ x y p e n.
@@ -109,12 +113,12 @@ unfolding used_before
 before_is marks k m e = rw (e, used_before)
 
 module _ (m : List ℕ) (i : ℕ) (q : Reason) where
-  value_is : (u : Bool) → ((x : LeftPlace) → MarkedUp x m i → used_before x.marks x.place ≡ u) → q ≡ told (if u then 3 else 7) 0 → ValueTold m i q
+  value_is : (u : Bool) → ((x : LeftPlace) → MarkedUp x m i → used_before x.marks x.place ≡ u) → q ≡ told (if u then KeyUsed else NoneOfThese) 0 → ValueTold m i q
   unfolding by_value reason_code reason_detail
   value_is true h d = record { same = λ x p. rw d (rw (h x p) (record { code = refl; detail = refl })) }
   value_is false h d = record { same = λ x p. rw d (rw (h x p) (record { code = refl; detail = refl })) }
 
-  pub value_first : i ≡ 0 → q ≡ told 7 0 → ValueTold m i q
+  pub value_first : i ≡ 0 → q ≡ told NoneOfThese 0 → ValueTold m i q
   value_first e d = value_is false (λ x p. ap (used_before x.marks) (p.place ∙ e) ∙ before_first x.marks) d
 
   module _ (behind : i ≡ 0 → ⊥) (u : Bool) (h : u ≡ parsed (get_or m (i - 1) 0)) where
@@ -123,15 +127,15 @@ module _ (m : List ℕ) (i : ℕ) (q : Reason) where
         let n : i ≡ suc (i - 1) = omega arith in
         ap (used_before x.marks) (p.place ∙ n) ∙ before_is x.marks (i - 1) _ (p.same (i - 1) (omega arith)) ∙ sym h
 
-    pub value_used : u ≡ true → q ≡ told 3 0 → ValueTold m i q
+    pub value_used : u ≡ true → q ≡ told KeyUsed 0 → ValueTold m i q
     value_used t d = value_is true (λ x p. key_is x p ∙ t) d
 
-    pub value_free : u ≡ false → q ≡ told 7 0 → ValueTold m i q
+    pub value_free : u ≡ false → q ≡ told NoneOfThese 0 → ValueTold m i q
     value_free f d = value_is false (λ x p. key_is x p ∙ f) d
 
 -- ---- 5 and 6
 module _ (b s words : List ℕ) (i : ℕ) (r : Bool) (h : r ≡ not (no_positionals (read_form b))) where
-  pub operand_nobody : not r ≡ true → (q : Reason) → q ≡ told 5 0 → OperandTold b s words i q
+  pub operand_nobody : not r ≡ true → (q : Reason) → q ≡ told NoPositional 0 → OperandTold b s words i q
   unfolding by_operand reason_code reason_detail
   operand_nobody t q d = record {
     same = λ x y p e.
@@ -139,11 +143,11 @@ module _ (b s words : List ℕ) (i : ℕ) (r : Bool) (h : r ≡ not (no_position
         rw d (rw (p.form, untaken) (record { code = refl; detail = refl }));
   }
 
-  module _ (f : not r ≡ false) (u : LetterOption) (k : UnknownTold b s words i u) where
+  module _ (f : not r ≡ false) (u : CodeOption ℕ) (k : UnknownTold b s words i u) where
     taker : no_positionals (read_form b) ≡ false
     taker = not-true (no_positionals (read_form b)) (sym h ∙ not-false r f)
 
-    pub operand_letter : (c : ℕ) → u ≡ letter.Some c → (q : Reason) → q ≡ told 6 c → OperandTold b s words i q
+    pub operand_letter : (c : ℕ) → u ≡ Some c → (q : Reason) → q ≡ told UnknownLetter c → OperandTold b s words i q
     unfolding by_operand reason_code reason_detail
     operand_letter c e q d = record {
       same = λ x y p g.
@@ -151,7 +155,7 @@ module _ (b s words : List ℕ) (i : ℕ) (r : Bool) (h : r ≡ not (no_position
           rw d (rw (known, p.form, taker) (record { code = refl; detail = refl }));
     }
 
-    pub operand_none : u ≡ letter.None → (q : Reason) → q ≡ told 7 0 → OperandTold b s words i q
+    pub operand_none : u ≡ None → (q : Reason) → q ≡ told NoneOfThese 0 → OperandTold b s words i q
     unfolding by_operand reason_code reason_detail
     operand_none e q d = record {
       same = λ x y p g.
@@ -224,8 +228,8 @@ module _ (b s words m : List ℕ) (i : ℕ) (item : Item) (q : item ≡ item_of 
       operand y f (PosWord t) e k = rw (is_pos_word_lem _ _ y f item q t e).0
 
 -- ---- the first two, and then the item
-module _ (b s words m : List ℕ) (i : ℕ) (w : ℕ) (won : place_of w ≡ winner (get_or m i 0)) (q : Reason) where
-  winner_is : (x : LeftPlace) → MarkedUp x m i → winner_of x ≡ place_of w
+module _ (b s words m : List ℕ) (i : ℕ) (w : Optional ℕ) (won : option_of w ≡ winner (get_or m i 0)) (q : Reason) where
+  winner_is : (x : LeftPlace) → MarkedUp x m i → winner_of x ≡ option_of w
   unfolding winner_of ◌>>?◌
   winner_is x p = rw (p.place, p.same i (omega arith)) (sym won)
 
@@ -238,23 +242,21 @@ module _ (b s words m : List ℕ) (i : ℕ) (w : ℕ) (won : place_of w ≡ winn
       let once = ap (only_once (line_items x)) p.place ∙ d in
       rw (here, reason_at, once)
 
-  pub found_winner : (w ≡ 0 → ⊥) → q ≡ told 1 w → FindsReason b s words m i q
+  pub found_winner : (k : ℕ) → w ≡ Some k → q ≡ told LostChoice (k + 1) → FindsReason b s words m i q
   unfolding first_reason reason_code reason_detail
-  found_winner n d = record {
-    same = λ x p k.
+  found_winner k n d = record {
+    same = λ x p h.
         let y = lookup_some (line_items x) i p.below in
         let e = earlier_ok (line_items x) i p.below in
-        let lost : winner_of x ≡ some (w - 1) = winner_is x k ∙ place_some w n in
-        let back : suc (w - 1) ≡ w = omega arith in
-        (lost_choice (w - 1), given x p e.0 e.1 y.0 y.1 ∙ rw (lost, first_reason), rw d (record { code = refl; detail = back }));
+        let lost : winner_of x ≡ some k = winner_is x h ∙ ap option_of n in
+        (lost_choice k, given x p e.0 e.1 y.0 y.1 ∙ rw (lost, first_reason), rw (d, add-one k) (record { code = refl; detail = refl }));
   }
 
-  module _ (none-won : w ≡ 0) (r : ℕ) (h : Earlier (sheet_area s) words i r) where
+  module _ (none-won : w ≡ None) (r : ℕ) (h : Earlier (sheet_area s) words i r) where
     lost_none : (x : LeftPlace) → MarkedUp x m i → winner_of x ≡ none
-    unfolding place_of
-    lost_none x k = winner_is x k ∙ rw none-won
+    lost_none x k = winner_is x k ∙ ap option_of none-won
 
-    pub found_earlier : (r ≡ 0 → ⊥) → q ≡ told 2 r → FindsReason b s words m i q
+    pub found_earlier : (r ≡ 0 → ⊥) → q ≡ told GivenEarlier r → FindsReason b s words m i q
     unfolding first_reason reason_code reason_detail
     found_earlier n d = record {
       same = λ x p k.

@@ -12,10 +12,21 @@ use Rattle.rules.specs.Why.{LeftPlace, line_items, reason_code, reason_detail, k
 use Rattle.rules.specs.Why.{is_name, is_arg_word, used_before, is_unnamed, no_positionals, unknown_in, reason_at}
 use Rattle.why_letter.specs.Withdrawn.{LinePlace, CanExplain}
 use Rattle.why_reason.specs.declared.Reason.{Reason}
+use Rattle.why_reason.specs.declared.ReasonKind.{ReasonKind}
+use Rattle.why_reason.specs.declared.ReasonKind.TheVariants.{LostChoice, GivenEarlier, KeyUsed, Unnamed, NoPositional, UnknownLetter, NoneOfThese}
 
--- ---- a reason, by code and detail
+-- ---- a reason, by the number of its kind, and detail
+abbrev pub kind_number : ReasonKind → ℕ
+kind_number LostChoice = 1
+kind_number GivenEarlier = 2
+kind_number KeyUsed = 3
+kind_number Unnamed = 4
+kind_number NoPositional = 5
+kind_number UnknownLetter = 6
+kind_number NoneOfThese = 7
+
 pub record Tells (q : Rules.Reason) (r : Reason) : Type 0 where
-  pub code : reason_code q ≡ r.code
+  pub code : reason_code q ≡ kind_number r.kind
   pub detail : reason_detail q ≡ r.detail
 
 -- ---- what is left of the search for an item of each kind

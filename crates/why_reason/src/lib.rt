@@ -3,38 +3,42 @@
 
 ghost use Rattle.std.specs.Prelude.{◌≡◌, ◌<◌, length};
 ghost use Rattle.why_letter.specs.Withdrawn.{CanExplain};
-ghost use Rattle.why_reason.specs.Reasons.{CanReason, LeftAt, NameTold, ValueTold, OperandTold, ItemTold, FindsReason};
+ghost use Rattle.why_reason.specs.Reasons.{kind_number, CanReason, LeftAt, NameTold, ValueTold, OperandTold, ItemTold, FindsReason};
 
 use split_arg::Item;
 use state_marks::{is_parsed, winner_of};
-use why_letter::LetterOption;
 
-// The reasons, by their codes.
-const LOST_CHOICE: u32 = 1;
+// The reasons, by their numbers.
+#[derive(Clone, Copy)]
+pub enum ReasonKind {
+    LostChoice = 1,
+    GivenEarlier = 2,
+    KeyUsed = 3,
+    Unnamed = 4,
+    NoPositional = 5,
+    UnknownLetter = 6,
+    NoneOfThese = 7,
+}
 
-const GIVEN_EARLIER: u32 = 2;
+impl ReasonKind {
+    pub fn number(self) -> u32
+        ensures { result ≡ kind_number self }
+    {
+        self as u32
+    }
+}
 
-const KEY_USED: u32 = 3;
-
-const UNNAMED: u32 = 4;
-
-const NO_POSITIONAL: u32 = 5;
-
-const UNKNOWN_LETTER: u32 = 6;
-
-const NONE_OF_THESE: u32 = 7;
-
-// A reason by its code, and its detail.
+// A reason by its kind, and its detail.
 #[derive(Clone, Copy)]
 pub struct Reason {
-    pub code: u32,
+    pub kind: ReasonKind,
     pub detail: u32,
 }
 
-fn tell(code: u32, detail: u32) -> Reason
-    ensures { result ≡ record { code = code; detail = detail } }
+fn tell(kind: ReasonKind, detail: u32) -> Reason
+    ensures { result ≡ record { kind = kind; detail = detail } }
 {
-    Reason { code, detail }
+    Reason { kind, detail }
 }
 
 // The fourth: an option that no flag and no argument of the form names.
@@ -43,9 +47,9 @@ fn for_name(form: &[u8], codes: &[u32], sheet: &[u8], items: &[u32], i: usize) -
     ensures { NameTold form.now sheet.now items.now i result }
 {
     if why_names::is_named(form, codes, sheet, items, i) {
-        return tell(NONE_OF_THESE, 0);
+        return tell(ReasonKind::NoneOfThese, 0);
     }
-    tell(UNNAMED, 0)
+    tell(ReasonKind::Unnamed, 0)
 }
 
 // The third: a value whose key is used.
@@ -53,13 +57,10 @@ fn for_value(marks: &[u16], i: usize) -> Reason
     requires { i < length marks.now }
     ensures { ValueTold marks.now i result }
 {
-    if i == 0 {
-        return tell(NONE_OF_THESE, 0);
+    if i > 0 && is_parsed(marks[i - 1]) {
+        return tell(ReasonKind::KeyUsed, 0);
     }
-    if is_parsed(marks[i - 1]) {
-        return tell(KEY_USED, 0);
-    }
-    tell(NONE_OF_THESE, 0)
+    tell(ReasonKind::NoneOfThese, 0)
 }
 
 // The fifth and the sixth: a word that nobody takes, or that looks like options.
@@ -68,13 +69,13 @@ fn for_operand(form: &[u8], codes: &[u32], sheet: &[u8], items: &[u32], i: usize
     ensures { OperandTold form.now sheet.now items.now i result }
 {
     if !why_names::has_positional(form) {
-        return tell(NO_POSITIONAL, 0);
+        return tell(ReasonKind::NoPositional, 0);
     }
     let unknown = why_letter::unknown_letter(form, codes, sheet, items, i);
-    let LetterOption::Some(letter) = unknown else {
-        return tell(NONE_OF_THESE, 0);
+    let Some(letter) = unknown else {
+        return tell(ReasonKind::NoneOfThese, 0);
     };
-    tell(UNKNOWN_LETTER, letter)
+    tell(ReasonKind::UnknownLetter, letter)
 }
 
 // The third on, each of which speaks of other items.
@@ -104,11 +105,11 @@ pub fn find_reason(form: &[u8], sheet: &[u8], items: &[u32], marks: &[u16], i: u
 {
     let winner = winner_of(marks[i]);
     let earlier = take_once::earlier(sheet, items, i);
-    if winner != 0 {
-        return tell(LOST_CHOICE, winner);
+    if let Some(w) = winner {
+        return tell(ReasonKind::LostChoice, w + 1);
     }
     if earlier != 0 {
-        return tell(GIVEN_EARLIER, earlier as u32);
+        return tell(ReasonKind::GivenEarlier, earlier as u32);
     }
     let codes = form_codes::codes_of(form);
     for_item(form, &codes, sheet, items, marks, i)

@@ -10,35 +10,26 @@ pub const COUNT_BYTES: usize = 2;
 
 pub const WIDE_OFFSET: usize = 4;
 
-fn byte(x: u8) -> u32
-    ensures { result ≡ x }
-{
-    x as u32
-}
-
-// A number of 32 bits as a place in a slice.
+// A number of 32 bits as a place in a slice. A cast with a contract, for other crates.
 pub fn wide(x: u32) -> usize
     ensures { result ≡ x }
 {
     x as usize
 }
 
+// A sum, as `number_at` of the rules has it and the must-fail edit `high_byte` changes it; it compiles to one load already.
 pub fn u16_at(b: &[u8], i: usize) -> u32
     requires { i + 2 ≤ length b.now }
     ensures { result ≡ number_at 2 b.now i }
 {
-    let low = byte(b[i]);
-    let high = byte(b[i + 1]);
-    low + 256 * high
+    u32::from(b[i]) + 256 * u32::from(b[i + 1])
 }
 
 pub fn u32_at(b: &[u8], i: usize) -> u32
     requires { i + 4 ≤ length b.now }
     ensures { result ≡ number_at 4 b.now i }
 {
-    let low = u16_at(b, i);
-    let high = u16_at(b, i + 2);
-    low + 65536 * high
+    u16_at(b, i) + 65536 * u16_at(b, i + 2)
 }
 
 // A number of two or four bytes.
@@ -81,14 +72,12 @@ pub fn table_good(b: &[u8], width: usize, count: usize) -> bool
     if last != 0 {
         return false;
     }
-    let mut k = 0;
-    while k < count {
+    for k in 0..count {
         let next = offset_at(b, width, k + 1);
         if next < last {
             return false;
         }
         last = next;
-        k += 1;
     }
     last == b.len() - start
 }
@@ -104,37 +93,25 @@ pub fn entry(b: &[u8], width: usize, count: usize, k: usize) -> &[u8]
     &b[from..to]
 }
 
-// How many of `count` words have room from `from` on.
-fn room(len: usize, from: usize, count: usize) -> usize
-    ensures { result ≡ min count (len - from) }
-{
-    if len <= from {
-        return 0;
-    }
-    let left = len - from;
-    if count < left { count } else { left }
-}
-
-// The words from `from` on, `count` of them or as many as there are, all become `value`.
-pub fn fill(out: &mut [u32], from: usize, count: usize, value: u32)
+// The elements from `from` on, `count` of them or as many as there are, all become `value`.
+pub fn fill<T: Copy>(out: &mut [T], from: usize, count: usize, value: T)
     ensures { out.new ≡ sets out.old from (replicate count value) }
 {
-    let end = room(out.len(), from, count);
-    let mut i = 0;
-    while i < end {
-        out[from + i] = value;
-        i += 1;
+    if from < out.len() {
+        let end = from + count.min(out.len() - from);
+        // A `for`: the library's `fill` asks that a clone of the value is the value, which `Copy` does not say.
+        for x in &mut out[from..end] {
+            *x = value;
+        }
     }
 }
 
-// The words from `at` on become `words`, as far as there is room.
-pub fn copy(out: &mut [u32], at: usize, words: &[u32])
-    ensures { out.new ≡ sets out.old at words.now }
+// The elements from `at` on become `elements`, as far as there is room.
+pub fn copy<T: Copy>(out: &mut [T], at: usize, elements: &[T])
+    ensures { out.new ≡ sets out.old at elements.now }
 {
-    let count = room(out.len(), at, words.len());
-    let mut i = 0;
-    while i < count {
-        out[at + i] = words[i];
-        i += 1;
+    if at < out.len() {
+        let count = elements.len().min(out.len() - at);
+        out[at..at + count].copy_from_slice(&elements[..count]);
     }
 }

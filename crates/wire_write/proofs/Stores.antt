@@ -6,7 +6,8 @@ use native.Mathlib.Numerals.{add-one}
 use native.Mathlib.Omega.{arith}
 use lib.ListN.{length, set, take, drop, replicate, length-set, length-replicate, drop_of_length-le}
 use lib.Seq.{sets, sets-eq, take_all}
-use Rattle.wire.proofs.Stores.{Stored, filled_next, filled_last}
+use Rattle.std.proofs.lemmas.List.{take-replicate}
+use Rattle.wire.proofs.Stores.{sets_room}
 use Rattle.rules.specs.Encode.{bytes_of}
 
 pub two_bytes : (o : List ℕ) (at n x y : ℕ) → x ≡ n % 256 → y ≡ n / 256 % 256 → set (set o at x) (at + 1) y ≡ sets o at (bytes_of 2 n)
@@ -37,15 +38,12 @@ sets_end (x ∷ vs) o at h =
     let behind : drop (at + suc (length vs)) o ≡ [] = drop_of_length-le o {i = at + suc (length vs)} (omega arith) in
     rw (sets-eq (x ∷ vs) o at (omega arith), behind) (append-nil (take at o ++ (x ∷ vs)))
 
--- the first i of them are stored
-abbrev pub Cleared : List ℕ → ℕ → ℕ → List ℕ → ℕ → Type 0
-Cleared o₀ at end o i = Stored o₀ at (replicate (length o₀ - at) 0) end o i
-
-module _ (o₀ : List ℕ) (at end : ℕ) (room : end ≡ min (length o₀) (length o₀ - at)) (o : List ℕ) (i : ℕ) (z : Cleared o₀ at end o i) where
-  pub cleared_next : i < end → Cleared o₀ at end (set o (at + i) 0) (i + 1)
-  cleared_next h = filled_next o₀ at (length o₀ - at) 0 end o i (omega arith) z h
-
-  pub cleared_last : end ≤ i → o ≡ take at o₀ ++ replicate (length o₀ - at) 0
-  cleared_last h =
-      filled_last o₀ at (length o₀ - at) 0 end o i (omega arith) z h
-      ∙ sets_end (replicate (length o₀ - at) 0) o₀ at (length-replicate {A = ℕ} (length o₀ - at) 0)
+-- as many zeros as the whole has are enough
+pub zeros_end : (o o' : List ℕ) (at : ℕ) → o' ≡ sets o at (replicate (length o) 0) → o' ≡ take at o ++ replicate (length o - at) 0
+zeros_end o o' at e =
+    let fewer : take (length o - at) (replicate {A = ℕ} (length o) 0) ≡ replicate (length o - at) 0 =
+    take-replicate (length o - at) (length o) 0 (omega arith) in
+    let most : min (length (replicate {A = ℕ} (length o) 0)) (length o - at) ≤ length o - at = omega arith in
+    e
+    ∙ rw (← sets_room (replicate (length o) 0) o at (length o - at) most, fewer)
+    (sets_end (replicate (length o - at) 0) o at (length-replicate {A = ℕ} (length o - at) 0))

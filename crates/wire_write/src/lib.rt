@@ -1,25 +1,19 @@
-// Bytes written to a slice: numbers, other bytes, zeros to the end, and a sheet, argument by argument.
+// Bytes written to a slice: numbers, zeros to the end, and a sheet, argument by argument.
 #![tactic(auto)]
 
-ghost use Rattle.std.specs.Prelude.{◌≡◌, ◌+◌, ◌-◌, ◌%◌, ◌≤◌, min, [], ◌++◌, length, take, replicate};
+ghost use Rattle.std.specs.Prelude.{◌≡◌, ◌+◌, ◌-◌, ◌≤◌, [], ◌++◌, length, take, replicate};
 ghost use Rattle.std.proofs.lemmas.List.Edits.{sets};
 ghost use Rattle.rules.specs.Run.{padded};
 ghost use Rattle.rules.specs.Encode.{bytes_of};
 ghost use Rattle.wire_write.specs.Written.{sheet_so_far, with_argument, CanBegin, CanPut};
-
-fn low_byte(n: u32) -> u8
-    ensures { result ≡ n % 256 }
-{
-    (n % 256) as u8
-}
 
 // The two low bytes of a number, little-endian.
 pub fn put_u16(out: &mut [u8], at: usize, n: u32)
     requires { at + 2 ≤ length out.old }
     ensures { out.new ≡ sets out.old at (bytes_of 2 n) }
 {
-    out[at] = low_byte(n);
-    out[at + 1] = low_byte(n / 256);
+    out[at] = (n % 256) as u8;
+    out[at + 1] = (n / 256 % 256) as u8;
 }
 
 pub fn put_u32(out: &mut [u8], at: usize, n: u32)
@@ -30,39 +24,11 @@ pub fn put_u32(out: &mut [u8], at: usize, n: u32)
     put_u16(out, at + 2, n / 65536);
 }
 
-// How many of `count` bytes have room from `from` on.
-fn room(len: usize, from: usize, count: usize) -> usize
-    ensures { result ≡ min count (len - from) }
-{
-    if len <= from {
-        return 0;
-    }
-    let left = len - from;
-    if count < left { count } else { left }
-}
-
-// The bytes from `at` on become `bytes`, as far as there is room.
-pub fn put(out: &mut [u8], at: usize, bytes: &[u8])
-    ensures { out.new ≡ sets out.old at bytes.now }
-{
-    let count = room(out.len(), at, bytes.len());
-    let mut i = 0;
-    while i < count {
-        out[at + i] = bytes[i];
-        i += 1;
-    }
-}
-
-// The bytes from `at` to the end become 0.
+// The bytes from `at` to the end become 0. A call of `fill` by a name: form_join and short_sheets cite this equation.
 pub fn clear_from(out: &mut [u8], at: usize)
     ensures { out.new ≡ take at out.old ++ replicate (length out.old - at) 0 }
 {
-    let end = room(out.len(), at, out.len());
-    let mut i = 0;
-    while i < end {
-        out[at + i] = 0;
-        i += 1;
-    }
+    wire::fill(out, at, out.len(), 0);
 }
 
 // A sheet of `count` arguments, none of which is written yet. The whole slice is cleared.
@@ -81,5 +47,5 @@ pub fn put_argument(out: &mut [u8], count: usize, k: usize, at: usize, bytes: &[
 {
     let end = at + bytes.len();
     put_u16(out, 2 + 2 * (k + 1), end as u32);
-    put(out, wire::area_start(2, count) + at, bytes);
+    wire::copy(out, wire::area_start(2, count) + at, bytes);
 }

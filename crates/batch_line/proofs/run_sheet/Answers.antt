@@ -1,14 +1,19 @@
 use Rattle.batch_line.proofs.Sheet.{line_refused, reported}
 use Rattle.batch_line.proofs.Sheet.{known_input}
+use mathlib.Core.Path.{refl}
+use native.Mathlib.Omega.{arith}
 use Rattle.batch_line.proofs.run_sheet.Goals as goal
 
-pub returns-then-fault-ne0 : goal.returns-then-fault-ne0
-returns-then-fault-ne0 c =
-    reported _ _ _ _ _ _ _ _ c.items-1.given c.answers-1.given c.list-1.given _ _
-    (line_refused _ _ _ _ c.requires _ _ _ _ _ c.line_fault-fault.ensures c.if-fault-ne0.true _ c.refused_input.ensures)
+pub refused_input-requires : goal.refused_input-requires
+refused_input-requires c = rw c.from.ensures (omega arith)
+
+pub returns-in-Err : goal.returns-in-Err
+returns-in-Err c =
+    let run = line_refused _ _ _ _ c.requires _ _ _ _ c.in-Err.fault c.in-Err.ensures _ c.from.ensures _ c.refused_input.ensures in
+    search reported
 
 pub run_checked-requires : goal.run_checked-requires
-run_checked-requires c = (c.requires, known_input _ _ _ _ c.requires _ _ _ _ (c.line_fault-fault.ensures.good c.if-fault-ne0.false), c.unmarked-marks.ensures)
+run_checked-requires c = (c.requires, known_input _ _ _ _ c.requires _ _ _ _ (c.in-Ok.ensures.good refl), c.unmarked-marks.ensures)
 
-pub returns : goal.returns
-returns c = reported _ _ _ _ _ _ _ _ c.items-2-1.given c.answers-2-1.given c.list-2-1.given _ _ c.run_checked.ensures
+pub returns-in-Ok : goal.returns-in-Ok
+returns-in-Ok c = search reported

@@ -1,56 +1,37 @@
-use Prim.Native.Nat.{◌-◌}
 use mathlib.Core.Path.{refl}
 use native.Mathlib.Omega.{arith}
 use Rattle.batch_check.proofs.Sheets.{good_batch}
 use Rattle.batch_run.proofs.Parts.{none_ran, all_kept, kept_on, record_part_lem, items_part, answers_part, list_part, next_ran, all_ran}
 use Rattle.batch_run.proofs.refuse_sheets.Goals as goal
 
-pub sheet_count-n-requires : goal.sheet_count-n-requires
-sheet_count-n-requires c = omega (arith, (good_batch _ c.requires.good).long)
+pub sheet_count-k-end-requires : goal.sheet_count-k-end-requires
+sheet_count-k-end-requires c = omega (arith, (good_batch _ c.requires.0.good).long)
 
 pub loop-k-init : goal.loop-k-init
-loop-k-init c = (c.sheet_count-n.ensures, omega arith, all_kept _ _ _ _, λ form e z. none_ran _ _ _ _ _ _)
+loop-k-init c = (c.sheet_count-k-end.ensures, all_kept _ _ _ _, λ form e. none_ran _ _ _ _ _ _)
 
 pub refuse_part-r-requires : goal.refuse_part-r-requires
 refuse_part-r-requires c =
-    let pre = c.requires in (
-      items_part _ _ _ _ _ pre _ _ c.loop-k.invariant.0 c.loop-k-test.true _ _ _ _ c.loop-k.invariant.2,
+    let pre = c.requires.0 in (
+      items_part _ _ _ _ _ pre _ _ c.loop-k.invariant.0 c.loop-k-test.true _ _ _ _ c.loop-k.invariant.1,
       answers_part _ _ _ _ _ pre _ _ c.loop-k.invariant.0
-          c.loop-k-test.true _ _ _ _ c.loop-k.invariant.2,
-      list_part _ _ _ _ _ pre _ _ c.loop-k.invariant.0 c.loop-k-test.true _ _ _ _ c.loop-k.invariant.2,
+          c.loop-k-test.true _ _ _ _ c.loop-k.invariant.1,
+      list_part _ _ _ _ _ pre _ _ c.loop-k.invariant.0 c.loop-k-test.true _ _ _ _ c.loop-k.invariant.1,
+      c.requires.1,
     )
 
 pub write_record-requires : goal.write_record-requires
-write_record-requires c = record_part_lem _ _ _ _ _ c.requires _ _ c.loop-k.invariant.0 c.loop-k-test.true _ _ _ _ c.loop-k.invariant.2
-
-pub overflow_add-k : goal.overflow_add-k
-overflow_add-k c = omega (arith, c.loop-k-test.true)
-
-pub loop-k-smaller : goal.loop-k-smaller
-loop-k-smaller c = omega (arith, c.loop-k-test.true)
+write_record-requires c = record_part_lem _ _ _ _ _ c.requires.0 _ _ c.loop-k.invariant.0 c.loop-k-test.true _ _ _ _ c.loop-k.invariant.1
 
 pub loop-k-preserved : goal.loop-k-preserved
 loop-k-preserved c =
-    let pre = c.requires in (
+    let pre = c.requires.0 in (
       c.loop-k.invariant.0,
-      omega (arith, c.loop-k-test.true),
-      kept_on _ _ _ _ _ _ _ _ _ _ _ _ c.loop-k.invariant.2 c.records-1.given c.items-1.given c.answers-1.given
+      kept_on _ _ _ _ _ _ _ _ _ _ _ _ c.loop-k.invariant.1 c.records-1.given c.items-1.given c.answers-1.given
           c.list-1.given,
-      λ form e z. next_ran _ _ _ _ _ pre _ _ c.loop-k.invariant.0 c.loop-k-test.true _ _ _ _ _ (c.loop-k.invariant.3 form e z) _ _ _ _ _ _ refl
-          (c.refuse_part-r.ensures form _ e z) c.write_record.ensures,
+      λ form e. next_ran _ _ _ _ _ pre _ _ c.loop-k.invariant.0 c.loop-k-test.true _ _ _ _ _ (c.loop-k.invariant.2 form e) _ _ _ _ _ _ refl
+          (c.refuse_part-r.ensures form _ e) c.write_record.ensures,
     )
 
-pub shape_of-records : goal.shape_of-records
-shape_of-records c = c.loop-k.invariant.2.records
-
-pub shape_of-items : goal.shape_of-items
-shape_of-items c = c.loop-k.invariant.2.items
-
-pub shape_of-answers : goal.shape_of-answers
-shape_of-answers c = c.loop-k.invariant.2.answers
-
-pub shape_of-list : goal.shape_of-list
-shape_of-list c = c.loop-k.invariant.2.list
-
 pub returns : goal.returns
-returns c = λ form e z. all_ran _ _ _ _ _ _ _ _ _ _ _ _ c.loop-k.invariant.0 c.loop-k.invariant.1 c.loop-k-test.false (c.loop-k.invariant.3 form e z)
+returns c = λ form e. all_ran _ _ _ _ _ _ _ _ _ _ _ _ c.loop-k.invariant.0 (omega arith) c.loop-k-test.false (c.loop-k.invariant.2 form e)

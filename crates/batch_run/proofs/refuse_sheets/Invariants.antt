@@ -1,8 +1,9 @@
-use Prim.Native.Nat.{ℕ, ◌-◌, ◌≤◌}
+use Prim.Native.Nat.{ℕ}
 use mathlib.Core.List.{List}
 use mathlib.Core.Path.{◌≡◌}
 use Rattle.rules.specs.Accept.{check_form}
 use Rattle.rules.specs.Codes.{check_code}
+use Rattle.rules.specs.Reported.{told}
 use Rattle.rules.specs.Batch.{sheet_count}
 use Rattle.batch_run.specs.Sheets.{SheetsRan}
 use Rattle.batch_run.proofs.Parts.{LengthsKept}
@@ -10,9 +11,6 @@ use Rattle.batch_run.proofs.refuse_sheets.Given as goal
 
 abbrev pub invariant-loop-k : goal.invariant-loop-k
 invariant-loop-k l =
-    (l.n ≡ sheet_count l.batch) × (l.k ≤ l.n) × LengthsKept l.initial.records l.records l.initial.items l.items l.initial.answers l.answers l.initial.list l.list
-    × ((form : List ℕ) → l.fault ≡ check_code (check_form form) → (l.fault.number ≡ 0 → ⊥) → SheetsRan form l.batch l.k l.initial.records l.records l.initial.items l.items l.initial.answers l.answers
+    (l.k-end ≡ sheet_count l.batch) × LengthsKept l.initial.records l.records l.initial.items l.items l.initial.answers l.answers l.initial.list l.list
+    × ((form : List ℕ) → told l.fault ≡ check_code (check_form form) → SheetsRan form l.batch l.k l.initial.records l.records l.initial.items l.items l.initial.answers l.answers
     l.initial.list l.list)
-
-abbrev pub decreases-loop-k : goal.decreases-loop-k
-decreases-loop-k l = l.n - l.k

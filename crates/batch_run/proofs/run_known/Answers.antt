@@ -19,7 +19,7 @@ slice_bounds-run_sheets-end-3 c = search (letters_fit, good_names, rules)
 pub run_sheets-requires : goal.run_sheets-requires
 run_sheets-requires c =
     let pre = c.requires in (
-      form_known _ pre.0 _ c.codes.ensures.coded _ _ _ _ _ _ c.no_codes-flags.ensures c.no_codes-arguments.ensures c.letters-counts.ensures.wrote_letters
-          c.letters-counts.ensures.wrote_letters_2,
+      form_known _ pre.0 _ c.codes.ensures.coded _ _ _ _ _ _ c.no_codes-flags.ensures c.no_codes-arguments.ensures c.letters-counts.ensures.flags
+          c.letters-counts.ensures.arguments,
       pre.1,
     )

@@ -1,4 +1,3 @@
-use Prim.Native.Nat.{◌-◌, ◌≤◌}
 use mathlib.Core.Path.{◌≡◌}
 use Rattle.rules.specs.Batch.{sheet_count}
 use Rattle.batch_run.specs.Sheets.{SheetsRan}
@@ -7,8 +6,5 @@ use Rattle.batch_run.proofs.run_sheets.Given as goal
 
 abbrev pub invariant-loop-k : goal.invariant-loop-k
 invariant-loop-k l =
-    (l.n ≡ sheet_count l.batch) × (l.k ≤ l.n) × LengthsKept l.initial.records l.records l.initial.items l.items l.initial.answers l.answers l.initial.list l.list
+    (l.k-end ≡ sheet_count l.batch) × LengthsKept l.initial.records l.records l.initial.items l.items l.initial.answers l.answers l.initial.list l.list
     × SheetsRan l.form l.batch l.k l.initial.records l.records l.initial.items l.items l.initial.answers l.answers l.initial.list l.list
-
-abbrev pub decreases-loop-k : goal.decreases-loop-k
-decreases-loop-k l = l.n - l.k

@@ -6,10 +6,10 @@ use Rattle.call_answers.specs.Answers.{decoding}
 use Rattle.call_answers.proofs.decode.Goals as goal
 
 pub overflow_cast-result : goal.overflow_cast-result
-overflow_cast-result c = omega (arith, character _ _ _ _ (sym c.decode_at-d.ensures ∙ c.in-Char.is))
+overflow_cast-result c = omega (arith, character _ _ _ (sym c.decode_at-d.ensures ∙ c.in-Some.is))
 
-pub returns-in-Char : goal.returns-in-Char
-returns-in-Char c = ap decoding (sym c.in-Char.is ∙ c.decode_at-d.ensures)
+pub returns-in-Some : goal.returns-in-Some
+returns-in-Some c = ap decoding (sym c.in-Some.is ∙ c.decode_at-d.ensures)
 
-pub returns-in-Bad : goal.returns-in-Bad
-returns-in-Bad c = ap decoding (sym c.in-Bad.is ∙ c.decode_at-d.ensures)
+pub returns-in-None : goal.returns-in-None
+returns-in-None c = ap decoding (sym c.in-None.is ∙ c.decode_at-d.ensures)

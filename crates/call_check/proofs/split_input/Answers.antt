@@ -1,22 +1,18 @@
-use borrow.Author.Rules.{rules}
-use Rattle.form_layout.proofs.Sizes.{check_names}
-use Rattle.call_check.proofs.Splits.{form_refused, sheet_refused, slice_refused, splittable, split_answers}
+use Rattle.form_layout.proofs.Sizes.{accepted_names}
+use Rattle.call_check.proofs.Splits.{split_answers}
 use Rattle.call_check.proofs.split_input.Goals as goal
 
-pub returns-then-checked-ne0 : goal.returns-then-checked-ne0
-returns-then-checked-ne0 c = search form_refused
+pub split_refused-requires : goal.split_refused-requires
+split_refused-requires c = c.in-Err.ensures.1
 
-pub returns-then-fault-ne0 : goal.returns-then-fault-ne0
-returns-then-fault-ne0 c = search sheet_refused
-
-pub returns-then-items-lt-ITEM_WORDS : goal.returns-then-items-lt-ITEM_WORDS
-returns-then-items-lt-ITEM_WORDS c = search slice_refused
+pub returns-in-Err : goal.returns-in-Err
+returns-in-Err c = rw c.in-Err.ensures.0 c.split_refused.ensures
 
 pub codes_of-codes-requires : goal.codes_of-codes-requires
-codes_of-codes-requires c = search check_names
+codes_of-codes-requires c = accepted_names _ c.in_default.ensures.result c.in_default.ensures.accepts
 
 pub split-requires : goal.split-requires
-split-requires c = search (splittable, rules)
+split-requires c = (c.in_default.ensures, c.codes_of-codes.ensures)
 
 pub returns : goal.returns
-returns c = search (split_answers, splittable)
+returns c = split_answers _ _ _ _ _ c.in_default.ensures c.split.ensures

@@ -1,9 +1,6 @@
 -- 30, 29 and 28, in this order. Assumes nothing.
-use Rattle.call_find.proofs.Ends.{finish_stopped, finish_bad, finish_state, finish_node, finish_none, finish_narrow, finish_some}
+use Rattle.call_find.proofs.Ends.{finish_bad, finish_state, finish_node, finish_none, finish_narrow, finish_some}
 use Rattle.call_find.proofs.finish.Goals as goal
-
-pub returns-then-search-ne0 : goal.returns-then-search-ne0
-returns-then-search-ne0 c = search finish_stopped
 
 pub returns-then-seen-eq1 : goal.returns-then-seen-eq1
 returns-then-seen-eq1 c = search finish_bad

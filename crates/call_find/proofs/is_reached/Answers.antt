@@ -1,21 +1,19 @@
 -- The scope, then the mark. Assumes nothing.
 use borrow.Author.Rules.{rules}
+use mathlib.Core.Path.{refl}
 use Rattle.call_find.proofs.Ends.{reached_before, reached_behind, reached_past, reached_mark}
 use Rattle.call_find.proofs.is_reached.Goals as goal
+use Rattle.call_find.proofs.is_reached.Goals.{then-i-s-via-then-i-s, then-i-s-via-else-i-s+then-s-i, then-i-s-via-else-i-s+else-s-i+then-i-ge256}
 
-pub returns-then-i-wide : goal.returns-then-i-wide
-returns-then-i-wide c = reached_before _ _ _ c.wide.ensures c.if-i-wide.true
-
-pub returns-then-wide-i : goal.returns-then-wide-i
-returns-then-wide-i c = reached_behind _ _ _ c.wide.ensures c.if-i-wide.false _ c.wide-2.ensures c.if-wide-i.true
-
-pub returns-then-i-ge256 : goal.returns-then-i-ge256
-returns-then-i-ge256 c =
-    reached_past _ _ _ c.wide.ensures c.if-i-wide.false _
-    c.wide-2.ensures c.if-wide-i.false (search rules) c.if-i-ge256.true
+pub returns-then-i-s : goal.returns-then-i-s
+returns-then-i-s c =
+    elim c.then-i-s.branch [
+      | then-i-s-via-then-i-s w ↦ reached_before _ _ _ refl w.if-i-s.true
+      | then-i-s-via-else-i-s+then-s-i w ↦ reached_behind _ _ _ refl w.if-i-s.false _ refl w.if-s-i.true
+      | then-i-s-via-else-i-s+else-s-i+then-i-ge256 w ↦
+          reached_past _ _ _ refl w.if-i-s.false _ refl w.if-s-i.false (search rules) w.if-i-ge256.true
+    ]
 
 pub returns : goal.returns
 returns c =
-    reached_mark _ _ _ c.wide.ensures c.if-i-wide.false _
-    c.wide-2.ensures c.if-wide-i.false (search rules) c.if-i-ge256.false
-    _ c.is_present.ensures
+    reached_mark _ _ _ refl c.if-i-s.false _ refl c.if-s-i.false (search rules) c.if-i-ge256.false _ c.is_present.ensures

@@ -5,11 +5,11 @@ use Rattle.call_form.proofs.is_command.Goals as goal
 pub name_count-requires : goal.name_count-requires
 name_count-requires c = search form_eight
 
-pub returns-then-name_count-k : goal.returns-then-name_count-k
-returns-then-name_count-k c = search name_past
+pub returns-else-k-name_count : goal.returns-else-k-name_count
+returns-else-k-name_count c = search name_past
 
-pub name_at-x-requires : goal.name_at-x-requires
-name_at-x-requires c = (search form_long, search name_below)
+pub name_at-requires : goal.name_at-requires
+name_at-requires c = (search form_long, search name_below)
 
-pub returns : goal.returns
-returns c = search name_here
+pub returns-then-k-name_count : goal.returns-then-k-name_count
+returns-then-k-name_count c = search name_here

@@ -12,11 +12,11 @@ returns-then-node_count-k c = search key_past
 pub node_at-x-requires : goal.node_at-x-requires
 node_at-x-requires c = (search form_long, search node_below)
 
-pub returns-in-1 : goal.returns-in-1
-returns-in-1 c = search key_flag
+pub returns-in-Flag : goal.returns-in-Flag
+returns-in-Flag c = search key_flag
 
-pub returns-in-2 : goal.returns-in-2
-returns-in-2 c = search key_argument
+pub returns-in-Argument : goal.returns-in-Argument
+returns-in-Argument c = search key_argument
 
 pub returns-in_default : goal.returns-in_default
 returns-in_default c = search key_other

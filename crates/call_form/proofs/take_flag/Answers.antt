@@ -1,28 +1,33 @@
 -- By the tests, then by the node. Assumes nothing.
-use Rattle.call_form.proofs.Entries.{tests_given, tests_accepted, key_inside, flag_refused, flag_none, flag_beyond, flag_some, tests_eight, mark_small}
+use Rattle.call_form.proofs.Entries.{tests_accepted, key_inside, flag_refused, flag_none, flag_beyond, flag_some, tests_eight, mark_small}
 use Rattle.rules.proofs.Fields.{mark_parsed}
 use Rattle.call_form.proofs.take_flag.Goals as goal
+use Rattle.call_form.proofs.take_flag.Goals.{then-key-ne1-via-then-key-ne1, then-key-ne1-via-else-key-ne1+then-field_count-field}
 
-pub returns-then-checked-ne0 : goal.returns-then-checked-ne0
-returns-then-checked-ne0 c = search flag_refused
+pub unchanged_at-requires : goal.unchanged_at-requires
+unchanged_at-requires c = c.in-Err.ensures.small
+
+pub returns-in-Err : goal.returns-in-Err
+returns-in-Err c = flag_refused _ _ _ _ _ c.in-Err.ensures _ _ c.unchanged_at.ensures _
 
 pub key_at-key-requires : goal.key_at-key-requires
-key_at-key-requires c = tests_accepted _ _ _ _ _ c.given-checked.ensures c.if-checked-ne0.false
+key_at-key-requires c = tests_accepted _ _ _ _ c.in_default.ensures
 
 pub returns-then-key-ne1 : goal.returns-then-key-ne1
-returns-then-key-ne1 c = search flag_none
+returns-then-key-ne1 c =
+    elim c.then-key-ne1.branch [
+      | then-key-ne1-via-then-key-ne1 w ↦ search (flag_none, c.in_default.ensures)
+      | then-key-ne1-via-else-key-ne1+then-field_count-field w ↦ search (flag_beyond, c.in_default.ensures)
+    ]
 
 pub field_count-requires : goal.field_count-requires
-field_count-requires c = search tests_eight
-
-pub returns-then-field_count-field : goal.returns-then-field_count-field
-returns-then-field_count-field c = search flag_beyond
+field_count-requires c = search (tests_eight, c.in_default.ensures)
 
 pub field_mark-requires : goal.field_mark-requires
-field_mark-requires c = search mark_small
+field_mark-requires c = search (mark_small, c.in_default.ensures)
 
 pub flag_taken-requires : goal.flag_taken-requires
-flag_taken-requires c = (search tests_given, search key_inside, search mark_parsed)
+flag_taken-requires c = (c.in_default.ensures, search (key_inside, c.in_default.ensures), search mark_parsed)
 
 pub returns : goal.returns
-returns c = search flag_some
+returns c = search (flag_some, c.in_default.ensures)

@@ -1,4 +1,4 @@
 use Rattle.call_node.proofs.answered.Goals as goal
 
 pub returns : goal.returns
-returns c = rw c.joined-state.ensures
+returns c = rw c.joined.ensures

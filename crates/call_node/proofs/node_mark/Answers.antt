@@ -6,7 +6,7 @@ use Rattle.form_layout.proofs.Sizes.{sized}
 use Rattle.call_node.proofs.node_mark.Goals as goal
 
 pub field_mark-requires : goal.field_mark-requires
-field_mark-requires c = omega (arith, c.field_of-field.ensures.1, (sized _ c.requires).counts.fields.1)
+field_mark-requires c = omega (arith, c.field_of.ensures.1, (sized _ c.requires).counts.fields.1)
 
 pub returns : goal.returns
-returns c = c.field_mark.ensures ∙ ap field_mark c.field_of-field.ensures.0
+returns c = c.field_mark.ensures ∙ ap field_mark c.field_of.ensures.0

@@ -1,5 +1,4 @@
 use borrow.Author.Rules.{rules}
-use Prim.Native.Nat.{◌-◌}
 use Rattle.call_preview.proofs.Laws.{looking_first, looking_next, found_here, found_none}
 use Rattle.call_preview.proofs.next_used.Goals as goal
 
@@ -13,4 +12,4 @@ pub loop-i-preserved : goal.loop-i-preserved
 loop-i-preserved c = search looking_next
 
 pub returns : goal.returns
-returns c = (search found_none, search rules)
+returns c = (found_none _ _ _ _ c.loop-i.invariant c.loop-i-test.false, search rules)

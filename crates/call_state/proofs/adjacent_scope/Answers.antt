@@ -7,8 +7,8 @@ use Rattle.call_state.proofs.adjacent_scope.Goals as goal
 pub returns-then-not-both_good : goal.returns-then-not-both_good
 returns-then-not-both_good c = search adjacent_bad
 
-pub adjacent_scope-scope-requires : goal.adjacent_scope-scope-requires
-adjacent_scope-scope-requires c = both_fine _ _ _ c.both_good.ensures (ap not c.if-not-both_good.false)
+pub adjacent_scope-requires : goal.adjacent_scope-requires
+adjacent_scope-requires c = both_fine _ _ _ c.both_good.ensures (ap not c.if-not-both_good.false)
 
 pub returns-in-Some : goal.returns-in-Some
 returns-in-Some c = search adjacent_some

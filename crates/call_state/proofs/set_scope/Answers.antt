@@ -1,5 +1,4 @@
 -- By the laws of the calls on one state. Assumes nothing.
--- c4 is the place 4 before c.
 use native.Mathlib.Omega.{arith}
 use borrow.Author.Rules.{rules}
 use borrow.Author.Tests.{lt-ltb, le-ltb}
@@ -15,13 +14,13 @@ returns-then-to-from c =
     elim c.then-to-from.branch [
       | then-to-from-via-then-to-from w ↦ let h = w.if-to-from.true in search falling
       | then-to-from-via-else-to-from+then-count-to w ↦
-          let h = lt-ltb c.wide-count.result c.args.to w.if-count-to.true in search leaving
+          let h = lt-ltb c.args.s.count c.args.to w.if-count-to.true in search leaving
     ]
 
 pub set_scope-requires : goal.set_scope-requires
-set_scope-requires c = (search in_fine, search rules, omega (arith, c.wide-count.ensures))
+set_scope-requires c = (search in_fine, search rules, omega arith)
 
 pub returns : goal.returns
 returns c =
-    let inside = le-ltb c.wide-count.result c.args.to c.if-count-to.false in
+    let inside = le-ltb c.args.s.count c.args.to c.if-count-to.false in
     search scope_done

@@ -9,11 +9,11 @@ use Rattle.call_text.proofs.item_part.Goals as goal
 pub area_start-area-requires : goal.area_start-area-requires
 area_start-area-requires c = (inl refl, start_small _ c.requires.made _ c.count.ensures)
 
-pub overflow_add-offset : goal.overflow_add-offset
-overflow_add-offset c = record { fits = omega (arith, item_small _ _ _ c.requires _ c.count.ensures _ c.area_start-area.ensures _ _ c.wide.ensures refl) }
+pub overflow_add-offset-2 : goal.overflow_add-offset-2
+overflow_add-offset-2 c = record { fits = omega (arith, item_small _ _ _ c.requires _ c.count.ensures _ c.area_start-area.ensures _ _ refl refl) }
 
 pub overflow_cast-result : goal.overflow_cast-result
-overflow_cast-result c = record { fits = omega (arith, item_small _ _ _ c.requires _ c.count.ensures _ c.area_start-area.ensures _ _ c.wide.ensures refl) }
+overflow_cast-result c = record { fits = omega (arith, item_small _ _ _ c.requires _ c.count.ensures _ c.area_start-area.ensures _ _ refl refl) }
 
 pub returns : goal.returns
-returns c = item_finds _ _ _ c.requires _ c.count.ensures _ c.area_start-area.ensures _ _ c.wide.ensures refl
+returns c = item_finds _ _ _ c.requires _ c.count.ensures _ c.area_start-area.ensures _ _ refl refl

@@ -14,6 +14,6 @@ bounds-records-at-4 c = search (part_inside, rules)
 pub returns : goal.returns
 returns c =
     record {
-      replaced = record_refused _ _ _ _ c.requires.0 refl;
+      replaced = record_refused _ _ _ _ _ c.number.ensures c.requires.0 refl;
       replaced_2 = words_cleared _ _ _ _ _ c.requires.1 c.requires.2 c.wide-words.ensures c.fill.ensures;
     }

@@ -1,8 +1,7 @@
 use borrow.Author.Rules.{rules}
-use Prim.Native.Nat.{◌-◌}
 use mathlib.Core.Logic.{inl}
 use mathlib.Core.Path.{refl}
-use Rattle.careful_words.proofs.Laws.{line_made, line_start, start_is, ends_fit, clean_from, is_record, clean_on, found_at, found_end}
+use Rattle.careful_words.proofs.Laws.{line_made, line_start, start_is, clean_first, clean_next, found_here, found_none}
 use Rattle.careful_words.proofs.first_misread.Goals as goal
 
 pub count-requires : goal.count-requires
@@ -11,20 +10,17 @@ count-requires c = search line_made
 pub area_start-area-requires : goal.area_start-area-requires
 area_start-area-requires c = (inl refl, search line_start)
 
-pub overflow_mul-end : goal.overflow_mul-end
-overflow_mul-end c = record { fits = search ends_fit }
-
-pub loop-at-init : goal.loop-at-init
-loop-at-init c = search clean_from
+pub loop-place-init : goal.loop-place-init
+loop-place-init c = search clean_first
 
 pub is_misread-requires : goal.is_misread-requires
-is_misread-requires c = (search rules, search is_record, search start_is)
+is_misread-requires c = (search rules, search rules, search start_is)
 
 pub returns-then-is_misread : goal.returns-then-is_misread
-returns-then-is_misread c = search found_at
+returns-then-is_misread c = search found_here
 
-pub loop-at-preserved : goal.loop-at-preserved
-loop-at-preserved c = search clean_on
+pub loop-place-preserved : goal.loop-place-preserved
+loop-place-preserved c = search clean_next
 
 pub returns : goal.returns
-returns c = search found_end
+returns c = search found_none

@@ -1,6 +1,5 @@
 use mathlib.Core.Path.{refl}
-use Prim.Native.Nat.{◌-◌}
-use borrow.Author.Rules.{rules}
+use native.Mathlib.Omega.{arith}
 use borrow.Author.Count.{below_none}
 use Rattle.command_check.proofs.Steps.{few_entries, forms_pass, form_passes, form_fails}
 use Rattle.command_check.proofs.check_forms.Goals as goal
@@ -11,11 +10,12 @@ entry_count-n-requires c = (few_entries _ c.requires _ refl).2
 pub loop-k-init : goal.loop-k-init
 loop-k-init c = ((few_entries _ c.requires _ c.entry_count-n.ensures).1, λ cs e. below_none _)
 
-pub returns-then-checked-ne0 : goal.returns-then-checked-ne0
-returns-then-checked-ne0 c = search form_fails
+pub returns-in-Err : goal.returns-in-Err
+returns-in-Err c =
+    form_fails _ _ _ c.command_form.ensures c.loop-k.invariant.1 c.requires (omega (arith, c.loop-k.invariant.0, c.loop-k-test.true)) _ c.in-Err.ensures
 
 pub loop-k-preserved : goal.loop-k-preserved
-loop-k-preserved c = (search rules, search form_passes)
+loop-k-preserved c = (c.loop-k.invariant.0, form_passes _ _ _ c.command_form.ensures c.loop-k.invariant.1 c.in_default.ensures)
 
 pub returns : goal.returns
 returns c = search forms_pass

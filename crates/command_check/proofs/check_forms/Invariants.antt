@@ -1,10 +1,7 @@
 -- Invariant: the forms below k are accepted.
-use Prim.Native.Nat.{◌-◌, ◌≤◌}
+use Prim.Native.Nat.{◌≤◌}
 use Rattle.command_check.proofs.Steps.{Accepts}
 use Rattle.command_check.proofs.check_forms.Given as goal
 
 abbrev pub invariant-loop-k : goal.invariant-loop-k
 invariant-loop-k l = (l.n ≤ 32) × Accepts l.table l.k
-
-abbrev pub decreases-loop-k : goal.decreases-loop-k
-decreases-loop-k l = l.n - l.k

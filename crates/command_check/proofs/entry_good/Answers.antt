@@ -1,17 +1,25 @@
+use mathlib.Core.Path.{sym, ◌∙◌}
 use Rattle.command_check.proofs.Steps.{entry_unfit, entry_fits, entry_misnamed, entry_named}
 use Rattle.command_check.proofs.entry_good.Goals as goal
-
-pub returns-then-not-fits : goal.returns-then-not-fits
-returns-then-not-fits c = search entry_unfit
+use Rattle.command_check.proofs.entry_good.Goals.{then-fits, else-fits}
 
 pub names_good-requires : goal.names_good-requires
 names_good-requires c = search entry_fits
 
-pub returns-then-not-names_good : goal.returns-then-not-names_good
-returns-then-not-names_good c = search entry_misnamed
-
 pub has_long-requires : goal.has_long-requires
-has_long-requires c = search entry_fits
+has_long-requires c = elim c.if-fits.branch [
+  | then-fits w ↦ entry_fits _ _ c.fits.ensures w.if-fits.true
+  | else-fits w ↦ absurd cc
+]
 
-pub returns : goal.returns
-returns c = search entry_named
+pub returns-then-names_good : goal.returns-then-names_good
+returns-then-names_good c = elim c.if-fits.branch [
+  | then-fits w ↦ entry_named _ _ c.fits.ensures w.if-fits.true _ w.names_good.ensures (sym w.value-is ∙ c.if-names_good.true) _ c.has_long.ensures
+  | else-fits w ↦ absurd cc
+]
+
+pub returns-else-names_good : goal.returns-else-names_good
+returns-else-names_good c = elim c.if-fits.branch [
+  | then-fits w ↦ c.if-names_good.false ∙ entry_misnamed _ _ c.fits.ensures w.if-fits.true _ w.names_good.ensures (sym w.value-is ∙ c.if-names_good.false)
+  | else-fits w ↦ c.if-names_good.false ∙ entry_unfit _ _ c.fits.ensures w.if-fits.false
+]

@@ -1,5 +1,4 @@
-use Prim.Native.Nat.{◌-◌}
-use Rattle.command_names.proofs.Laws.{can_head, kind_first, kind_can, kind_below, kind_step, kind_end, kind_sum, kind_taken, kind_next}
+use Rattle.command_names.proofs.Laws.{can_head, kind_first, kind_can, kind_below, kind_end, kind_sum, kind_taken, kind_next}
 use Rattle.command_names.proofs.try_kind.Goals as goal
 
 pub name_count-n-requires : goal.name_count-n-requires
@@ -19,9 +18,6 @@ returns-then-one-ne0 c = search kind_taken
 
 pub overflow_add-comparisons : goal.overflow_add-comparisons
 overflow_add-comparisons c = record { fits = search kind_sum }
-
-pub overflow_add-k : goal.overflow_add-k
-overflow_add-k c = record { fits = search kind_step }
 
 pub loop-k-preserved : goal.loop-k-preserved
 loop-k-preserved c = search kind_next

@@ -18,11 +18,11 @@ bytes-word-requires c = search name_fits
 pub take_cmd-taken-requires : goal.take_cmd-taken-requires
 take_cmd-taken-requires c = (search rules, search can_take)
 
-pub overflow_cast-code : goal.overflow_cast-code
-overflow_cast-code c = search number_fits
+pub overflow_cast-result : goal.overflow_cast-result
+overflow_cast-result c = search number_fits
 
-pub overflow_add-code : goal.overflow_add-code
-overflow_add-code c = record { fits = search code_fits }
+pub overflow_add-result : goal.overflow_add-result
+overflow_add-result c = record { fits = search code_fits }
 
 pub returns-then-taken : goal.returns-then-taken
 returns-then-taken c = search name_taken

@@ -1,5 +1,4 @@
-use Prim.Native.Nat.{◌-◌}
-use Rattle.command_names.proofs.Laws.{table_head, table_first, table_step, table_end, table_entry, table_can, table_sum, table_taken, table_next}
+use Rattle.command_names.proofs.Laws.{table_head, table_first, table_end, table_entry, table_can, table_sum, table_taken, table_next}
 use Rattle.command_names.proofs.try_names.Goals as goal
 
 pub entry_count-n-requires : goal.entry_count-n-requires
@@ -22,9 +21,6 @@ returns-then-one-ne0 c = search table_taken
 
 pub overflow_add-comparisons : goal.overflow_add-comparisons
 overflow_add-comparisons c = record { fits = search table_sum }
-
-pub overflow_add-k : goal.overflow_add-k
-overflow_add-k c = record { fits = search table_step }
 
 pub loop-k-preserved : goal.loop-k-preserved
 loop-k-preserved c = search table_next

@@ -5,8 +5,8 @@ use Rattle.eval_combine.proofs.guard.Goals as goal
 pub returns-then-ran-ne0 : goal.returns-then-ran-ne0
 returns-then-ran-ne0 c = search guard_refused
 
-pub returns-then-number-eq0 : goal.returns-then-number-eq0
-returns-then-number-eq0 c = search guard_within
+pub returns-in-0 : goal.returns-in-0
+returns-in-0 c = search guard_within
 
-pub returns : goal.returns
-returns c = search guard_failed
+pub returns-in_default : goal.returns-in_default
+returns-in_default c = search guard_failed

@@ -1,13 +1,19 @@
 -- By what `parse_option` decides. Assumes nothing.
-use Rattle.eval_combine.proofs.Optionals.{unchanged_present, unchanged_absent, unchanged_passed}
-use Rattle.eval_combine.proofs.Unchanged.{made_absent, made_passed, made_present}
+use mathlib.Core.Logic.{inl, inr}
+use Rattle.eval_combine.proofs.Optionals.{optional_same}
+use Rattle.eval_combine.specs.Unchanged.{optional_made, optional_by}
 use Rattle.eval_combine.proofs.optional_unchanged.Goals as goal
 
-pub returns-in-Absent : goal.returns-in-Absent
-returns-in-Absent c = record { value = search made_absent; by_index = search unchanged_absent }
+pub returns-in-Absent-clause-by_index : goal.returns-in-Absent-clause-by_index
+unfolding optional_made optional_by
+returns-in-Absent-clause-by_index c = optional_same _ _ _ _ (rw (← c.parse_option.ensures, c.in-Absent.is, c.value.ensures))
 
-pub returns-in-PassedOn : goal.returns-in-PassedOn
-returns-in-PassedOn c = record { value = search made_passed; by_index = search unchanged_passed }
+pub returns-in-PassedOn-clause-by_index : goal.returns-in-PassedOn-clause-by_index
+unfolding optional_made optional_by
+returns-in-PassedOn-clause-by_index c = optional_same _ _ _ _ (rw (← c.parse_option.ensures, c.in-PassedOn.is, c.refusal.ensures))
 
-pub returns-in_default : goal.returns-in_default
-returns-in_default c = record { value = search made_present; by_index = search unchanged_present }
+pub returns-in-Counted-clause-by_index : goal.returns-in-Counted-clause-by_index
+unfolding optional_made optional_by
+returns-in-Counted-clause-by_index c =
+    let made = c.value-in-Counted.ensures in
+    optional_same _ _ _ _ (elim c.in-Counted.is [ inl e ↦ rw (← c.parse_option.ensures, e, made) | inr e ↦ rw (← c.parse_option.ensures, e, made) ])

@@ -1,7 +1,7 @@
 use Prim.Native.Nat.{max, ◌+◌, ◌*◌}
 use mathlib.Core.Bool.{true}
 use mathlib.Core.Path.{◌≡◌}
-use Rattle.eval_node.proofs.Turns.{Turning}
+use Rattle.eval_node.proofs.Turns.{Turning, left_of}
 use Rattle.eval_node.proofs.+nodes.Given as goal
 
 -- The members' measures: the node, times five, and a rank among the functions of one node.
@@ -46,8 +46,8 @@ decreases-turn l = l.over.child * 5 + 3
 
 abbrev pub invariant-run_repeat-loop-out : goal.invariant-run_repeat-loop-out
 invariant-run_repeat-loop-out l =
-    Turning l.form l.known l.sheet l.items l.initial.marks l.how l.initial.out l.mark l.initial.s l.marks l.out l.s l.from l.last l.all
+    Turning l.line.form.now l.line.known.now l.line.sheet.now l.line.items.now l.initial.marks l.how l.initial.out l.mark l.initial.s l.marks l.out l.s l.from l.last l.all
     × (l.keeps ≡ true → l.before ≡ l.marks)
 
 abbrev pub decreases-run_repeat-loop-out : goal.decreases-run_repeat-loop-out
-decreases-run_repeat-loop-out l = l.last
+decreases-run_repeat-loop-out l = left_of l.last

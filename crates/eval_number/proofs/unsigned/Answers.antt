@@ -1,35 +1,43 @@
-use mathlib.Core.Path.{◌≡◌, sym, ◌∙◌}
-use Prim.Native.Nat.{◌+◌, ◌-◌, ◌*◌}
-use native.Mathlib.Omega.{arith}
-use lib.ListN.{drop}
-use Rattle.eval_number.specs.Number.{read_on, too_large_lem, digit_next, digit_low, digit_high, digits_end, unsigned_empty, unsigned_some, unsigned_bad}
+use Rattle.std.proofs.Common.{◌≡◌, sym, ap, ◌∙◌, ℕ, ◌+◌, ◌-◌, ◌*◌, get_or, drop, arith, rules}
+use Rattle.eval_number.specs.Number.{option_of, read_on, too_large_lem, digit_next, digit_bad, digits_end, unsigned_empty, unsigned_some}
 use Rattle.eval_number.proofs.unsigned.Goals as goal
-use Rattle.eval_number.proofs.unsigned.Goals.{then-b-lt48-via-then-b-lt48, then-b-lt48-via-else-b-lt48+then-b-gt57}
-use borrow.Author.Tests.{lt-ltb, le-ltb}
-use mathlib.Core.Option.{none}
 
-pub returns-then-b-lt48 : goal.returns-then-b-lt48
-returns-then-b-lt48 c =
-    let bad : read_on c.loop-i.n (drop c.loop-i.i c.args.digits.now) ≡ none =
-    elim c.then-b-lt48.branch [
-      | then-b-lt48-via-then-b-lt48 w ↦ digit_low _ _ _ _ c.loop-i-test.true c.wide-b.ensures w.if-b-lt48.true
-      | then-b-lt48-via-else-b-lt48+then-b-gt57 w ↦
-          digit_high _ _ _ _ c.loop-i-test.true c.wide-b.ensures w.if-b-lt48.false (lt-ltb _ _ w.if-b-gt57.true)
-    ] in
-    unsigned_bad _ _ _ c.loop-i-test.true c.loop-i.invariant.1.1 bad
+pub returns-then-is_empty : goal.returns-then-is_empty
+returns-then-is_empty c = search (rules, unsigned_empty)
 
-pub returns-then-n-gt4294967295 : goal.returns-then-n-gt4294967295
-returns-then-n-gt4294967295 c =
-    let d = digit_next _ _ _ _ c.loop-i-test.true c.wide-b.ensures c.if-b-lt48.false (le-ltb _ _ c.if-b-gt57.false) in
-    unsigned_bad _ _ _ c.loop-i-test.true c.loop-i.invariant.1.1 (d ∙ too_large_lem (c.loop-i.n * 10 + (c.wide-b.result - 48)) _ (omega arith))
+pub returns-then-not-is_ascii_digit : goal.returns-then-not-is_ascii_digit
+returns-then-not-is_ascii_digit c =
+    let s = c.args.digits.now in
+    let bad = digit_bad c.loop-b.n s c.loop-b.b-index c.loop-b-test.true (sym c.is_ascii_digit.ensures.value ∙ c.if-not-is_ascii_digit.true) in
+    sym (c.loop-b.invariant.same ∙ bad) ∙ unsigned_some s (omega (arith, c.loop-b-test.true))
 
-pub loop-i-preserved : goal.loop-i-preserved
-loop-i-preserved c =
-    let d = digit_next _ _ _ _ c.loop-i-test.true c.wide-b.ensures c.if-b-lt48.false (le-ltb _ _ c.if-b-gt57.false) in
-    (omega arith, (omega arith, c.loop-i.invariant.1.1 ∙ d))
+pub returns-in_err-checked_mul : goal.returns-in_err-checked_mul
+returns-in_err-checked_mul c =
+    let s = c.args.digits.now in
+    let next = digit_next c.loop-b.n s c.loop-b.b-index c.loop-b-test.true (sym c.is_ascii_digit.ensures.value ∙ c.if-not-is_ascii_digit.false) in
+    let far = too_large_lem (c.loop-b.n * 10 + (get_or s c.loop-b.b-index 0 - 48)) (drop (c.loop-b.b-index + 1) s) (omega (arith, c.in_err-checked_mul.ensures)) in
+    ap option_of c.from_residual.ensures ∙ sym (c.loop-b.invariant.same ∙ next ∙ far) ∙ unsigned_some s (omega (arith, c.loop-b-test.true))
 
-pub returns-then-i-eq0 : goal.returns-then-i-eq0
-returns-then-i-eq0 c = sym (unsigned_empty _ (omega arith))
+pub returns-in_err-n : goal.returns-in_err-n
+returns-in_err-n c =
+    let s = c.args.digits.now in
+    let next = digit_next c.loop-b.n s c.loop-b.b-index c.loop-b-test.true (sym c.is_ascii_digit.ensures.value ∙ c.if-not-is_ascii_digit.false) in
+    let far = too_large_lem (c.loop-b.n * 10 + (get_or s c.loop-b.b-index 0 - 48)) (drop (c.loop-b.b-index + 1) s)
+    (omega (arith, c.in_ok-checked_mul.ensures, c.from.ensures, c.in_err-n.ensures)) in
+    ap option_of c.from_residual-in_err-n.ensures ∙ sym (c.loop-b.invariant.same ∙ next ∙ far) ∙ unsigned_some s (omega (arith, c.loop-b-test.true))
 
-pub returns-else-i-eq0 : goal.returns-else-i-eq0
-returns-else-i-eq0 c = sym (unsigned_some _ (omega arith) ∙ c.loop-i.invariant.1.1 ∙ digits_end _ _ _ c.loop-i-test.false c.loop-i.invariant.0)
+pub loop-b-preserved : goal.loop-b-preserved
+loop-b-preserved c =
+    let s = c.args.digits.now in
+    let next = digit_next c.loop-b.n s c.loop-b.b-index c.loop-b-test.true (sym c.is_ascii_digit.ensures.value ∙ c.if-not-is_ascii_digit.false) in
+    let n : c.loop-b.n * 10 + (get_or s c.loop-b.b-index 0 - 48) ≡ c.in_ok-n.n = omega (arith, c.in_ok-checked_mul.ensures, c.from.ensures, c.in_ok-n.ensures) in
+    record {
+      small = omega (arith, c.in_ok-checked_mul.ensures, c.from.ensures, c.in_ok-n.ensures);
+      same = c.loop-b.invariant.same ∙ next ∙ ap (λ (k : ℕ). read_on k (drop (c.loop-b.b-index + 1) s)) n;
+    }
+
+pub returns : goal.returns
+returns c =
+    let s = c.args.digits.now in
+    sym (c.loop-b.invariant.same ∙ digits_end c.loop-b.n s c.loop-b.b-index c.loop-b-test.false c.loop-b.invariant.small)
+    ∙ unsigned_some s (search rules)

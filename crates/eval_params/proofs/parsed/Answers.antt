@@ -8,8 +8,8 @@ use Rattle.eval_params.proofs.parsed.Goals as goal
 pub returns-then-not-numeric : goal.returns-then-not-numeric
 returns-then-not-numeric c = text_tells _ _ _ _ (ap not c.if-not-numeric.true) _ c.value.ensures
 
-pub returns-in-Value : goal.returns-in-Value
-returns-in-Value c = number_tells _ _ _ _ (ap not c.if-not-numeric.false) c.parse.result (c.parse.ensures ∙ ap number_of c.text_bytes.ensures) _ c.in-Value.is _ c.value-in-Value.ensures
+pub returns-in-Some : goal.returns-in-Some
+returns-in-Some c = number_tells _ _ _ _ (ap not c.if-not-numeric.false) c.parse.result (c.parse.ensures ∙ ap number_of c.text_bytes.ensures) _ c.in-Some.is _ c.value-in-Some.ensures
 
-pub returns-in-Bad : goal.returns-in-Bad
-returns-in-Bad c = bad_tells _ _ _ _ (ap not c.if-not-numeric.false) c.parse.result (c.parse.ensures ∙ ap number_of c.text_bytes.ensures) c.in-Bad.is _ c.refused.ensures
+pub returns-in-None : goal.returns-in-None
+returns-in-None c = bad_tells _ _ _ _ (ap not c.if-not-numeric.false) c.parse.result (c.parse.ensures ∙ ap number_of c.text_bytes.ensures) c.in-None.is _ c.refused.ensures

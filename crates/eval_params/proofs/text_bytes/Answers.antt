@@ -12,16 +12,16 @@ pub overflow_add-area : goal.overflow_add-area
 overflow_add-area c = record { fits = omega (arith, start_few _ c.requires _ c.count.ensures _ c.area_start-area.ensures) }
 
 pub overflow_add-from : goal.overflow_add-from
-overflow_add-from c = record { fits = omega (arith, c.least-from.ensures) }
+overflow_add-from c = record { fits = omega (arith, c.min-from.ensures) }
 
 pub slice_bounds-result-count : goal.slice_bounds-result-count
-slice_bounds-result-count c = text_order _ c.requires _ c.count.ensures _ c.area_start-area.ensures _ _ c.least-from.ensures _ c.least-to.ensures
+slice_bounds-result-count c = text_order _ c.requires _ c.count.ensures _ c.area_start-area.ensures _ _ c.min-from.ensures _ c.min-to.ensures
 
 pub slice_bounds-result-start : goal.slice_bounds-result-start
-slice_bounds-result-start c = text_order _ c.requires _ c.count.ensures _ c.area_start-area.ensures _ _ c.least-from.ensures _ c.least-to.ensures
+slice_bounds-result-start c = text_order _ c.requires _ c.count.ensures _ c.area_start-area.ensures _ _ c.min-from.ensures _ c.min-to.ensures
 
 pub slice_bounds-result-end : goal.slice_bounds-result-end
-slice_bounds-result-end c = text_end _ c.requires _ c.count.ensures _ c.area_start-area.ensures _ _ c.least-from.ensures _ c.least-to.ensures
+slice_bounds-result-end c = text_end _ c.requires _ c.count.ensures _ c.area_start-area.ensures _ _ c.min-from.ensures _ c.min-to.ensures
 
 pub returns : goal.returns
-returns c = text_bytes_are _ c.requires _ c.count.ensures _ c.area_start-area.ensures _ _ c.least-from.ensures _ c.least-to.ensures
+returns c = text_bytes_are _ c.requires _ c.count.ensures _ c.area_start-area.ensures _ _ c.min-from.ensures _ c.min-to.ensures

@@ -1,4 +1,7 @@
 -- By what undoes its refusals, and by the leaf. Assumes nothing.
+use mathlib.Core.Path.{refl, ap}
+use Rattle.form_layout.specs.Kinds.{kind_number}
+use Rattle.form_layout.proofs.KindNumbers.{not_kind}
 use Rattle.eval_shortcut.proofs.Trees.{form_good_lem, node_inside}
 use Rattle.eval_shortcut.proofs.Absent.{keeps_undone, keeps_caught, keeps_guard, keeps_other}
 use Rattle.eval_shortcut.proofs.Wraps.{guard_child}
@@ -17,13 +20,13 @@ pub node_at-x-requires : goal.node_at-x-requires
 node_at-x-requires c = (form_good_lem _ _ _ c.requires.node, node_inside _ _ _ c.requires.node)
 
 pub keeps_leaf-requires : goal.keeps_leaf-requires
-keeps_leaf-requires c = guard_child _ _ _ c.requires.node _ c.node_at-x.ensures c.if-x-eq11.true
+keeps_leaf-requires c = guard_child _ _ _ c.requires.node _ c.node_at-x.ensures (ap kind_number c.in-Guard.is)
 
-pub returns-then-x-eq11 : goal.returns-then-x-eq11
-returns-then-x-eq11 c = keeps_guard _ _ _ c.undoes.ensures _ c.if-undoes.false c.if-catch.false _ c.node_at-x.ensures c.if-x-eq11.true _ c.keeps_leaf.ensures
+pub returns-in-Guard : goal.returns-in-Guard
+returns-in-Guard c = keeps_guard _ _ _ c.undoes.ensures _ c.if-undoes.false c.if-catch.false _ c.node_at-x.ensures (ap kind_number c.in-Guard.is) _ c.keeps_leaf.ensures
 
 pub keeps_leaf-requires-2 : goal.keeps_leaf-requires-2
 keeps_leaf-requires-2 c = c.requires
 
 pub returns : goal.returns
-returns c = keeps_other _ _ _ c.undoes.ensures _ c.if-undoes.false c.if-catch.false _ c.node_at-x.ensures c.if-x-eq11.false _ c.keeps_leaf-2.ensures
+returns c = keeps_other _ _ _ c.undoes.ensures _ c.if-undoes.false c.if-catch.false _ c.node_at-x.ensures (not_kind _ 11 refl c.in_default.not-Guard) _ c.keeps_leaf-2.ensures

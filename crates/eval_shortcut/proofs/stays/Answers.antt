@@ -2,22 +2,14 @@
 use Rattle.eval_shortcut.proofs.OneSide.{stays_undone, stays_missing, undone_stays, missing_stays}
 use Rattle.eval_shortcut.proofs.stays.Goals as goal
 
-pub undoes-requires : goal.undoes-requires
-undoes-requires c = c.requires.stands
+pub returns-then-undoes-clause-value : goal.returns-then-undoes-clause-value
+returns-then-undoes-clause-value c = rw c.if-undoes.true (stays_undone _ _ _ _ c.undoes.ensures c.if-undoes.true)
 
-pub returns-then-undoes : goal.returns-then-undoes
-returns-then-undoes c =
-    record {
-      value = stays_undone _ _ _ _ c.undoes.ensures c.if-undoes.true;
-      stays = λ _. undone_stays _ _ _ _ c.undoes.ensures c.if-undoes.true;
-    }
+pub returns-then-undoes-clause-stays : goal.returns-then-undoes-clause-stays
+returns-then-undoes-clause-stays c = λ _. undone_stays _ _ _ _ c.undoes.ensures c.if-undoes.true
 
-pub is_missing-requires : goal.is_missing-requires
-is_missing-requires c = c.requires
+pub returns-else-undoes-clause-value : goal.returns-else-undoes-clause-value
+returns-else-undoes-clause-value c = stays_missing _ _ _ _ c.undoes.ensures c.if-undoes.false _ c.is_missing.ensures.value
 
-pub returns : goal.returns
-returns c =
-    record {
-      value = stays_missing _ _ _ _ c.undoes.ensures c.if-undoes.false _ c.is_missing.ensures.value;
-      stays = λ e. missing_stays _ _ _ (c.is_missing.ensures.misses e);
-    }
+pub returns-else-undoes-clause-stays : goal.returns-else-undoes-clause-stays
+returns-else-undoes-clause-stays c = λ e. missing_stays _ _ _ (c.is_missing.ensures.misses e)

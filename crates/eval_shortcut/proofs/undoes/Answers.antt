@@ -1,5 +1,8 @@
 -- By the kind of the node. Assumes nothing.
-use native.Mathlib.Omega.{arith}
+use mathlib.Core.Logic.{⊎_elim}
+use mathlib.Core.Path.{refl, ap}
+use Rattle.form_layout.specs.Kinds.{kind_number}
+use Rattle.form_layout.proofs.KindNumbers.{not_kind}
 use Rattle.eval_shortcut.proofs.Trees.{form_good_lem, node_inside}
 use Rattle.eval_shortcut.proofs.Undone.{undoes_flag, undoes_argument, undoes_choice, undoes_fallback, undoes_other}
 use Rattle.eval_shortcut.proofs.undoes.Goals as goal
@@ -7,17 +10,17 @@ use Rattle.eval_shortcut.proofs.undoes.Goals as goal
 pub node_at-x-requires : goal.node_at-x-requires
 node_at-x-requires c = (form_good_lem _ _ _ c.requires.node, node_inside _ _ _ c.requires.node)
 
-pub returns-in-1 : goal.returns-in-1
-returns-in-1 c = undoes_flag _ _ _ c.node_at-x.ensures c.in-1.is
+pub returns-in-Flag : goal.returns-in-Flag
+returns-in-Flag c =
+    ⊎_elim
+    (λ e. undoes_flag _ _ _ c.node_at-x.ensures (ap kind_number e))
+    (λ e. ⊎_elim (λ e. undoes_choice _ _ _ c.node_at-x.ensures (ap kind_number e)) (λ e. undoes_fallback _ _ _ c.node_at-x.ensures (ap kind_number e)) e)
+    c.in-Flag.is
 
-pub returns-in-2 : goal.returns-in-2
-returns-in-2 c = undoes_argument _ _ _ c.node_at-x.ensures c.in-2.is
-
-pub returns-in-9 : goal.returns-in-9
-returns-in-9 c = undoes_choice _ _ _ c.node_at-x.ensures c.in-9.is
-
-pub returns-in-10 : goal.returns-in-10
-returns-in-10 c = undoes_fallback _ _ _ c.node_at-x.ensures c.in-10.is
+pub returns-in-Argument : goal.returns-in-Argument
+returns-in-Argument c = undoes_argument _ _ _ c.node_at-x.ensures (ap kind_number c.in-Argument.is)
 
 pub returns-in_default : goal.returns-in_default
-returns-in_default c = undoes_other _ _ _ c.node_at-x.ensures (λ e. omega arith) (λ e. omega arith) (λ e. omega arith) (λ e. omega arith)
+returns-in_default c =
+    undoes_other _ _ _ c.node_at-x.ensures (not_kind _ 1 refl c.in_default.not-Flag) (not_kind _ 2 refl c.in_default.not-Argument)
+    (not_kind _ 9 refl c.in_default.not-Choice) (not_kind _ 10 refl c.in_default.not-Fallback)

@@ -1,6 +1,5 @@
 -- Invariant: the nodes from k on are still to be counted. Assumes nothing.
 use mathlib.Core.Path.{◌≡◌}
-use Prim.Native.Nat.{◌-◌}
 use lib.ListN.{drop}
 use Rattle.rules.specs.Form.{read_form}
 use Rattle.rules.specs.Base.{concat_map}
@@ -10,6 +9,3 @@ use Rattle.form_check.proofs.count_children.Given as goal
 
 abbrev pub invariant-loop-k : goal.invariant-loop-k
 invariant-loop-k l = tally l.initial.counts (concat_map children_of (read_form l.b).nodes) ≡ tally l.counts (concat_map children_of (drop l.k (read_form l.b).nodes))
-
-abbrev pub decreases-loop-k : goal.decreases-loop-k
-decreases-loop-k l = l.n - l.k

@@ -1,6 +1,5 @@
 use native.Mathlib.Omega.{arith}
 use mathlib.Core.Path.{refl}
-use Prim.Native.Nat.{◌-◌}
 use Rattle.form_check.proofs.Counting.{fields_next, fields_bad, fields_last}
 use Rattle.form_layout.proofs.Sizes.{sized, fields_length}
 use Rattle.form_check.proofs.count_fields.Goals as goal
@@ -19,9 +18,6 @@ returns-then-n-k c = fields_bad _ _ _ _ _ c.loop-i.invariant _ c.field_at-k.ensu
 
 pub add-requires : goal.add-requires
 add-requires c = omega (arith, c.if-n-k.false, c.requires.1)
-
-pub overflow_add-i : goal.overflow_add-i
-overflow_add-i c = omega (arith, c.field_count-f.ensures, sized _ c.requires.0)
 
 pub loop-i-preserved : goal.loop-i-preserved
 loop-i-preserved c = fields_next _ _ _ _ _ c.loop-i.invariant _ _ c.field_at-k.ensures c.if-n-k.false c.add.ensures

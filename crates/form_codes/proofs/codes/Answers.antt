@@ -1,4 +1,3 @@
-use Prim.Native.Nat.{◌-◌}
 use Rattle.form_layout.proofs.Sizes.{names_long}
 use Rattle.form_codes.proofs.NameCodes.{filling_first, filling_next, filling_last}
 use Rattle.form_codes.proofs.codes.Goals as goal

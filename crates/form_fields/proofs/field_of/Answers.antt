@@ -1,4 +1,3 @@
-use Prim.Native.Nat.{◌-◌}
 use borrow.Author.Rules.{rules}
 use Rattle.form_layout.proofs.Sizes.{sized}
 use Rattle.form_fields.proofs.Owners.{field_first, field_found, field_next, field_last}

@@ -1,5 +1,3 @@
-use native.Mathlib.Omega.{arith}
-use Prim.Native.Nat.{◌-◌}
 use Rattle.form_fields.proofs.Given.{passing_first, passing_bad, passing_next, passing_last}
 use Rattle.form_layout.proofs.Sizes.{sized, has_name}
 use Rattle.std.proofs.Math.Path.{ap}
@@ -17,9 +15,6 @@ portable_at-requires c = has_name _ c.requires _ _ c.name_count-m.ensures c.loop
 
 pub returns-then-not-portable_at : goal.returns-then-not-portable_at
 returns-then-not-portable_at c = passing_bad _ _ _ c.name_count-m.ensures c.loop-k.invariant c.loop-k-test.true _ c.portable_at.ensures (ap not c.if-not-portable_at.true)
-
-pub overflow_add-k : goal.overflow_add-k
-overflow_add-k c = omega (arith, c.name_count-m.ensures, sized _ c.requires.good)
 
 pub loop-k-preserved : goal.loop-k-preserved
 loop-k-preserved c = passing_next _ _ _ c.name_count-m.ensures c.loop-k.invariant c.loop-k-test.true _ c.portable_at.ensures (ap not c.if-not-portable_at.false)

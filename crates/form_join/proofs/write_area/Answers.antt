@@ -8,11 +8,11 @@ use Rattle.form_join.proofs.write_area.Goals as goal
 pub area_at-start-requires : goal.area_at-start-requires
 area_at-start-requires c = search length_counts
 
-pub slice_bounds-put-count : goal.slice_bounds-put-count
-slice_bounds-put-count c = search (area_start_lem, rules)
+pub slice_bounds-copy-count : goal.slice_bounds-copy-count
+slice_bounds-copy-count c = search (area_start_lem, rules)
 
-pub slice_bounds-put-start : goal.slice_bounds-put-start
-slice_bounds-put-start c = search area_start_lem
+pub slice_bounds-copy-start : goal.slice_bounds-copy-start
+slice_bounds-copy-start c = search area_start_lem
 
 pub area_length-requires : goal.area_length-requires
 area_length-requires c = search good_eight

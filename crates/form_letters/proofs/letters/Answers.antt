@@ -1,4 +1,3 @@
-use Prim.Native.Nat.{◌-◌}
 use borrow.Author.Rules.{rules}
 use Rattle.form_layout.proofs.Sizes.{names_long}
 use Rattle.form_letters.proofs.Words.{written_first, written_next, written_last, flag_wanted, argument_wanted}

@@ -1,10 +1,6 @@
 -- Invariant: the letters of the records below k are written. Assumes nothing.
-use Prim.Native.Nat.{◌-◌}
 use Rattle.form_letters.proofs.Words.{Written}
 use Rattle.form_letters.proofs.letters.Given as goal
 
 abbrev pub invariant-loop-k : goal.invariant-loop-k
 invariant-loop-k l = Written l.form 1 l.initial.flags l.flags l.flag_count l.k × Written l.form 2 l.initial.arguments l.arguments l.argument_count l.k
-
-abbrev pub decreases-loop-k : goal.decreases-loop-k
-decreases-loop-k l = l.count - l.k

@@ -1,4 +1,3 @@
-use Prim.Native.Nat.{◌-◌}
 use native.Mathlib.Omega.{arith}
 use Rattle.form_letters.proofs.Tables.{marking_first, marking_next, marking_last}
 use Rattle.form_letters.proofs.mark.Goals as goal

@@ -1,4 +1,3 @@
-use Prim.Native.Nat.{◌-◌}
 use Rattle.form_layout.proofs.Sizes.{sized}
 use Rattle.form_letters.proofs.Tables.{noting_first, noting_next, noting_last}
 use Rattle.form_letters.proofs.mark_nodes.Goals as goal

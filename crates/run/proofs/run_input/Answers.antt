@@ -1,9 +1,15 @@
 use mathlib.Core.Path.{refl}
+use Rattle.rules.proofs.ReportedLaws.{numbered}
 use Rattle.run.proofs.Runs.{input_refused, unmarked_answer}
 use Rattle.run.proofs.run_input.Goals as goal
 
-pub returns-then-tested-ne0 : goal.returns-then-tested-ne0
-returns-then-tested-ne0 c = input_refused _ _ _ _ _ _ c.input_fault-tested.ensures c.if-tested-ne0.true _ (unmarked_answer _ c.refused_input.result _ _ _ _ c.requires c.refused_input.ensures)
-
 pub run_checked-requires : goal.run_checked-requires
-run_checked-requires c = (c.input_fault-tested.ensures.good c.if-tested-ne0.false _ _ _ refl refl refl, c.requires)
+run_checked-requires c = (c.in-Ok.ensures.good refl _ _ _ refl refl refl, c.requires)
+
+pub refused_input-requires : goal.refused_input-requires
+refused_input-requires c = c.in-Err.ensures.small
+
+pub returns-in-Err : goal.returns-in-Err
+returns-in-Err c =
+    input_refused _ _ _ _ _ _ c.in-Err.ensures (numbered c.in-Err.fault.refusal) _
+    (unmarked_answer _ c.refused_input.result _ _ _ _ c.requires c.refused_input.ensures)

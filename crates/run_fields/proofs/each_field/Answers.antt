@@ -1,6 +1,5 @@
-use Prim.Native.Nat.{◌-◌}
 use Rattle.run_fields.proofs.Going.{starts_long, going_first, field_good, field_inside, going_number, going_sum, going_field, going_tries}
-use Rattle.run_fields.proofs.Going.{going_at, going_step, going_most, going_long, long_refused, going_refused, going_next, going_end}
+use Rattle.run_fields.proofs.Going.{going_at, going_most, going_long, long_refused, going_refused, going_next, going_end}
 use Rattle.run_fields.proofs.each_field.Goals as goal
 
 pub field_count-n-requires : goal.field_count-n-requires
@@ -36,9 +35,6 @@ returns-then-ran-ne0 c =
 
 pub overflow_add-at : goal.overflow_add-at
 overflow_add-at c = record { fits = search going_at }
-
-pub overflow_add-k : goal.overflow_add-k
-overflow_add-k c = record { fits = search going_step }
 
 pub loop-k-preserved : goal.loop-k-preserved
 loop-k-preserved c = search going_next

@@ -1,18 +1,19 @@
-use Prim.Native.Nat.{◌-◌}
-use Rattle.short_check.proofs.Legal.{bytes_first, argument_long, byte_other, bytes_legal, byte_legal}
+use mathlib.Core.Path.{◌≡◌}
+use borrow.Author.Rules.{rules}
+use borrow.Author.Tests.{tests}
+use lib.Dec.{eqb}
+use Rattle.std.specs.List.{list_all, list_any}
+use Rattle.std.proofs.lemmas.Iterator.{YieldsList-from_slice}
+use Rattle.std.proofs.lemmas.Iterator.Search.{all_from_yields_List}
+use Rattle.short_check.proofs.Legal.{argument_long, argument_letters}
 use Rattle.short_check.proofs.argument_legal.Goals as goal
 
-pub returns-then-argument-gt-ARGUMENT : goal.returns-then-argument-gt-ARGUMENT
-returns-then-argument-gt-ARGUMENT c = search argument_long
+pub returns-then-argument-le-ARGUMENT : goal.returns-then-argument-le-ARGUMENT
+returns-then-argument-le-ARGUMENT c =
+    let letters : c.all.result ≡ list_all (λ x. list_any (λ y. eqb y x) c.args.alphabet.now) c.args.argument.now =
+    all_from_yields_List (λ x. list_any (λ y. eqb y x) c.args.alphabet.now) _ _ c.all.result c.all.ensures.ran (YieldsList-from_slice c.args.argument.now cc)
+    (λ x b q k. search (rules, tests)) in
+    argument_letters _ _ _ c.if-argument-le-ARGUMENT.true letters
 
-pub loop-i-init : goal.loop-i-init
-loop-i-init c = search bytes_first
-
-pub returns-then-place_of-alphabet : goal.returns-then-place_of-alphabet
-returns-then-place_of-alphabet c = search byte_other
-
-pub loop-i-preserved : goal.loop-i-preserved
-loop-i-preserved c = byte_legal _ _ c.loop-i.i _ c.place_of.ensures c.if-place_of-alphabet.false c.loop-i.invariant c.loop-i-test.true
-
-pub returns : goal.returns
-returns c = search bytes_legal
+pub returns-else-argument-le-ARGUMENT : goal.returns-else-argument-le-ARGUMENT
+returns-else-argument-le-ARGUMENT c = search argument_long

@@ -1,15 +1,16 @@
-use Prim.Native.Nat.{◌-◌}
-use Rattle.short_check.proofs.Letters.{sought_first, sought_here, sought_next, sought_end}
+use mathlib.Core.Path.{◌≡◌}
+use borrow.Author.Rules.{rules}
+use borrow.Author.Tests.{tests}
+use lib.Dec.{eqb}
+use Rattle.std.specs.Prelude.{position}
+use Rattle.std.proofs.lemmas.Iterator.{YieldsList-from_slice}
+use Rattle.std.proofs.lemmas.Iterator.Search.{position_from_yields_List}
+use Rattle.short_check.proofs.Letters.{place_found}
 use Rattle.short_check.proofs.place_of.Goals as goal
 
-pub loop-i-init : goal.loop-i-init
-loop-i-init c = search sought_first
-
-pub returns-then-alphabet-i : goal.returns-then-alphabet-i
-returns-then-alphabet-i c = search sought_here
-
-pub loop-i-preserved : goal.loop-i-preserved
-loop-i-preserved c = search sought_next
-
 pub returns : goal.returns
-returns c = search sought_end
+returns c =
+    let found : c.position.result ≡ position (λ y. eqb y c.args.x) c.args.alphabet.now =
+    position_from_yields_List (λ y. eqb y c.args.x) _ _ c.position.result c.position.ensures.ran (YieldsList-from_slice c.args.alphabet.now cc)
+    (λ x b q k. search (rules, tests)) in
+    place_found _ _ _ _ found c.unwrap_or.ensures

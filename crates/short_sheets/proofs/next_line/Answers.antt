@@ -8,8 +8,8 @@ count-count-requires c = search line_made
 pub begin-size-requires : goal.begin-size-requires
 begin-size-requires c = search has_offset
 
-pub narrow-requires : goal.narrow-requires
-narrow-requires c = search base_narrow
+pub overflow_cast-alphabet : goal.overflow_cast-alphabet
+overflow_cast-alphabet c = record { fits = search base_narrow }
 
 pub count_line-requires : goal.count_line-requires
 count_line-requires c = search can_count

@@ -1,4 +1,3 @@
-use Prim.Native.Nat.{◌-◌}
 use Rattle.wire.proofs.Stores.{stored_first}
 use Rattle.short_sheets.proofs.Reading.{place_narrow, place_stored, places_stored}
 use Rattle.short_sheets.proofs.read_places.Goals as goal
@@ -6,8 +5,8 @@ use Rattle.short_sheets.proofs.read_places.Goals as goal
 pub loop-i-init : goal.loop-i-init
 loop-i-init c = search stored_first
 
-pub narrow-requires : goal.narrow-requires
-narrow-requires c = search place_narrow
+pub overflow_cast-places : goal.overflow_cast-places
+overflow_cast-places c = record { fits = search place_narrow }
 
 pub loop-i-preserved : goal.loop-i-preserved
 loop-i-preserved c = search place_stored

@@ -1,6 +1,5 @@
 use mathlib.Core.Path.{refl}
 use mathlib.Core.Logic.{inl}
-use Prim.Native.Nat.{◌-◌}
 use native.Mathlib.Omega.{arith}
 use Rattle.short_sheets.proofs.Writing.{written_first, sheet_fits, begun_length, argument_small, argument_within, argument_fits, written_next, written_last}
 use Rattle.short_sheets.proofs.write_sheet.Goals as goal
@@ -12,7 +11,7 @@ pub loop-k-init : goal.loop-k-init
 loop-k-init c = written_first _ _ _ c.requires _ c.begin_sheet.ensures
 
 pub overflow_add-end : goal.overflow_add-end
-overflow_add-end c = omega (arith, argument_small _ _ _ _ c.loop-k.at c.loop-k.k c.loop-k.invariant c.loop-k-test.true _ c.wide.ensures)
+overflow_add-end c = omega (arith, argument_small _ _ _ _ c.loop-k.at c.loop-k.k c.loop-k.invariant c.loop-k-test.true _ c.from.ensures)
 
 pub slice_bounds-put_argument-end : goal.slice_bounds-put_argument-end
 slice_bounds-put_argument-end c = search argument_within

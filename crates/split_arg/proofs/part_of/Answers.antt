@@ -1,12 +1,12 @@
 -- By the test. Assumes nothing.
-use borrow.Author.Tests.{eq-eqb, ne_eqb}
+use borrow.Author.Tests.{ne_eqb}
 use Rattle.split_arg.specs.Items.{part_of}
 use Rattle.split_arg.proofs.part_of.Goals as goal
 
 pub returns-then-length-eq0 : goal.returns-then-length-eq0
 unfolding part_of
-returns-then-length-eq0 c = rw (eq-eqb _ _ c.if-length-eq0.true)
+returns-then-length-eq0 c = rw c.if-length-eq0.true
 
-pub returns : goal.returns
+pub returns-else-length-eq0 : goal.returns-else-length-eq0
 unfolding part_of
-returns c = rw (ne_eqb _ _ c.if-length-eq0.false)
+returns-else-length-eq0 c = rw (ne_eqb _ _ c.if-length-eq0.false)

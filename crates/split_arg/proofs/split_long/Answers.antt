@@ -19,17 +19,14 @@ slice_bounds-valid-end c = omega (arith, equals_least _ c.requires _ c.find_equa
 pub returns-then-not-valid : goal.returns-then-not-valid
 returns-then-not-valid c = long_bad _ c.requires _ c.find_equals-end.ensures c.if-os-eq2.false (sym c.valid.ensures ∙ c.if-not-valid.true)
 
-pub overflow_sub-result : goal.overflow_sub-result
-overflow_sub-result c = omega (arith, equals_least _ c.requires _ c.find_equals-end.ensures, equals_most _ c.requires _ c.find_equals-end.ensures)
-
 pub returns-then-end-os : goal.returns-then-end-os
 returns-then-end-os c = long_whole _ c.requires _ c.find_equals-end.ensures c.if-os-eq2.false c.if-end-os.true (sym c.valid.ensures ∙ c.if-not-valid.false)
 
-pub overflow_sub-result-2 : goal.overflow_sub-result-2
-overflow_sub-result-2 c = omega (arith, equals_least _ c.requires _ c.find_equals-end.ensures, equals_most _ c.requires _ c.find_equals-end.ensures)
+pub overflow_sub-name : goal.overflow_sub-name
+overflow_sub-name c = omega (arith, equals_least _ c.requires _ c.find_equals-end.ensures, equals_most _ c.requires _ c.find_equals-end.ensures)
 
-pub overflow_add-result : goal.overflow_add-result
-overflow_add-result c = omega (arith, equals_least _ c.requires _ c.find_equals-end.ensures, equals_most _ c.requires _ c.find_equals-end.ensures)
+pub overflow_add-body : goal.overflow_add-body
+overflow_add-body c = omega (arith, equals_least _ c.requires _ c.find_equals-end.ensures, equals_most _ c.requires _ c.find_equals-end.ensures)
 
 pub returns : goal.returns
 returns c = long_value _ c.requires _ c.find_equals-end.ensures c.if-os-eq2.false c.if-end-os.false (sym c.valid.ensures ∙ c.if-not-valid.false)

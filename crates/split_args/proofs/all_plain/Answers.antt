@@ -1,5 +1,4 @@
 use mathlib.Core.Path.{refl}
-use Prim.Native.Nat.{◌-◌}
 use native.Mathlib.Omega.{arith}
 use Rattle.split_args.proofs.Sheets.{good_sheet}
 use Rattle.split_args.proofs.Lines.{count_is}
@@ -12,8 +11,8 @@ u16_at-n-requires c = omega (arith, (good_sheet _ c.requires).two)
 pub loop-k-init : goal.loop-k-init
 loop-k-init c = record { same = refl; count = count_is _ _ c.u16_at-n.ensures }
 
-pub entry-os-requires : goal.entry-os-requires
-entry-os-requires c = search (plain_entry, good_sheet)
+pub entry-requires : goal.entry-requires
+entry-requires c = search (plain_entry, good_sheet)
 
 pub returns-then-not-is_plain : goal.returns-then-not-is_plain
 returns-then-not-is_plain c = search (plain_not, good_sheet)

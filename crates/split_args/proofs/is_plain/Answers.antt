@@ -2,11 +2,11 @@
 use Rattle.split_args.proofs.Plain.{plain_short, plain_word, plain_dashed}
 use Rattle.split_args.proofs.is_plain.Goals as goal
 
-pub returns-then-os-lt3 : goal.returns-then-os-lt3
-returns-then-os-lt3 c = search plain_short
+pub returns-in-45 : goal.returns-in-45
+returns-in-45 c = search plain_dashed
 
-pub returns-then-os-ne45 : goal.returns-then-os-ne45
-returns-then-os-ne45 c = search plain_word
+pub returns-in_default : goal.returns-in_default
+returns-in_default c = search (plain_short, plain_word)
 
-pub returns : goal.returns
-returns c = search plain_dashed
+pub returns-in_default-2 : goal.returns-in_default-2
+returns-in_default-2 c = search (plain_short, plain_word)

@@ -1,13 +1,9 @@
 -- Invariant: the first k arguments are split and written, and what is left decides (`Lines`). Assumes nothing.
 use mathlib.Core.Path.{◌≡◌}
-use Prim.Native.Nat.{◌-◌}
 use Rattle.rules.specs.Sheet.{argument_count}
-use Rattle.split_arg.specs.Clusters.{letters}
+use Rattle.split_arg.specs.Clusters.{meaning}
 use Rattle.split_args.proofs.Lines.{SplitSoFar}
 use Rattle.split_args.proofs.split_arguments.Given as goal
 
 abbrev pub invariant-loop-k : goal.invariant-loop-k
-invariant-loop-k l = SplitSoFar (letters l.flags l.arguments) l.sheet l.initial.items l.items l.k l.at l.marker × (l.n ≡ argument_count l.sheet)
-
-abbrev pub decreases-loop-k : goal.decreases-loop-k
-decreases-loop-k l = l.n - l.k
+invariant-loop-k l = SplitSoFar (meaning l.letters) l.sheet l.initial.items l.items l.k l.at l.marker × (l.n ≡ argument_count l.sheet)

@@ -6,37 +6,39 @@ use Rattle.split_group.proofs.Groups.{no_name, short_name_lem, short_value_name,
 use Rattle.split_group.proofs.split_argument.Goals as goal
 
 pub split_cluster-requires : goal.split_cluster-requires
-split_cluster-requires c = (search cluster_in, search rules)
+split_cluster-requires c = let found = rw c.in-Some-Short.field-0-is at c.in-Some-Short.is in (search cluster_in, search rules)
 
 pub split_value-requires : goal.split_value-requires
-split_value-requires c = search value_in
+split_value-requires c = let found = rw c.in-Some-ShortBody.field-0-is at c.in-Some-ShortBody.is in search value_in
 
 pub overflow_add-name : goal.overflow_add-name
-overflow_add-name c = record { fits = search long_fits }
+overflow_add-name c = let found = rw c.in-Some-Long.field-0-is at c.in-Some-Long.is in record { fits = search long_fits }
 
 pub text-long-requires : goal.text-long-requires
-text-long-requires c = (search long_inside, omega arith)
+text-long-requires c = let found = rw c.in-Some-Long.field-0-is at c.in-Some-Long.is in (search long_inside, omega arith)
 
-pub overflow_add-name-in-LongBody : goal.overflow_add-name-in-LongBody
-overflow_add-name-in-LongBody c = record { fits = search named_fits }
+pub overflow_add-name-in-Some-LongBody : goal.overflow_add-name-in-Some-LongBody
+overflow_add-name-in-Some-LongBody c =
+    let found = rw c.in-Some-LongBody.field-0-is at c.in-Some-LongBody.is in record { fits = search named_fits }
 
-pub text-long-requires-in-LongBody : goal.text-long-requires-in-LongBody
-text-long-requires-in-LongBody c = (search named_inside, omega arith)
+pub text-long-requires-in-Some-LongBody : goal.text-long-requires-in-Some-LongBody
+text-long-requires-in-Some-LongBody c =
+    let found = rw c.in-Some-LongBody.field-0-is at c.in-Some-LongBody.is in (search named_inside, omega arith)
 
 pub text-value-requires : goal.text-value-requires
-text-value-requires c = search (value_inside, rules)
+text-value-requires c = let found = rw c.in-Some-LongBody.field-0-is at c.in-Some-LongBody.is in search (value_inside, rules)
 
 pub returns-in-None : goal.returns-in-None
 returns-in-None c = search no_name
 
-pub returns-in-Short : goal.returns-in-Short
-returns-in-Short c = search short_name_lem
+pub returns-in-Some-Short : goal.returns-in-Some-Short
+returns-in-Some-Short c = let found = rw c.in-Some-Short.field-0-is at c.in-Some-Short.is in search short_name_lem
 
-pub returns-in-ShortBody : goal.returns-in-ShortBody
-returns-in-ShortBody c = search short_value_name
+pub returns-in-Some-ShortBody : goal.returns-in-Some-ShortBody
+returns-in-Some-ShortBody c = let found = rw c.in-Some-ShortBody.field-0-is at c.in-Some-ShortBody.is in search short_value_name
 
-pub returns-in-Long : goal.returns-in-Long
-returns-in-Long c = search a_long
+pub returns-in-Some-Long : goal.returns-in-Some-Long
+returns-in-Some-Long c = let found = rw c.in-Some-Long.field-0-is at c.in-Some-Long.is in search a_long
 
-pub returns-in-LongBody : goal.returns-in-LongBody
-returns-in-LongBody c = search a_long_value
+pub returns-in-Some-LongBody : goal.returns-in-Some-LongBody
+returns-in-Some-LongBody c = let found = rw c.in-Some-LongBody.field-0-is at c.in-Some-LongBody.is in search a_long_value

@@ -1,6 +1,6 @@
 -- By the outcome of the cluster (`Groups`). Assumes nothing.
 use borrow.Author.Rules.{rules}
-use Rattle.split_group.proofs.Groups.{name_good_lem, tail_all, flags_all, flags_argument, flags_ambiguous, rest_within, rest_fits, count_fits}
+use Rattle.split_group.proofs.Groups.{name_good_lem, tail_all, flags_all, flags_argument, flags_ambiguous, rest_within, rest_fits}
 use Rattle.split_group.proofs.Groups.{one_letter, unknown_letter_lem, all_flags_lem, ambiguous_letter_lem, argument_alone, argument_rest}
 use Rattle.split_group.proofs.split_cluster.Goals as goal
 
@@ -27,9 +27,6 @@ text-requires c = search (rest_within, tail_all)
 
 pub put_flags_two-requires : goal.put_flags_two-requires
 put_flags_two-requires c = search (flags_argument, tail_all)
-
-pub overflow_add-before : goal.overflow_add-before
-overflow_add-before c = record { fits = search (count_fits, tail_all) }
 
 pub put_flags_one-requires-in-Ambiguous : goal.put_flags_one-requires-in-Ambiguous
 put_flags_one-requires-in-Ambiguous c = search (flags_ambiguous, tail_all)

@@ -8,5 +8,5 @@ returns-in_default c = λ l. letter_known _ _ _ _ c.requires (sym c.decode_at.en
 
 pub returns : goal.returns
 returns c =
-    a_value c.args.os.now c.args.begin c.args.at c.args.items.now _ _ _ c.text-whole.ensures c.args.body _ _ _ c.text-value.ensures c.requires.within
-    (sym c.decode_at.ensures ∙ c.in-Char.is) c.put_two.ensures
+    a_value c.args.os.now c.args.begin c.args.at c.args.items.now _ _ _ c.text-whole.ensures c.args.body _ _ c.text-value.ensures c.requires.within
+    (sym c.decode_at.ensures ∙ c.in-Some.is) c.put_two.ensures

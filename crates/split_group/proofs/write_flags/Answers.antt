@@ -1,5 +1,4 @@
 use mathlib.Core.Path.{sym, ◌∙◌}
-use Prim.Native.Nat.{◌-◌}
 use native.Mathlib.Omega.{arith}
 use Rattle.utf8.specs.Laws.{character}
 use Rattle.split_group.proofs.Flags.{wrote_none, wrote_more, wrote_all, letter_there}
@@ -18,10 +17,10 @@ pub store_item-requires : goal.store_item-requires
 store_item-requires c = omega (arith, c.requires.1)
 
 pub overflow_add-place : goal.overflow_add-place
-overflow_add-place c = omega (arith, character _ _ _ _ (sym c.letter_at.ensures ∙ c.in-Char.is))
+overflow_add-place c = omega (arith, character _ _ _ (sym c.letter_at.ensures ∙ c.in-Some.is))
 
 pub loop-k-preserved : goal.loop-k-preserved
-loop-k-preserved c = wrote_more _ _ _ _ _ _ _ _ _ c.loop-k.invariant _ _ _ (sym c.letter_at.ensures ∙ c.in-Char.is) c.loop-k-test.true c.store_item.ensures
+loop-k-preserved c = wrote_more _ _ _ _ _ _ _ _ _ c.loop-k.invariant _ _ (sym c.letter_at.ensures ∙ c.in-Some.is) c.loop-k-test.true c.store_item.ensures
 
 pub returns : goal.returns
 returns c = wrote_all _ _ _ _ _ _ _ _ _ c.loop-k.invariant c.loop-k-test.false

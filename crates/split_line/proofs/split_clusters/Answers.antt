@@ -6,11 +6,11 @@ use Rattle.split_line.proofs.split_clusters.Goals as goal
 pub letters-counts-requires : goal.letters-counts-requires
 letters-counts-requires c = search splittable_names
 
-pub slice_bounds-construct-end : goal.slice_bounds-construct-end
-slice_bounds-construct-end c = search (letters_fit, splittable_names, rules)
+pub slice_bounds-letters-end : goal.slice_bounds-letters-end
+slice_bounds-letters-end c = search (letters_fit, splittable_names, rules)
 
-pub slice_bounds-construct-end-2 : goal.slice_bounds-construct-end-2
-slice_bounds-construct-end-2 c = search (letters_fit, splittable_names, rules)
+pub slice_bounds-letters-end-2 : goal.slice_bounds-letters-end-2
+slice_bounds-letters-end-2 c = search (letters_fit, splittable_names, rules)
 
 pub construct-requires : goal.construct-requires
 construct-requires c = (search rules, search scanned_letters)

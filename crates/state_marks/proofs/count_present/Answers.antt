@@ -1,4 +1,3 @@
-use Prim.Native.Nat.{◌-◌}
 use Rattle.state_marks.proofs.Marks.{counting_first, counting_more, counting_next, counting_last}
 use Rattle.state_marks.proofs.count_present.Goals.{then-is_present, else-is_present}
 use Rattle.state_marks.proofs.count_present.Goals as goal

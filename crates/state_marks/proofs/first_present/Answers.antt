@@ -1,15 +1,8 @@
-use Prim.Native.Nat.{◌-◌}
-use Rattle.state_marks.proofs.Marks.{searched_first, searched_next, searched_hit, searched_end}
+use mathlib.Core.Bool.{false, true, false≢true}
+use mathlib.Core.Path.{◌≡◌}
+use Rattle.std.proofs.Common.{rules}
+use Rattle.state_marks.proofs.Marks.{first_of_all}
 use Rattle.state_marks.proofs.first_present.Goals as goal
 
-pub loop-i-init : goal.loop-i-init
-loop-i-init c = search searched_first
-
-pub returns-then-is_present : goal.returns-then-is_present
-returns-then-is_present c = search searched_hit
-
-pub loop-i-preserved : goal.loop-i-preserved
-loop-i-preserved c = search searched_next
-
 pub returns : goal.returns
-returns c = search searched_end
+returns c = first_of_all _ _ _ _ c.requires.1 _ c.first_where.ensures (λ k s. let e : false ≡ true = search rules in false≢true e)

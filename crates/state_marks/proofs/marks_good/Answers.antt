@@ -1,17 +1,14 @@
-use mathlib.Core.Path.{refl}
-use Prim.Native.Nat.{◌-◌}
-use borrow.Author.Rules.{rules}
-use Rattle.state_marks.proofs.Marks.{part_next, part_fails, part_last}
+-- The library's test of all. Assumes nothing.
+use mathlib.Core.Path.{◌∙◌}
+use Rattle.std.proofs.Common.{rules, tests}
+use Rattle.std.proofs.lemmas.Iterator.{YieldsList-from_slice}
+use Rattle.std.proofs.lemmas.Iterator.Search.{all_from_yields_List}
+use Rattle.rules.specs.State.{used_below, mark_good}
+use Rattle.state_marks.proofs.Marks.{all_is}
 use Rattle.state_marks.proofs.marks_good.Goals as goal
 
-pub loop-i-init : goal.loop-i-init
-loop-i-init c = (search rules, record { same = refl })
-
-pub returns-then-not-mark_good : goal.returns-then-not-mark_good
-returns-then-not-mark_good c = search part_fails
-
-pub loop-i-preserved : goal.loop-i-preserved
-loop-i-preserved c = (search rules, search part_next)
-
 pub returns : goal.returns
-returns c = search part_last
+returns c =
+    all_from_yields_List (mark_good (used_below c.args.fields) c.args.count) _ _ _ c.all.ensures.ran (YieldsList-from_slice c.args.marks.now cc)
+    (λ x b q k. search (rules, tests))
+    ∙ all_is _ _

@@ -1,11 +1,7 @@
 -- Invariant: up to i the two agree. Assumes nothing.
 -- cN is the place N before c.
-use Prim.Native.Nat.{◌-◌}
 use Rattle.state_marks.proofs.Marks.{Picking}
 use Rattle.state_marks.proofs.pick_winner.Given as goal
 
 abbrev pub invariant-loop-i : goal.invariant-loop-i
 invariant-loop-i l = Picking l.a l.b l.count l.i
-
-abbrev pub decreases-loop-i : goal.decreases-loop-i
-decreases-loop-i l = l.count - l.i

@@ -1,4 +1,3 @@
-use Prim.Native.Nat.{◌-◌}
 use Rattle.state_marks.proofs.Marks.{saving_from, saving_next, saving_last}
 use Rattle.state_marks.proofs.save_conflicts.Goals as goal
 

@@ -1,11 +1,7 @@
 -- Invariant: the first i marks are those of `conflicts`, the others as they were. It begins where blocks of the same marks end.
 -- Assumes nothing.
-use Prim.Native.Nat.{◌-◌}
 use Rattle.state_marks.proofs.Marks.{Saving}
 use Rattle.state_marks.proofs.save_conflicts.Given as goal
 
 abbrev pub invariant-loop-i : goal.invariant-loop-i
 invariant-loop-i l = Saving l.initial.marks l.loser l.w l.count l.marks l.i
-
-abbrev pub decreases-loop-i : goal.decreases-loop-i
-decreases-loop-i l = l.count - l.i

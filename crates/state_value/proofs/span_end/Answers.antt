@@ -1,4 +1,3 @@
-use Prim.Native.Nat.{◌-◌}
 use Rattle.state_value.proofs.Loops.{spanning_first, spanning_next, spanning_used, spanning_last}
 use Rattle.state_value.proofs.span_end.Goals as goal
 

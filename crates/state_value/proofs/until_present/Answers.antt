@@ -1,17 +1,6 @@
-use Prim.Native.Nat.{◌-◌}
-use Rattle.state_value.proofs.Loops.{going_first, going_hit, going_ours, going_theirs, going_last}
+use Rattle.std.proofs.Common.{rules}
+use Rattle.state_value.proofs.Loops.{until_found}
 use Rattle.state_value.proofs.until_present.Goals as goal
-use Rattle.state_value.proofs.until_present.Goals.{then-is_present+else-is_present-2, else-is_present}
-
-pub loop-i-init : goal.loop-i-init
-loop-i-init c = search going_first
-
-pub returns-then-is_present-2 : goal.returns-then-is_present-2
-returns-then-is_present-2 c = search going_hit
-
-pub loop-i-preserved : goal.loop-i-preserved
-loop-i-preserved c =
-    elim c.if-is_present.branch [ then-is_present+else-is_present-2 w ↦ search going_theirs | else-is_present w ↦ search going_ours ]
 
 pub returns : goal.returns
-returns c = search going_last
+returns c = until_found _ _ _ c.requires.1 c.requires.2 _ _ _ c.first_where.ensures (λ k x s. search rules)

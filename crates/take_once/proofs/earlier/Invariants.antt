@@ -5,6 +5,3 @@ use Rattle.take_once.proofs.earlier.Given as goal
 
 abbrev pub invariant-loop-j : goal.invariant-loop-j
 invariant-loop-j l = Looking (sheet_area l.sheet) l.items l.place l.j
-
-abbrev pub decreases-loop-j : goal.decreases-loop-j
-decreases-loop-j l = l.j

@@ -11,4 +11,4 @@ pub part_bytes-requires : goal.part_bytes-requires
 part_bytes-requires c = long_part _ _ _ c.requires.0 _ c.read_item-item.ensures _ _ _ c.in-Long.is
 
 pub returns : goal.returns
-returns c y e = long_is _ _ _ c.read_item-item.ensures y e _ _ _ _ c.in-Long.is _ _ c.part_bytes.ensures c.part_bytes-2.ensures _ c.same_bytes.ensures
+returns c y e = long_is _ _ _ c.read_item-item.ensures y e _ _ _ _ c.in-Long.is _ _ c.part_bytes.ensures c.part_bytes-2.ensures _ c.eq.ensures

@@ -1,20 +1,16 @@
-use Prim.Native.Nat.{◌-◌}
 use native.Mathlib.Omega.{arith}
 use Rattle.form_layout.proofs.Sizes.{names_few}
 use Rattle.take_search.proofs.NameLaws.{scanning_first, scanning_next, scanning_hit, scanning_last}
 use Rattle.take_search.proofs.has_long.Goals as goal
 
-pub overflow_add-end : goal.overflow_add-end
-overflow_add-end c = record { fits = omega (arith, c.requires, names_few _ c.requires.0) }
+pub overflow_add-k-end : goal.overflow_add-k-end
+overflow_add-k-end c = record { fits = omega (arith, c.requires, names_few _ c.requires.0) }
 
 pub loop-k-init : goal.loop-k-init
 loop-k-init c = search scanning_first
 
 pub returns-then-is_long : goal.returns-then-is_long
 returns-then-is_long c = search scanning_hit
-
-pub overflow_add-k : goal.overflow_add-k
-overflow_add-k c = record { fits = omega (arith, c.loop-k-test.true, c.requires, names_few _ c.requires.0) }
 
 pub loop-k-preserved : goal.loop-k-preserved
 loop-k-preserved c = search scanning_next

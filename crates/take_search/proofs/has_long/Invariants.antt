@@ -1,10 +1,7 @@
 -- Invariant: what is left decides. Assumes nothing.
-use Prim.Native.Nat.{◌-◌}
+use Prim.Native.Nat.{◌+◌}
 use Rattle.take_search.proofs.NameLaws.{Scanning}
 use Rattle.take_search.proofs.has_long.Given as goal
 
 abbrev pub invariant-loop-k : goal.invariant-loop-k
-invariant-loop-k l = Scanning l.form l.name l.first l.count l.end l.k
-
-abbrev pub decreases-loop-k : goal.decreases-loop-k
-decreases-loop-k l = l.end - l.k
+invariant-loop-k l = Scanning l.form l.name l.first l.count (l.first + l.count) l.k

@@ -1,32 +1,17 @@
-use mathlib.Core.Path.{◌∙◌}
-use Prim.Native.Nat.{◌-◌}
-use Rattle.take_search.proofs.Search.{seeking_first, seeking_used, seeking_other, seeking_hit, seeking_last}
+use mathlib.Core.Path.{◌∙◌, ◌≡◌}
+use Rattle.std.proofs.Common.{rules}
+use lib.ListN.{get_or}
+use Prim.Native.Nat.{◌+◌}
+use Rattle.take_search.proofs.Search.{first_sought}
 use Rattle.take_table.proofs.Absent.{absent_sought}
-use Rattle.take_table.proofs.find.Goals.{then-is_present+else-has, else-is_present}
+use Rattle.take_table.specs.Bits.{bit_at}
 use Rattle.take_table.proofs.find.Goals as goal
 
 pub returns-then-is_absent : goal.returns-then-is_absent
 returns-then-is_absent c = absent_sought _ _ _ c.is_absent.ensures c.if-is_absent.true _ _ _ c.requires.1
 
-pub loop-i-init : goal.loop-i-init
-loop-i-init c = λ area words test s. search seeking_first
-
-pub returns-then-has : goal.returns-then-has
-returns-then-has c =
-    λ area words test s.
-    seeking_hit area words test _ _ _ _ (c.loop-i.invariant area words test s) c.loop-i-test.true c.requires.4 _ c.is_present.ensures c.if-is_present.true _
-    (λ x h. c.has.ensures ∙ s.at _ x c.loop-i-test.true h) c.if-has.true
-
-pub loop-i-preserved : goal.loop-i-preserved
-loop-i-preserved c =
-    λ area words test s.
-    let z = c.loop-i.invariant area words test s in
-    elim c.if-is_present.branch [
-      | then-is_present+else-has w ↦
-          seeking_other area words test _ _ _ _ z c.loop-i-test.true c.requires.4 _ c.is_present.ensures w.if-is_present.true _
-          (λ x h. w.has.ensures ∙ s.at _ x c.loop-i-test.true h) w.if-has.false
-      | else-is_present w ↦ seeking_used area words test _ _ _ _ z c.loop-i-test.true c.requires.4 _ c.is_present.ensures w.if-is_present.false
-    ]
-
 pub returns : goal.returns
-returns c = λ area words test s. seeking_last area words test _ _ _ _ (c.loop-i.invariant area words test s) c.loop-i-test.false
+returns c =
+    λ area words test t.
+    first_sought area words test _ _ c.requires.4 _ _ _ c.first_where.ensures
+    (λ i b h s x e. let z : b ≡ bit_at (get_or c.args.table.now (i + 1) 0) c.args.node = search rules in z ∙ t.at i x h e)

@@ -1,4 +1,3 @@
-use Prim.Native.Nat.{◌-◌}
 use borrow.Author.Rules.{rules}
 use Rattle.take_table.proofs.Lookups.{listing_first, listing_next, listing_last, item_there}
 use Rattle.take_table.proofs.known_by.Goals as goal

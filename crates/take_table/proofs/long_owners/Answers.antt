@@ -1,5 +1,4 @@
-use Prim.Native.Nat.{◌-◌}
-use Rattle.take_table.proofs.Lookups.{is_long, long_first, long_hit, long_miss, long_last}
+use Rattle.take_table.proofs.Lookups.{long_first, long_hit, long_miss, long_last}
 use Rattle.take_table.proofs.long_owners.Goals.{then-is_long, else-is_long}
 use Rattle.take_table.proofs.long_owners.Goals as goal
 

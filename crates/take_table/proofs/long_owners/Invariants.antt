@@ -1,10 +1,6 @@
 -- Invariant: what is left decides. Assumes nothing.
-use Prim.Native.Nat.{◌-◌}
 use Rattle.take_table.proofs.Lookups.{Gathering, is_long}
 use Rattle.take_table.proofs.long_owners.Given as goal
 
 abbrev pub invariant-loop-k : goal.invariant-loop-k
 invariant-loop-k l = Gathering l.form (is_long l.form l.name) l.set l.k
-
-abbrev pub decreases-loop-k : goal.decreases-loop-k
-decreases-loop-k l = l.count - l.k

@@ -1,12 +1,11 @@
 -- A node of another kind names nothing. Assumes nothing.
-use Rattle.take_table.proofs.Owners.{no_kind, no_names_lem, marked}
+use mathlib.Core.Path.{refl}
+use Rattle.form_layout.proofs.KindNumbers.{either, not_kind}
+use Rattle.take_table.proofs.Owners.{unmarked, marked}
 use Rattle.take_table.proofs.mark_node.Goals as goal
 
-pub returns-then-x-eq0 : goal.returns-then-x-eq0
-returns-then-x-eq0 c = search no_kind
+pub returns-in-Flag : goal.returns-in-Flag
+returns-in-Flag c = marked _ _ _ _ (either _ _ _ c.in-Flag.is) _ c.only.ensures _ c.names_end.ensures _ c.mark.ensures
 
-pub returns-then-x-gt2 : goal.returns-then-x-gt2
-returns-then-x-gt2 c = search no_names_lem
-
-pub returns : goal.returns
-returns c = search marked
+pub returns-in_default : goal.returns-in_default
+returns-in_default c = unmarked _ _ _ _ (not_kind _ 1 refl c.in_default.not-Flag) (not_kind _ 2 refl c.in_default.not-Argument)

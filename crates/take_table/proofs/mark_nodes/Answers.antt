@@ -1,4 +1,3 @@
-use Prim.Native.Nat.{◌-◌}
 use Rattle.form_layout.proofs.Sizes.{sized}
 use Rattle.take_table.proofs.Owners.{adding_first, adding_next, owners_made, loose_made}
 use Rattle.take_table.proofs.mark_nodes.Goals as goal

@@ -1,11 +1,7 @@
 -- Invariant: the sets have the owners among the first n nodes. Assumes nothing.
-use Prim.Native.Nat.{◌-◌}
 use lib.ListN.{length}
 use Rattle.take_table.proofs.Owners.{Adding}
 use Rattle.take_table.proofs.mark_nodes.Given as goal
 
 abbrev pub invariant-loop-n : goal.invariant-loop-n
 invariant-loop-n l = Adding l.form l.count (length l.initial.owners) l.owners l.loose l.n
-
-abbrev pub decreases-loop-n : goal.decreases-loop-n
-decreases-loop-n l = l.end - l.n

@@ -1,7 +1,6 @@
 use mathlib.Core.Path.{refl}
-use Prim.Native.Nat.{◌-◌}
 use Rattle.take_table.proofs.Lookups.{short_first, short_hit, short_miss, short_last}
-use Rattle.take_table.proofs.short_owners.Goals.{then-wide64-want, else-wide64-want}
+use Rattle.take_table.proofs.short_owners.Goals.{then-from-want, else-from-want}
 use Rattle.take_table.proofs.short_owners.Goals as goal
 
 pub loop-k-init : goal.loop-k-init
@@ -11,13 +10,13 @@ pub loop-k-preserved : goal.loop-k-preserved
 loop-k-preserved c =
     λ form loose q.
     let z = c.loop-k.invariant form loose q in
-    elim c.if-wide64-want.branch [
-      | then-wide64-want w ↦
+    elim c.if-from-want.branch [
+      | then-from-want w ↦
           rw w.set-is
-          (short_hit form _ _ _ loose q _ _ _ z c.loop-k-test.true _ _ _ c.wide64-want.ensures refl c.wide64.ensures w.if-wide64-want.true _ w.union-set.ensures)
-      | else-wide64-want w ↦
+          (short_hit form _ _ _ loose q _ _ _ z c.loop-k-test.true _ _ _ c.from-want.ensures refl c.from.ensures w.if-from-want.true _ w.union-set.ensures)
+      | else-from-want w ↦
           rw w.set-is
-          (short_miss form _ _ _ loose q _ _ _ z c.loop-k-test.true _ _ _ c.wide64-want.ensures refl c.wide64.ensures w.if-wide64-want.false)
+          (short_miss form _ _ _ loose q _ _ _ z c.loop-k-test.true _ _ _ c.from-want.ensures refl c.from.ensures w.if-from-want.false)
     ]
 
 pub returns : goal.returns

@@ -1,5 +1,4 @@
 use borrow.Author.Rules.{rules}
-use Prim.Native.Nat.{◌-◌}
 use Rattle.why_letter.proofs.Laws.{seeking_first, seeking_end, seeking_hit, seeking_next, letter_fits, seeking_less}
 use Rattle.why_letter.proofs.first_unknown.Goals as goal
 

@@ -25,11 +25,11 @@ letters-counts-requires c = (search explain_names, search rules)
 pub part_bytes-os-requires : goal.part_bytes-os-requires
 part_bytes-os-requires c = search word_part_lem
 
-pub slice_bounds-cluster_letter-end : goal.slice_bounds-cluster_letter-end
-slice_bounds-cluster_letter-end c = search (letters_fit, explain_names, rules)
+pub slice_bounds-letters-end : goal.slice_bounds-letters-end
+slice_bounds-letters-end c = search (letters_fit, explain_names, rules)
 
-pub slice_bounds-cluster_letter-end-2 : goal.slice_bounds-cluster_letter-end-2
-slice_bounds-cluster_letter-end-2 c = search (letters_fit, explain_names, rules)
+pub slice_bounds-letters-end-2 : goal.slice_bounds-letters-end-2
+slice_bounds-letters-end-2 c = search (letters_fit, explain_names, rules)
 
 pub returns : goal.returns
 returns c = search (unknown_word, buffers_told)

@@ -1,11 +1,10 @@
 use borrow.Author.Rules.{rules}
-use Prim.Native.Nat.{◌-◌}
 use Rattle.form_layout.proofs.Sizes.{node_below}
 use Rattle.why_names.proofs.Laws.{named_eight, unnamed_first, unnamed_next, unnamed_hit, unnamed_last}
 use Rattle.why_names.proofs.is_named.Goals as goal
 
-pub node_count-end-requires : goal.node_count-end-requires
-node_count-end-requires c = search named_eight
+pub node_count-n-end-requires : goal.node_count-n-end-requires
+node_count-n-end-requires c = search named_eight
 
 pub loop-n-init : goal.loop-n-init
 loop-n-init c = search unnamed_first

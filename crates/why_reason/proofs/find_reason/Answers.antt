@@ -6,8 +6,8 @@ use Rattle.why_reason.proofs.find_reason.Goals as goal
 pub earlier-earlier-requires : goal.earlier-earlier-requires
 earlier-earlier-requires c = search left_place_lem
 
-pub returns-then-winner-ne0 : goal.returns-then-winner-ne0
-returns-then-winner-ne0 c = search found_winner
+pub returns-in-Some : goal.returns-in-Some
+returns-in-Some c = search found_winner
 
 pub overflow_cast-earlier : goal.overflow_cast-earlier
 overflow_cast-earlier c = search (left_small, rules)

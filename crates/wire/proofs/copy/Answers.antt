@@ -1,12 +1,8 @@
-use Prim.Native.Nat.{◌-◌}
-use Rattle.wire.proofs.Stores.{stored_first, stored_next, stored_last}
+use Rattle.wire.proofs.Stores.{none_stored, part_stored}
 use Rattle.wire.proofs.copy.Goals as goal
 
-pub loop-i-init : goal.loop-i-init
-loop-i-init c = search stored_first
+pub returns-then-at-out : goal.returns-then-at-out
+returns-then-at-out g c = search part_stored
 
-pub loop-i-preserved : goal.loop-i-preserved
-loop-i-preserved c = search stored_next
-
-pub returns : goal.returns
-returns c = search stored_last
+pub returns-else-at-out : goal.returns-else-at-out
+returns-else-at-out g c = search none_stored

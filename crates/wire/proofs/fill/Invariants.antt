@@ -1,11 +1,7 @@
--- Invariant: the first i words are stored. Assumes nothing.
-use Prim.Native.Nat.{◌-◌}
-use lib.ListN.{replicate}
-use Rattle.wire.proofs.Stores.{Stored}
+-- Invariant: the first elements of the part are the value. Assumes nothing.
+use mathlib.Core.Path.{◌≡◌}
+use lib.ListN.{take, replicate}
 use Rattle.wire.proofs.fill.Given as goal
 
-abbrev pub invariant-loop-i : goal.invariant-loop-i
-invariant-loop-i l = Stored l.initial.out l.from (replicate l.count l.value) l.end l.out l.i
-
-abbrev pub decreases-loop-i : goal.decreases-loop-i
-decreases-loop-i l = l.end - l.i
+abbrev pub invariant-loop-x : goal.invariant-loop-x
+invariant-loop-x g l = take l.x-index l.x-items ≡ replicate l.x-index l.value

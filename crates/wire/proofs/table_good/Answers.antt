@@ -1,4 +1,4 @@
-use Prim.Native.Nat.{◌-◌, ◌+◌}
+use Prim.Native.Nat.{◌+◌}
 use native.Mathlib.Omega.{arith}
 use Rattle.wire.specs.Laws.{start_most, start_rises}
 use Rattle.wire.proofs.Tables.{risen_first, risen_next, too_short, first_bad, falls, last_test}

@@ -5,15 +5,15 @@ use Rattle.wire.specs.Laws.{number_bound, number_split}
 use Rattle.wire.proofs.u32_at.Goals as goal
 
 pub overflow_mul-result : goal.overflow_mul-result
-overflow_mul-result c = omega (arith, number_bound 2 c.args.b.now (c.args.i + 2) (λ k. omega (arith, c.shared_slice_known-1.given k)))
+overflow_mul-result c = omega (arith, number_bound 2 c.args.b.now (c.args.i + 2) (λ k. omega (arith, c.type_inv.b k)))
 
 pub overflow_add-result : goal.overflow_add-result
 overflow_add-result c =
     omega (
       arith,
-      number_bound 2 c.args.b.now c.args.i (λ k. omega (arith, c.shared_slice_known-1.given k)),
+      number_bound 2 c.args.b.now c.args.i (λ k. omega (arith, c.type_inv.b k)),
       number_bound 2 c.args.b.now
-          (c.args.i + 2) (λ k. omega (arith, c.shared_slice_known-1.given k)),
+          (c.args.i + 2) (λ k. omega (arith, c.type_inv.b k)),
     )
 
 pub returns : goal.returns

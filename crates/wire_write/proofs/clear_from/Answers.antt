@@ -1,13 +1,6 @@
-use Prim.Native.Nat.{◌-◌}
-use Rattle.wire.proofs.Stores.{stored_first}
-use Rattle.wire_write.proofs.Stores.{cleared_next, cleared_last}
+-- As many zeros as the slice has bytes reach its end. Assumes nothing.
+use Rattle.wire_write.proofs.Stores.{zeros_end}
 use Rattle.wire_write.proofs.clear_from.Goals as goal
 
-pub loop-i-init : goal.loop-i-init
-loop-i-init c = search stored_first
-
-pub loop-i-preserved : goal.loop-i-preserved
-loop-i-preserved c = search cleared_next
-
 pub returns : goal.returns
-returns c = search cleared_last
+returns c = search zeros_end

@@ -8,6 +8,6 @@ append-requires c = search number_fits
 
 pub returns : goal.returns
 returns c =
-    number_appends _ _ _ _ c.wide.ensures (search rules)
+    number_appends _ _ _ _ c.from.ensures (search rules)
     c.decimal-k.ensures.in_bounds c.decimal-k.ensures.len
     c.decimal-k.ensures.digits _ _ _ _ c.append.ensures

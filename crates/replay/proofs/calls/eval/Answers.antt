@@ -1,8 +1,8 @@
 -- The answer, then the answer slice. Assumes nothing.
 use Rattle.replay.proofs.calls.eval.Goals as goal
 
-pub returns : goal.returns
-returns c e =
+pub returns-then-answer_same : goal.returns-then-answer_same
+returns-then-answer_same c e =
     record {
       before = _;
       long = c.answer_slice-answers.ensures;
@@ -12,6 +12,6 @@ returns c e =
       answers = _;
       list = _;
       says = c.eval-ran.ensures;
-      same = c.answer_same.ensures c.if-not-answer_same.false;
+      same = c.answer_same.ensures c.if-answer_same.true;
       written = c.words_same.ensures e;
     }

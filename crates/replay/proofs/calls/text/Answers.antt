@@ -2,7 +2,7 @@
 use Rattle.replay.proofs.Told.{text_told}
 use Rattle.replay.proofs.calls.text.Goals as goal
 
-pub returns : goal.returns
-returns c e =
-    let same = c.words_same.ensures c.if-not-words_same.false in
+pub returns-then-words_same : goal.returns-then-words_same
+returns-then-words_same c e =
+    let same = c.words_same.ensures c.if-words_same.true in
     text_told _ _ _ _ _ _ _ _ _ c.text-part.ensures (c.same.ensures.0 e) same

@@ -6,10 +6,10 @@ use native.Mathlib.Omega.{arith}
 use Rattle.replay.proofs.cases.utf8.Goals as goal
 
 pub overflow_cast-told : goal.overflow_cast-told
-overflow_cast-told c = omega (arith, character _ _ _ _ (sym c.decode_at-first.ensures ∙ c.in-Char.is))
+overflow_cast-told c = omega (arith, character _ _ _ (sym c.decode_at-first.ensures ∙ c.in-Some.is))
 
-pub returns-in-Char : goal.returns-in-Char
-returns-in-Char c e = utf8_told _ _ _ c.valid.ensures _ c.flag-valid.ensures _ c.decode_at-first.ensures _ c.in-Char.is (c.words_same.ensures e)
+pub returns-in-Some : goal.returns-in-Some
+returns-in-Some c e = utf8_told _ _ _ c.valid.ensures _ c.flag-valid.ensures _ c.decode_at-first.ensures _ c.in-Some.is (c.words_same.ensures e)
 
-pub returns-in-Bad : goal.returns-in-Bad
-returns-in-Bad c e = utf8_told _ _ _ c.valid.ensures _ c.flag-valid.ensures _ c.decode_at-first.ensures _ c.in-Bad.is (c.words_same-in-Bad.ensures e)
+pub returns-in-None : goal.returns-in-None
+returns-in-None c e = utf8_told _ _ _ c.valid.ensures _ c.flag-valid.ensures _ c.decode_at-first.ensures _ c.in-None.is (c.words_same-in-None.ensures e)

@@ -9,24 +9,22 @@ use Rattle.replay.proofs.list.replay.Goals.{then-not-case_same, else-not-case_sa
 pub table_good-requires : goal.table_good-requires
 table_good-requires c =
     let small = number_bound 2 c.args.list.now 0 (λ i. omega (arith, c.type_inv.list i)) in
-    (inl refl, omega (arith, small, c.u16_at.ensures))
+    (inl refl, omega (arith, small, c.u16_at-count.ensures))
 
-pub loop-at-init : goal.loop-at-init
-loop-at-init c =
-    let small = number_bound 2 c.args.list.now 0 (λ i. omega (arith, c.type_inv.list i)) in
-    (omega arith, omega arith, omega arith, omega (arith, small, c.u16_at.ensures), λ z k l. absurd (omega arith))
+pub loop-k-init : goal.loop-k-init
+loop-k-init c = (omega arith, λ z k l. absurd (omega arith))
 
 pub case_same-requires : goal.case_same-requires
 case_same-requires c = record { good = sym c.table_good.ensures ∙ c.if-not-table_good.false; below = omega arith }
 
-pub loop-at-preserved : goal.loop-at-preserved
-loop-at-preserved c =
+pub loop-k-preserved : goal.loop-k-preserved
+loop-k-preserved c =
     elim c.if-not-case_same.branch [
-      | then-not-case_same w ↦ (omega arith, omega arith, omega arith, omega arith, λ z. absurd (omega arith))
+      | then-not-case_same w ↦ (omega arith, λ z. absurd (omega arith))
       | else-not-case_same w ↦
           let told = c.case_same.ensures w.if-not-case_same.false in
-          (omega arith, omega arith, omega arith, omega arith, λ z. case_more _ _ _ _ c.loop-at.invariant.0 (c.loop-at.invariant.4 (sym w.differ-is ∙ z)) told)
+          (omega arith, λ z. case_more _ _ _ _ refl (c.loop-k.invariant.1 (sym w.differ-is ∙ z)) told)
     ]
 
 pub returns : goal.returns
-returns c z k l = rw (← c.u16_at.ensures, ← c.size-count.ensures) (c.loop-at.invariant.4 z k l)
+returns c z k l = rw (← c.u16_at-count.ensures) (c.loop-k.invariant.1 z k (omega arith))

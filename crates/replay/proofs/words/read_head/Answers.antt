@@ -1,5 +1,4 @@
 -- Each number is a word. Assumes nothing.
-use mathlib.Core.Path.{◌∙◌}
 use Rattle.replay.specs.Words.{head_of}
 use Rattle.replay.proofs.words.read_head.Goals as goal
 
@@ -9,6 +8,6 @@ returns c =
     λ i. record {
       call = c.word_at.ensures i;
       word = c.word_at-word.ensures i;
-      m = (c.size.ensures ∙ c.word_at-word.ensures) i;
-      n = (c.size-2.ensures ∙ c.word_at-2.ensures) i;
+      m = c.word_at-word.ensures i;
+      n = c.word_at-2.ensures i;
     }
