@@ -10,7 +10,7 @@ ghost use Rattle.rules.specs.Accept.{length_good};
 ghost use Rattle.form_layout.specs.Kinds.{kind_number};
 ghost use Rattle.form_layout.specs.Layout.{node_of};
 ghost use Rattle.form_kinds.specs.Kinds.{named_good, flag_code, argument_code, positional_code, leaf_code, child_good, optional_code, repeat_code, wrap_code, choice_code, text_name, fallback_code, guard_code, inner_code};
-ghost use Rattle.form_kinds.specs.Known.{ChildKnown, Done, Filling};
+ghost use Rattle.form_kinds.specs.Known.{Done, Filling};
 
 use form_layout::Kind;
 
@@ -218,24 +218,8 @@ fn inner_code(b: &[u8], x: form_layout::Node, c: u8, d: u8) -> u8
     }
 }
 
-// The code of child p of node k, which is worked out first unless it is known; 0 if there is no such child.
-#[cycle(fill)]
-fn child_code(b: &[u8], k: usize, p: usize, codes: &mut [u8; 64]) -> u8
-    requires { Filling b.now k codes.old }
-    ensures { ChildKnown (read_form b.now) k p codes.old codes.new result }
-{
-    if k <= p {
-        return 0;
-    }
-    if codes[p] == 0 {
-        fill(b, p, codes);
-    }
-    codes[p]
-}
-
 // Puts the code of node k into the table, whose codes are right. A child has a lower number, and is worked out first unless
-// its code is known: once however often it is used.
-#[cycle(fill)]
+// its code is known: once however often it is used. The function calls itself, a form that is asked for by name.
 pub fn fill(b: &[u8], k: usize, codes: &mut [u8; 64])
     requires { Filling b.now k codes.old }
     ensures { Done (read_form b.now) k codes.old codes.new }
@@ -245,10 +229,23 @@ pub fn fill(b: &[u8], k: usize, codes: &mut [u8; 64])
         codes[k] = leaf_code(b, x);
         return;
     }
-    let c = child_code(b, k, x.p, codes);
-    let d = match x.kind {
-        Kind::Choice => child_code(b, k, x.q, codes),
-        _ => 0,
-    };
+    let p = x.p;
+    let mut c = 0;
+    if p < k {
+        if codes[p] == 0 {
+            fill(b, p, codes);
+        }
+        c = codes[p];
+    }
+    let mut d = 0;
+    if x.kind == Kind::Choice {
+        let q = x.q;
+        if q < k {
+            if codes[q] == 0 {
+                fill(b, q, codes);
+            }
+            d = codes[q];
+        }
+    }
     codes[k] = inner_code(b, x, c, d);
 }
