@@ -17,6 +17,13 @@ mod output;
 // No form and sheet of more than 39,212 bytes together are accepted, so the first 39,213 bytes of an input decide its answer.
 const INPUT_BYTES: usize = 39213;
 
+// What is read of an input, empty. The number stands in the contract too, since no contract can speak of what `main` reads.
+fn input_buffer() -> [u8; INPUT_BYTES]
+    ensures { 39213 ≡ length result }
+{
+    [0; INPUT_BYTES]
+}
+
 // Room for a first line of 69 bytes and 8,240 words of 11.
 const OUTPUT_BYTES: usize = 90709;
 
@@ -58,7 +65,7 @@ fn read_full(input: &mut impl Read, buffer: &mut [u8]) -> Result<usize>
 }
 
 fn main(rt: HostRuntime) -> Result<()> {
-    let mut input = [0; INPUT_BYTES];
+    let mut input = input_buffer();
     let n = read_full(&mut rt.stdin(), &mut input)?;
     let mut out = [0; OUTPUT_BYTES];
     let end = answer(&input[..n], &mut out);
