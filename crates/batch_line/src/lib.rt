@@ -57,7 +57,7 @@ pub fn run_sheet(
                 form, codes, flags, arguments, sheet, items, answers, list, &mut marks,
             )
         }
-        Err(fault) => run::refused_input(RefusedAt::from(fault), items, answers, list),
+        Err(fault) => run::refuse_input(RefusedAt::from(fault), items, answers, list),
     }
 }
 
@@ -71,5 +71,5 @@ pub fn refuse_sheet(
     requires { place_told fault.place < 2 ^ 32 }
     ensures { (form sheet : List ℕ) → told fault ≡ check_code (check_form form) → SheetReported form sheet items.new answers.new list.new result }
 {
-    run::refused_input(fault, items, answers, list)
+    run::refuse_input(fault, items, answers, list)
 }

@@ -136,11 +136,11 @@ pub fn run_input(
 {
     if let Err(e) = command_check::check(table) {
         let entry = e.told().entry;
-        let none = run::refused_input(e.fault, items, answers, list);
+        let none = run::refuse_input(e.fault, items, answers, list);
         return told(0, entry, none);
     }
     if let Err(e) = run::line_fault(sheet, items.len(), answers.len(), list.len()) {
-        let none = run::refused_input(RefusedAt::from(e), items, answers, list);
+        let none = run::refuse_input(RefusedAt::from(e), items, answers, list);
         return told(0, 0, none);
     }
     run_checked(table, sheet, items, answers, list, marks)

@@ -27,13 +27,13 @@ const FEW_WORDS: usize = 32;
 
 // Refused because of the input: all three slices all 0, an empty state.
 pub fn refused_input(
-    fault: RefusedAt,
+    number: u32,
+    place: u32,
     items: &mut [u32],
     answers: &mut [u32],
     list: &mut [u32],
 ) -> Reached
-    requires { place_told fault.place < 2 ^ 32 }
-    ensures { run_answer (ok (refused_input (length items.old) (length answers.old) (length list.old) (told fault).number (place_of (told fault).place))) ≡ ended (answer_of result (replicate 256 0)) items.new answers.new list.new }
+    ensures { run_answer (ok (refused_input (length items.old) (length answers.old) (length list.old) number (place_of place))) ≡ ended (answer_of result (replicate 256 0)) items.new answers.new list.new }
 {
     wire::fill(items, 0, items.len(), 0);
     wire::fill(answers, 0, answers.len(), 0);
@@ -45,8 +45,21 @@ pub fn refused_input(
         start: 0,
         end: 0,
     };
+    run_fields::refused(number, place, 0, 0, none)
+}
+
+// The same of a refusal by name.
+pub fn refuse_input(
+    fault: RefusedAt,
+    items: &mut [u32],
+    answers: &mut [u32],
+    list: &mut [u32],
+) -> Reached
+    requires { place_told fault.place < 2 ^ 32 }
+    ensures { run_answer (ok (refused_input (length items.old) (length answers.old) (length list.old) (told fault).number (place_of (told fault).place))) ≡ ended (answer_of result (replicate 256 0)) items.new answers.new list.new }
+{
     let answer = fault.told();
-    run_fields::refused(answer.number, answer.place, 0, 0, none)
+    refused_input(answer.number, answer.place, items, answers, list)
 }
 
 // The fields over the table of which nodes each item matches. Refused with 20, the list tells what the refused field lacks.
@@ -194,7 +207,7 @@ pub fn run_input(
 {
     match input_fault(form, sheet, items.len(), answers.len(), list.len()) {
         Ok(()) => run_checked(form, sheet, items, answers, list, marks),
-        Err(fault) => refused_input(fault, items, answers, list),
+        Err(fault) => refuse_input(fault, items, answers, list),
     }
 }
 

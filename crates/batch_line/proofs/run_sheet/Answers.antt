@@ -4,12 +4,12 @@ use mathlib.Core.Path.{refl}
 use native.Mathlib.Omega.{arith}
 use Rattle.batch_line.proofs.run_sheet.Goals as goal
 
-pub refused_input-requires : goal.refused_input-requires
-refused_input-requires c = rw c.from.ensures (omega arith)
+pub refuse_input-requires : goal.refuse_input-requires
+refuse_input-requires c = rw c.from.ensures (omega arith)
 
 pub returns-in-Err : goal.returns-in-Err
 returns-in-Err c =
-    let run = line_refused _ _ _ _ c.requires _ _ _ _ c.in-Err.fault c.in-Err.ensures _ c.from.ensures _ c.refused_input.ensures in
+    let run = line_refused _ _ _ _ c.requires _ _ _ _ c.in-Err.fault c.in-Err.ensures _ c.from.ensures _ c.refuse_input.ensures in
     search reported
 
 pub run_checked-requires : goal.run_checked-requires

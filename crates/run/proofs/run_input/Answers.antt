@@ -6,10 +6,10 @@ use Rattle.run.proofs.run_input.Goals as goal
 pub run_checked-requires : goal.run_checked-requires
 run_checked-requires c = (c.in-Ok.ensures.good refl _ _ _ refl refl refl, c.requires)
 
-pub refused_input-requires : goal.refused_input-requires
-refused_input-requires c = c.in-Err.ensures.small
+pub refuse_input-requires : goal.refuse_input-requires
+refuse_input-requires c = c.in-Err.ensures.small
 
 pub returns-in-Err : goal.returns-in-Err
 returns-in-Err c =
     input_refused _ _ _ _ _ _ c.in-Err.ensures (numbered c.in-Err.fault.refusal) _
-    (unmarked_answer _ c.refused_input.result _ _ _ _ c.requires c.refused_input.ensures)
+    (unmarked_answer _ c.refuse_input.result _ _ _ _ c.requires c.refuse_input.ensures)
