@@ -1,8 +1,8 @@
 -- A number that was read, or none.
 use Rattle.std.specs.Prelude.{◌≡◌, refl, Bool, true, false, ◌&&◌, List, [], ◌∷◌, ℕ, ◌+◌, ◌-◌, ◌*◌, ◌≤◌, ◌<◌, leb, ltb, length, get_or, take, drop}
-use Rattle.std.proofs.Common.{ap, le_refl, le_trans, add-one, arith, drop_of_length-le, take_all, drop-cons}
+use Rattle.std.proofs.Common.{sym, ap, ◌∙◌, le_refl, le_trans, add-one, arith, drop_of_length-le, take_all, drop-cons}
 use Rattle.std.proofs.Math.Option.{Option, some, none}
-use borrow.Author.Tests.{eq-eqb, ne_eqb, le-leb, lt-leb}
+use borrow.Author.Tests.{eq-eqb, ne_eqb, le-leb, lt-leb, ltb-true}
 use Rattle.std.specs.Prelude.{if◌then◌else◌}
 use Rattle.rules.specs.Base.{null, all}
 use Rattle.rules.specs.Eval.{is_digit, digits, unsigned, number_of}
@@ -46,6 +46,19 @@ module _ (n : ℕ) (s : List ℕ) (i : ℕ) (h : i < length s) where
   unfolding read_on all is_digit
   digit_bad d = rw (cons, d)
 
+-- the same of a byte by its number
+module _ (n : ℕ) (s : List ℕ) (i b : ℕ) (h : i < length s) (e : b ≡ get_or s i 0) where
+  cons_byte : drop i s ≡ b ∷ drop (i + 1) s
+  cons_byte = rw (add-one, e, drop-cons s i 0)
+
+  pub digit_low : b < 48 → read_on n (drop i s) ≡ none
+  unfolding read_on all is_digit
+  digit_low l = rw (cons_byte, lt-leb 48 b l)
+
+  pub digit_high : 48 ≤ b → ltb 57 b ≡ true → read_on n (drop i s) ≡ none
+  unfolding read_on all is_digit
+  digit_high l g = rw (cons_byte, le-leb 48 b l, lt-leb b 57 (ltb-true 57 b g))
+
 pub digits_end : (n : ℕ) (s : List ℕ) (i : ℕ) → length s ≤ i → n ≤ 4294967295 → read_on n (drop i s) ≡ some n
 unfolding read_on all digits
 digits_end n s i h l = rw (drop_of_length-le s h, le-leb n 4294967295 l)
@@ -61,10 +74,19 @@ unfolding unsigned null read_on
 unsigned_some [] h = absurd (omega arith)
 unsigned_some (b ∷ s) h = refl
 
-pub number_empty : (s : List ℕ) → length s < 1 → unsigned s ≡ number_of s
+-- what is not read on from a place is not read at all
+pub unsigned_bad : (n : ℕ) (s : List ℕ) (i : ℕ) → i < length s → read_on 0 s ≡ read_on n (drop i s) → read_on n (drop i s) ≡ none → none ≡ unsigned s
+unsigned_bad n s i h e z = sym (sym (unsigned_some s (omega arith)) ∙ e ∙ z)
+
+pub number_empty : (s : List ℕ) → length s ≡ 0 → none ≡ number_of s
+unfolding number_of
+number_empty [] e = refl
+number_empty (b ∷ s) e = absurd (omega arith)
+
+pub number_short : (s : List ℕ) → length s < 1 → unsigned s ≡ number_of s
 unfolding number_of unsigned null
-number_empty [] h = refl
-number_empty (b ∷ s) h = absurd (omega arith)
+number_short [] h = refl
+number_short (b ∷ s) h = absurd (omega arith)
 
 pub number_plus : (s : List ℕ) → get_or s 0 0 ≡ 43 → unsigned (take (length s - 1) (drop 1 s)) ≡ number_of s
 unfolding number_of

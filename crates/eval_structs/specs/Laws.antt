@@ -1,5 +1,5 @@
 -- The rules' functions go by the decisions. First what a caller cites, then what the code's tests give.
-use Rattle.std.specs.Prelude.{◌≡◌, Bool, ◌&&◌, ℕ, eqb}
+use Rattle.std.specs.Prelude.{◌≡◌, Bool, ◌&&◌, ℕ, eqb, Some, None}
 use Rattle.std.proofs.Math.Path.{refl, ap}
 use Rattle.std.proofs.Common.{sym, ◌∙◌, ap₂, arith}
 use Rattle.std.proofs.Math.Bool.{true, false}
@@ -19,8 +19,15 @@ use Rattle.eval_structs.specs.declared.Counting.TheVariants.{Counted, Uncounted,
 use Rattle.eval_structs.specs.declared.Fallback.TheVariants.{Own, Refusal as Passed}
 use Rattle.eval_structs.specs.declared.Pick.{Pick}
 use Rattle.eval_structs.specs.declared.Pick.TheVariants.{First, Second, Winner, Neither}
-use Rattle.eval_structs.specs.Decisions.{with_remaining, option_way, some_of, option_by, some_by, fallback_way, fallback_by, EndedBy, forgotten, pick_by, chosen_by}
+use Rattle.eval_structs.specs.Decisions.{with_remaining, counted_of, option_way, some_of, option_by, some_by, fallback_way, fallback_by, EndedBy, forgotten, pick_by, chosen_by}
 use Rattle.eval_structs.specs.Decisions.{forgotten_ran}
+
+-- ---- what was counted last
+pub counted_none : counted_of None ≡ none
+counted_none = refl
+
+pub counted_some : (n : ℕ) → counted_of (Some n) ≡ some n
+counted_some n = refl
 
 -- ---- only `remaining` counts
 pub idle_remaining : (stops : Bool) (s t : State) → idle stops s t ≡ idle stops (with_remaining s.remaining) (with_remaining t.remaining)
