@@ -23,7 +23,11 @@ fn words_at(items: &[u32], i: usize) -> &[u32]
 pub fn all_zero(words: &[u32]) -> bool
     ensures { result ≡ zeros words.now }
 {
-    words.iter().all(|w| *w == 0)
+    let mut zero = true;
+    for word in words {
+        zero &= *word == 0;
+    }
+    zero
 }
 
 // Whether the words behind the last whole record are all 0.

@@ -4,7 +4,7 @@ use mathlib.Core.List.{List, [], ◌∷◌, flatten}
 use mathlib.Core.Logic.{inl}
 use mathlib.Core.Option.{some, none, some-injective}
 use mathlib.Core.Path.{◌≡◌, refl, sym, ap, subst, ◌∙◌}
-use Prim.Native.Nat.{ℕ, zero, suc, ◌+◌, ◌-◌, ◌*◌, ◌≤◌, ◌<◌}
+use Prim.Native.Nat.{ℕ, zero, suc, ◌+◌, ◌-◌, ◌*◌, ◌/◌, ◌≤◌, ◌<◌}
 use native.Mathlib.Omega.{arith}
 use lib.Dec.{eqb, lit<}
 use lib.ListN.{length, get_or, drop, length-drop}
@@ -72,12 +72,12 @@ module _ (s words : List ℕ) (from count : ℕ) where
     pub behind : from ≤ i
     pub none : (l : Letters) (x : Split) → LineIs s words count l x → (j : ℕ) → from ≤ j → j < i → is_misread (arguments s) x.groups j ≡ false
 
-  pub clean_first : Clean from
+  clean_first : Clean from
   clean_first = record { behind = omega arith; none = λ l x g j f h. absurd (omega arith) }
 
   module _ (i : ℕ) (c : Clean i) where
     module _ (h : i < count) (r : Bool) (t : LooksAt s words count (7 * i) r) where
-      pub clean_next : r ≡ false → Clean (i + 1)
+      clean_next : r ≡ false → Clean (i + 1)
       clean_next f = record {
         behind = omega (arith, c.behind);
         none = λ l x g j a b. go l x g j a b (eqb j i) refl;
@@ -88,7 +88,7 @@ module _ (s words : List ℕ) (from count : ℕ) where
           go l x g j a b true e = let z : j ≡ i = eqb-true j i e in ap (is_misread (arguments s) x.groups) z ∙ sym (t.same i refl l x g) ∙ f
           go l x g j a b false e = let d = eqb-false j i e in c.none l x g j a (omega arith)
 
-      pub found_here : r ≡ true → Finds s words from count i
+      found_here : r ≡ true → Finds s words from count i
       unfolding first_misread items_of
       found_here e = record {
         within = omega arith;
@@ -99,7 +99,7 @@ module _ (s words : List ℕ) (from count : ℕ) where
             (sym (t.same i refl l x g) ∙ e) (λ j a b. c.none l x g j a b));
       }
 
-    pub found_none : count ≤ i → Finds s words from count count
+    found_none : count ≤ i → Finds s words from count count
     unfolding first_misread items_of
     found_none h = record {
       within = omega arith;
@@ -109,8 +109,33 @@ module _ (s words : List ℕ) (from count : ℕ) where
           (none_fault (is_misread (arguments s) x.groups) (length (flatten x.groups) - from) from (λ j a b. c.none l x g j a (omega (arith, n))));
     }
 
-pub is_record : (count i : ℕ) → i < count → BeginsRecord count (7 * i)
-is_record count i h = record { place = i; here = refl; below = h }
+  -- the same, with the word at which the record of the place begins
+  pub record CleanTo (i at : ℕ) : Type 0 where
+    pub here : at ≡ 7 * i
+    pub clean : Clean i
+
+  pub clean_from : (at : ℕ) → at ≡ 7 * from → CleanTo from at
+  clean_from at e = record { here = e; clean = clean_first }
+
+  module _ (i at : ℕ) (c : CleanTo i at) where
+    pub is_record : i < count → BeginsRecord count at
+    is_record h = record { place = i; here = c.here; below = h }
+
+    module _ (h : i < count) (r : Bool) (t : LooksAt s words count at r) where
+      here : LooksAt s words count (7 * i) r
+      here = subst (λ (k : ℕ). LooksAt s words count k r) c.here t
+
+      pub clean_on : r ≡ false → CleanTo (i + 1) (at + 7)
+      clean_on e = record { here = omega (arith, c.here); clean = clean_next i c.clean h r here e }
+
+      pub found_at : r ≡ true → Finds s words from count i
+      found_at e = found_here i c.clean h r here e
+
+    pub found_end : count ≤ i → Finds s words from count count
+    found_end h = found_none i c.clean h
+
+    pub ends_fit : HasLine s words count → i < count → at + 7 < 18446744073709551616
+    ends_fit g h = omega (arith, g.line.few, c.here)
 
 -- ---- an item
 -- word k of record i
@@ -253,9 +278,9 @@ module _ (s words : List ℕ) (count at : ℕ) (begins : BeginsRecord count at) 
   pub looks_plain : r ≡ false → LooksAt s words count at r
   looks_plain n = told r (λ i w x t b. rw n (sym (and-false (not (behind_adjacent (items_of x) i)))))
 
-  pub looks_word_lem : r ≡ true → (j : ℕ) → at ≡ 7 * j → (z : Bool) → RestTold words j z → LooksAt s words count at (not z)
+  pub looks_word_lem : r ≡ true → (j : ℕ) → j ≡ at / 7 → (z : Bool) → RestTold words j z → LooksAt s words count at (not z)
   looks_word_lem n j q z k = told (not z) (λ i w x t b.
-      let same : j ≡ i = omega (arith, w, q) in
+      let same : j ≡ i = omega (arith, w) in
       let rest : RestTold words i z = subst (λ (j : ℕ). RestTold words j z) same k in
       rw n (ap not (rest.same (sheet_area s) (items_of x) t b) ∙ sym (and_true_is (not (behind_adjacent (items_of x) i)))))
 
@@ -267,6 +292,12 @@ line_start s words count n g e = omega (arith, start_most 2 n (inl refl), (good_
 
 pub start_is : (s : List ℕ) (n a : ℕ) → n ≡ argument_count s → a ≡ area_start 2 n → a ≡ area_start 2 (argument_count s)
 start_is s n a e d = d ∙ ap (area_start 2) e
+
+pub record_room : (s words : List ℕ) (count at : ℕ) → HasLine s words count → BeginsRecord count at → at + 7 ≤ length words
+record_room s words count at g h = omega (arith, g.line.table.room, g.line.long, h.here, h.below)
+
+pub record_before : (s words : List ℕ) (count at j : ℕ) → HasLine s words count → BeginsRecord count at → j ≡ at / 7 → 7 * j ≤ length words
+record_before s words count at j g h e = omega (arith, g.line.table.room, g.line.long, h.here, h.below)
 
 -- the place that a search tells is one
 module _ (p : ℕ → Bool) where

@@ -5,7 +5,7 @@ use mathlib.Core.List.{List, ◌∷◌, map}
 use Prim.Native.Nat.{ℕ, suc, ◌+◌, ◌-◌, ◌≤◌, ◌<◌}
 use native.Mathlib.Numerals.{add-one}
 use native.Mathlib.Omega.{arith}
-use lib.Dec.{leb, eqb}
+use lib.Dec.{leb}
 use lib.ListN.{length, get_or, take, drop, length-drop, drop_of_length-le}
 use lib.Seq.{drop-cons, take_all}
 use borrow.Author.Tests.{le-leb, lt-leb, eq-eqb, ne_eqb, lt-ltb, le-ltb}
@@ -20,16 +20,16 @@ use Rattle.rules.specs.declared.Refusal.{Refusal}
 use Rattle.rules.proofs.ReportedLaws.{numbered}
 use Rattle.std.specs.Prelude.{Result, Ok, Err}
 use Rattle.std.specs.Result.{is_err}
-use Rattle.std.specs.List.{list_any, list_all}
-use Rattle.short_check.proofs.Letters.{any_is, all_there}
+use Rattle.std.specs.List.{list_all}
+use Rattle.short_check.proofs.Letters.{all_in}
 use Rattle.short_check.specs.Tests.{input_fault}
 
 -- ---- the alphabet
 
 module _ (al : List ℕ) (i : ℕ) (same : distinct al ≡ distinct (drop i al)) (h : i < length al) (rest : List ℕ) (part : rest ≡ drop (i + 1) al)
-    (t : Bool) (test : t ≡ list_any (λ y. eqb y (get_or al i 0)) rest) where
+    (t : Bool) (test : t ≡ contains rest (get_or al i 0)) where
   twice : t ≡ contains (drop (suc i) al) (get_or al i 0)
-  twice = test ∙ rw (part, add-one i) (any_is (get_or al i 0) (drop (suc i) al))
+  twice = test ∙ rw (part, add-one i)
 
   pub byte_twice : t ≡ true → false ≡ distinct al
   unfolding distinct
@@ -66,9 +66,9 @@ module _ (al os : List ℕ) where
   unfolding argument_legal
   argument_long h = rw (lt-leb (length os) 4 h)
 
-  pub argument_letters : (r : Bool) → length os ≤ 4 → r ≡ list_all (λ x. list_any (λ y. eqb y x) al) os → r ≡ argument_legal al os
+  pub argument_letters : (r : Bool) → length os ≤ 4 → r ≡ list_all (contains al) os → r ≡ argument_legal al os
   unfolding argument_legal
-  argument_letters r h e = e ∙ rw (le-leb (length os) 4 h) (all_there al os)
+  argument_letters r h e = e ∙ rw (le-leb (length os) 4 h) (all_in al os)
 
 -- ---- the sheet
 

@@ -2,10 +2,12 @@
 use mathlib.Core.Path.{◌≡◌, refl, sym, ◌∙◌}
 use mathlib.Core.Bool.{Bool, true, false, not, cond}
 use mathlib.Core.List.{List, [], ◌∷◌}
-use Prim.Native.Nat.{ℕ, suc, ◌+◌, ◌≤◌}
+use Prim.Native.Nat.{ℕ, suc, ◌+◌, ◌≤◌, ◌<◌}
+use native.Mathlib.Numerals.{add-one}
 use native.Mathlib.Omega.{arith}
 use lib.Dec.{eqb, ltb}
-use lib.ListN.{length}
+use lib.ListN.{length, get_or, drop, drop_of_length-le}
+use lib.Seq.{drop-cons}
 use borrow.Author.Tests.{eq-eqb, ne_eqb, eqb-true, eqb-false, ltb-false}
 use Rattle.std.specs.Prelude.{if◌then◌else◌, Option, position}
 use Rattle.std.specs.List.{position_or_len, list_any, list_all}
@@ -58,3 +60,22 @@ pub all_there : (al os : List ℕ) → list_all (λ x. list_any (λ y. eqb y x) 
 unfolding all
 all_there al [] = refl
 all_there al (x ∷ os) = rw (any_is x al, all_there al os)
+
+pub all_in : (al os : List ℕ) → list_all (contains al) os ≡ all (contains al) os
+unfolding all
+all_in al [] = refl
+all_in al (x ∷ os) = rw (all_in al os)
+
+-- a byte that is sought from the front
+module _ (al : List ℕ) (x i : ℕ) (e : contains al x ≡ contains (drop i al) x) where
+  pub seek_here : i < length al → get_or al i 0 ≡ x → true ≡ contains al x
+  unfolding contains
+  seek_here h f = sym (e ∙ rw (drop-cons al i 0 h, eq-eqb (get_or al i 0) x f))
+
+  pub seek_next : i < length al → (get_or al i 0 ≡ x → ⊥) → contains al x ≡ contains (drop (i + 1) al) x
+  unfolding contains
+  seek_next h f = e ∙ rw (add-one i, drop-cons al i 0 h, ne_eqb (get_or al i 0) x f)
+
+  pub seek_end : length al ≤ i → false ≡ contains al x
+  unfolding contains
+  seek_end h = sym (e ∙ rw (drop_of_length-le al {i = i} h))

@@ -387,6 +387,42 @@ zeros_is [] = refl
 zeros_is (zero ∷ l) = zeros_is l
 zeros_is (suc x ∷ l) = rw (ne_eqb (suc x) 0 (omega arith), ne_eqb 0 (suc x) (omega arith))
 
+-- ---- the same by a loop: what is still to be tested gives what the whole gives
+module _ (p : ℕ → Bool) (l : List ℕ) (i : ℕ) where
+  pub testing_fails : i < length l → all p l ≡ all p (drop i l) → p (get_or l i 0) ≡ false → false ≡ all p l
+  unfolding all
+  testing_fails h e f = sym (e ∙ rw (drop-cons l i 0 h, f))
+
+  pub testing_next : i < length l → all p l ≡ all p (drop i l) → p (get_or l i 0) ≡ true → all p l ≡ all p (drop (i + 1) l)
+  unfolding all
+  testing_next h e f = e ∙ rw (add-one i, drop-cons l i 0 h, f)
+
+  pub testing_last : length l ≤ i → all p l ≡ all p (drop i l) → true ≡ all p l
+  unfolding all
+  testing_last h e = sym (e ∙ rw (drop_of_length-le l h))
+
+pub zero_test : (x : ℕ) → eqb x 0 ≡ eqb 0 x
+zero_test zero = refl
+zero_test (suc x) = rw (ne_eqb (suc x) 0 (omega arith), ne_eqb 0 (suc x) (omega arith))
+
+-- and with no way out of the loop
+module _ (p : ℕ → Bool) (l : List ℕ) (i : ℕ) (z : Bool) (e : all p l ≡ (z && all p (drop i l))) where
+  pub gathering_next : i < length l → (b : Bool) → b ≡ p (get_or l i 0) → all p l ≡ ((z && b) && all p (drop (i + 1) l))
+  unfolding all
+  gathering_next h b f = e ∙ rw (add-one i, drop-cons l i 0 h, f) (go z)
+    where
+      go : (z : Bool) → (z && (p (get_or l i 0) && all p (drop (suc i) l))) ≡ ((z && p (get_or l i 0)) && all p (drop (suc i) l))
+      go true = refl
+      go false = refl
+
+  pub gathering_last : length l ≤ i → z ≡ all p l
+  unfolding all
+  gathering_last h = sym (e ∙ rw (drop_of_length-le l h) (go z))
+    where
+      go : (z : Bool) → (z && true) ≡ z
+      go true = refl
+      go false = refl
+
 -- ---- one mark of `conflicts`, by the answers of `is_present` and `is_parsed`
 
 module _ (w m l : ℕ) (x : Bool) (e : x ≡ present m) where

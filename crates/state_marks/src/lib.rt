@@ -231,17 +231,27 @@ fn mark_good(mark: u16, count: usize, fields: usize) -> bool
     mark == 0 || used_below(mark, fields) || 2 <= mark && (mark as usize) - 2 < count
 }
 
-// Whether these marks may stand in a state of so many items.
+// Whether these marks may stand in a state of so many items. A chain's closure would read `count` and `fields` anew for each mark.
 fn marks_good(marks: &[u16], count: usize, fields: usize) -> bool
     ensures { result ≡ all (mark_good (used_below fields) count) marks.now }
 {
-    marks.iter().all(|m| mark_good(*m, count, fields))
+    for mark in marks {
+        if !mark_good(*mark, count, fields) {
+            return false;
+        }
+    }
+    true
 }
 
+// Every mark is looked at: with no way out of the loop the compiler takes many at a time.
 fn all_zero(marks: &[u16]) -> bool
     ensures { result ≡ zeros marks.now }
 {
-    marks.iter().all(|m| *m == 0)
+    let mut zero = true;
+    for mark in marks {
+        zero &= *mark == 0;
+    }
+    zero
 }
 
 // Refusal 29: whether the state is one over `n` items, used by fields below `fields`.

@@ -1,14 +1,12 @@
--- The library's test of all. Assumes nothing.
-use mathlib.Core.Path.{◌∙◌}
-use Rattle.std.proofs.Common.{rules, tests}
-use Rattle.std.proofs.lemmas.Iterator.{YieldsList-from_slice}
-use Rattle.std.proofs.lemmas.Iterator.Search.{all_from_yields_List}
-use Rattle.rules.specs.State.{used_below, mark_good}
-use Rattle.state_marks.proofs.Marks.{all_is}
+use mathlib.Core.Path.{sym, ◌∙◌}
+use Rattle.state_marks.proofs.Marks.{testing_fails, testing_next, testing_last}
 use Rattle.state_marks.proofs.marks_good.Goals as goal
 
+pub returns-then-not-mark_good : goal.returns-then-not-mark_good
+returns-then-not-mark_good c = testing_fails _ _ _ c.loop-mark-test.true c.loop-mark.invariant (sym c.mark_good.ensures ∙ c.if-not-mark_good.true)
+
+pub loop-mark-preserved : goal.loop-mark-preserved
+loop-mark-preserved c = testing_next _ _ _ c.loop-mark-test.true c.loop-mark.invariant (sym c.mark_good.ensures ∙ c.if-not-mark_good.false)
+
 pub returns : goal.returns
-returns c =
-    all_from_yields_List (mark_good (used_below c.args.fields) c.args.count) _ _ _ c.all.ensures.ran (YieldsList-from_slice c.args.marks.now cc)
-    (λ x b q k. search (rules, tests))
-    ∙ all_is _ _
+returns c = testing_last _ _ _ c.loop-mark-test.false c.loop-mark.invariant
