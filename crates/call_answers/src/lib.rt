@@ -117,10 +117,10 @@ pub fn unchanged_at(e: RefusedAt, s: State) -> StateAnswer
     requires { place_told e.place < 2 ^ 32 }
     ensures { result ≡ state_with (number_of e.refusal) (place_told e.place) (coded 0 0 0) s }
 {
-    let r = e.told();
+    let told = e.told();
     StateAnswer {
-        number: r.number,
-        place: r.place,
+        number: told.number,
+        place: told.place,
         found: 0,
         first: 0,
         second: 0,

@@ -108,7 +108,7 @@ pub fn matches(
 }
 
 // The first present place from `from` on, below `end`, whose item has one of the names; `end` if there is none: that place is the end of
-// the scope. This loop, `find_operand`'s and take_table's stay three: with the test as a closure, each caller would state its contract.
+// the scope.
 pub fn find_named(
     form: &[u8],
     codes: &[u32],
