@@ -26,11 +26,23 @@ pub fn is_rest(items: &[u32], i: usize) -> bool
     own
 }
 
+// One letter after the other, as splitting does: among the few letters of a form the library's `contains` takes longer.
+fn knows(s: &[u32], letter: u32) -> bool
+    ensures { result ≡ contains s.now letter }
+{
+    for known in s {
+        if *known == letter {
+            return true;
+        }
+    }
+    false
+}
+
 // Whether a letter is a flag's or an argument's.
 fn is_known(letters: &Letters, letter: u32) -> bool
     ensures { result ≡ (contains letters.now.flags.now letter || contains letters.now.arguments.now letter) }
 {
-    letters.flags.contains(&letter) || letters.arguments.contains(&letter)
+    knows(letters.flags, letter) || knows(letters.arguments, letter)
 }
 
 // The first letter of a name that is not. A loop: the step is the size of a character, which no range counts.
