@@ -176,19 +176,20 @@ pub fn letter_at(name: &[u8], at: usize) -> Option<Char>
 }
 
 // Each letter of the name is looked up among those of flags and of arguments. A loop: the step is the size of a character, which no
-// range counts, and it is left with its outcome.
+// range counts, and it is left with its outcome. Both lists are taken from the struct once: read anew for each letter, they take longer.
 fn look_up(name: &[u8], letters: &Letters) -> Outcome
     requires { well_formed name.now ≡ true }
     ensures { LooksUp (meaning letters.now) name.now result }
 {
+    let Letters { flags, arguments } = *letters;
     let mut at = 0;
     let mut before = 0;
     let outcome = loop {
         let Some(letter) = letter_at(name, at) else {
             break Outcome::AllFlags { before };
         };
-        let flag = scan(letters.flags, letter.value);
-        let argument = scan(letters.arguments, letter.value);
+        let flag = scan(flags, letter.value);
+        let argument = scan(arguments, letter.value);
         if flag {
             if argument {
                 break Outcome::Ambiguous { before };
