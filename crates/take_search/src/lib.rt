@@ -107,6 +107,18 @@ pub fn matches(
     }
 }
 
+// The same for a search. The kind is looked at first: most items are words, and each call of `matches` passes all that it takes.
+fn is_named(form: &[u8], codes: &[u32], sheet: &[u8], items: &[u32], i: usize, names: Names) -> bool
+    requires { HasNames form.now codes.now names.first names.count × HasItem sheet.now items.now i }
+    ensures { (x : RulesItem) → item_from (sheet_area sheet.now) (record_at items.now i) ≡ some x → result ≡ matches_arg (named_at form.now names.first names.count) names.adjacent x }
+{
+    let item = split_arg::read_item(items, i);
+    match item {
+        Item::Short(..) | Item::Long(..) => matches(form, codes, sheet, items, i, names),
+        Item::ArgWord(_) | Item::Word(_) | Item::PosWord(_) => false,
+    }
+}
+
 // The first present place from `from` on, below `end`, whose item has one of the names; `end` if there is none: that place is the end of
 // the scope.
 pub fn find_named(
@@ -126,7 +138,7 @@ pub fn find_named(
         marks,
         from,
         end,
-        |i| matches(form, codes, sheet, items, i, names),
+        |i| is_named(form, codes, sheet, items, i, names),
     )
 }
 
